@@ -1,0 +1,4 @@
+pub mod Integers
+pub mod Gcd
+pub mod Fractions
+pub mod FractionSums
