@@ -5,3 +5,5 @@ pub mod Fractions
 pub mod FractionSums
 pub mod FractionReads
 pub mod ResidueReads
+pub mod Fitting
+pub mod KindReads
