@@ -1,53 +1,13 @@
 -- Fractions: (u, (v, d)) stands for (u - v) / (d + 1). The normal ones are in lowest terms.
-use Rattle.std.specs.Prelude.{ℕ, zero, suc, ◌≡◌, ◌≢◌, ◌<◌, ◌≤◌, ◌%◌, ◌/◌, ◌+◌, ◌*◌, ◌-◌}
+use Rattle.std.specs.Prelude.{ℕ, zero, suc, ◌≡◌, ◌≢◌, ◌<◌, ◌≤◌, ◌/◌, ◌+◌, ◌*◌, ◌-◌}
 use Rattle.std.specs.Int.{IsGcd}
-use mathlib.Core.Path.{refl, sym, ap, ap₂, ◌∙◌, subst, subst₂, subst₃}
+use mathlib.Core.Path.{refl, sym, ap, ap₂, ◌∙◌, subst, subst₂}
 use mathlib.Core.HLevel.{×_discrete}
-use Prim.Native.Nat.{◌∣◌}
 use native.Mathlib.Omega.{arith}
 use native.Mathlib.Decide.{ℕ_discrete, dec_le, dec_lt}
-use native.Mathlib.Nat.{dvd-mul_left, dvd-mul_right, dvd_antisymm, dvd_of_mul-dvd-mul_right, mul-dvd-mul_right, div-add-mod, mod-lt, add_comm, zero-mod, mul-lt-mul_of_pos_right, add-mul-mod_self_left, mod-eq_of_lt, mul-one, div-mul_cancel, one-dvd, pos_of_dvd_of_pos, eq_of_mul-eq-mul_right, mul-pos}
-use Rattle.std.proofs.lemmas.Nat.Gcd.{IsGcd-from_zero, IsGcd-from_mod, same_from_IsGcd, IsGcd-swap}
+use native.Mathlib.Nat.{add_comm, div-mul_cancel, pos_of_dvd_of_pos, eq_of_mul-eq-mul_right, mul-pos}
 use Rattle.fpl_fields.specs.Normal.{Normal}
-
--- a common divisor that stays the greatest when both numbers are multiplied
-abbrev ScaledGcd : ℕ → ℕ → Type 0
-ScaledGcd a b = (g : ℕ) × ((c : ℕ) → IsGcd (a * c) (b * c) (g * c))
-
-scaled_gcd : (n a b : ℕ) → b < n → ScaledGcd a b
-scaled_gcd zero a b l = absurd (omega arith)
-scaled_gcd (suc n) a b l = go (ℕ_discrete b 0) (λ k m. scaled_gcd n b k m)
-  where
-    mod_mul : (c : ℕ) → 0 < b → (a % b) * c ≡ (a * c) % (b * c)
-    mod_mul c z = by_case c (ℕ_discrete c 0)
-      where
-        by_case : (c : ℕ) → Dec (c ≡ 0) → (a % b) * c ≡ (a * c) % (b * c)
-        by_case c (yes e) = subst (λ w. (a % b) * w ≡ (a * w) % (b * w)) (sym e) (omega arith ∙ sym (zero-mod (b * 0)) ∙ ap (λ w. w % (b * 0)) (omega arith))
-        by_case c (no d) =
-            let u : a % b < b = mod-lt a z in
-            let m : (a % b) * c < b * c = mul-lt-mul_of_pos_right u (omega arith) in
-            let f : b * (a / b) + a % b ≡ a = div-add-mod a b in
-            sym
-            (ap (λ w. w % (b * c)) (ap (λ w. w * c) (sym f) ∙ spread (a / b) (a % b) c) ∙ add-mul-mod_self_left ((a % b) * c) (b * c) (a / b) ∙ mod-eq_of_lt m)
-          where
-            spread : (q r c : ℕ) → (b * q + r) * c ≡ r * c + (b * c) * q
-            spread q r c = omega arith
-
-    go : Dec (b ≡ 0) → ((k : ℕ) → k < n → ScaledGcd b k) → ScaledGcd a b
-    go (yes e) h = (a, λ c. IsGcd-from_zero (a * c) (b * c) (ap (λ w. w * c) e ∙ omega arith))
-    go (no d) h =
-        let t = h (a % b) (let u : a % b < b = mod-lt a (omega arith) in omega arith) in
-        (t.0, λ c. IsGcd-from_mod (a * c) (b * c) (t.0 * c) (subst (λ w. IsGcd (b * c) w (t.0 * c)) (mod_mul c (omega arith)) (t.1 c)))
-
--- Gauss: what divides b * c and has no common divisor with b divides c
-pub gauss : (a b c : ℕ) → IsGcd a b 1 → a ∣ b * c → a ∣ c
-gauss a b c h k =
-    let t = scaled_gcd (suc b) a b (omega arith) in
-    let e : t.0 ≡ 1 = one t in
-    subst (λ w. a ∣ w) (ap (λ w. w * c) e ∙ omega arith) ((t.1 c).2 a (dvd-mul_right a c) k)
-  where
-    one : (t : ScaledGcd a b) → t.0 ≡ 1
-    one t = same_from_IsGcd a b t.0 1 (subst₃ IsGcd (mul-one a) (mul-one b) (mul-one t.0) (t.1 1)) h
+use Rattle.fpl_fields.proofs.Divisors.{some_gcd, quotients_apart, quotient_positive, lowest_equal}
 
 -- n'/e is n/d in lowest terms
 pub record Lowest (n d n' e : ℕ) : Type 0 where
@@ -64,47 +24,31 @@ lowest_of n d z = (
     d / g - 1,
     record {
       by = g;
-      positive = pos;
+      positive = some;
       above = sym (div-mul_cancel g is.0);
       below = sym (div-mul_cancel g is.1) ∙ ap (λ w. w * g) (sym back);
-      apart = subst (λ w. IsGcd (n / g) w 1) (sym back) ((one-dvd (n / g)), (one-dvd (d / g)), coprime);
+      apart = subst (λ w. IsGcd (n / g) w 1) (sym back) (quotients_apart n d g some is);
     },
   ),
 )
   where
-    t : ScaledGcd n d
-    t = scaled_gcd (suc d) n d (omega arith)
-
     g : ℕ
-    g = t.0
+    g = (some_gcd n d).0
 
     is : IsGcd n d g
-    is = subst₃ IsGcd (mul-one n) (mul-one d) (mul-one g) (t.1 1)
+    is = (some_gcd n d).1
 
-    pos : 0 < g
-    pos = pos_of_dvd_of_pos is.1 z
-
-    whole : 0 < d / g → d / g - 1 + 1 ≡ d / g
-    whole h = omega arith
+    some : 0 < g
+    some = pos_of_dvd_of_pos is.1 z
 
     back : d / g - 1 + 1 ≡ d / g
-    back = whole (from (d / g) (div-mul_cancel g is.1))
-      where
-        from : (q : ℕ) → q * g ≡ d → 0 < q
-        from zero e = absurd (omega arith)
-        from (suc q) e = omega arith
-
-    coprime : (c : ℕ) → c ∣ n / g → c ∣ d / g → c ∣ 1
-    coprime c h k =
-        dvd_of_mul-dvd-mul_right c pos
-        (subst (λ w. c * g ∣ w) (omega arith)
-        (is.2 (c * g) (subst (λ w. c * g ∣ w) (div-mul_cancel g is.0) (mul-dvd-mul_right c h g)) (subst (λ w. c * g ∣ w) (div-mul_cancel g is.1) (mul-dvd-mul_right c k g))))
+    back = omega (arith, quotient_positive d g z is.1)
 
 lowest_same : (n d n' e m f m' h : ℕ) → 0 < d → 0 < f → Lowest n d n' e → Lowest m f m' h → n * f ≡ m * d → (n' ≡ m') × (e ≡ h)
-lowest_same n d n' e m f m' h z z' a b eq = (eq_of_mul-eq-mul_right h posh n' m' (crossed ∙ ap (λ w. m' * w) same), same)
+lowest_same n d n' e m f m' h z z' a b eq = lowest_equal n' e m' h positive a.apart b.apart crossed
   where
-    posh : 0 < h
-    posh = from h b.below
+    positive : 0 < h
+    positive = from h b.below
       where
         from : (h : ℕ) → f ≡ h * b.by → 0 < h
         from zero p = absurd (omega arith)
@@ -120,12 +64,6 @@ lowest_same n d n' e m f m' h z z' a b eq = (eq_of_mul-eq-mul_right h posh n' m'
 
         turn' : (p g q k : ℕ) → p * g * (q * k) ≡ p * q * (k * g)
         turn' p g q k = omega arith
-
-    same : e ≡ h
-    same =
-        dvd_antisymm
-        (gauss e n' h (IsGcd-swap n' e 1 a.apart) (subst (λ w. e ∣ w) (sym crossed) (dvd-mul_left e m')))
-        (gauss h m' e (IsGcd-swap m' h 1 b.apart) (subst (λ w. h ∣ w) crossed (dvd-mul_left h n')))
 
 abbrev pub Ratio : Type 0
 Ratio = ℕ × (ℕ × ℕ)
@@ -200,6 +138,17 @@ pub lowest_same_of : (x y : Ratio) → Alike x y → lowest x ≡ lowest y
 unfolding lowest
 lowest_same_of x y h = lowest_in_same x y (dec_le x.1.0 x.0) (dec_le y.1.0 y.0) h
 
+-- fractions with one normal form are alike
+pub alike_of_lowest : (x y : Ratio) → lowest x ≡ lowest y → Alike x y
+alike_of_lowest x y e =
+    go (lowest x) (lowest_alike x) (subst (λ w. Alike w y) (sym e) (lowest_alike y))
+  where
+    go : (z : Ratio) → Alike z x → Alike z y → Alike x y
+    go z p q = eq_of_mul-eq-mul_right (z.1.1 + 1) (past_zero z.1.1) _ _ (through z.0 z.1.0 (z.1.1 + 1) x.0 x.1.0 (x.1.1 + 1) y.0 y.1.0 (y.1.1 + 1) p q)
+      where
+        through : (u v d u' v' d' a b e : ℕ) → u * d' + v' * d ≡ u' * d + v * d' → u * e + b * d ≡ a * d + v * e → (u' * e + b * d') * d ≡ (a * d' + v' * e) * d
+        through u v d u' v' d' a b e p q = omega (arith, ap (λ w. w * e) p, ap (λ w. w * d') q)
+
 abbrev pub ratio_plus : Ratio → Ratio → Ratio
 ratio_plus x y = (x.0 * (y.1.1 + 1) + y.0 * (x.1.1 + 1), (x.1.0 * (y.1.1 + 1) + y.1.0 * (x.1.1 + 1), x.1.1 * y.1.1 + x.1.1 + y.1.1))
 
@@ -213,10 +162,10 @@ ratio : {a a' b b' c c' : ℕ} → a ≡ a' → b ≡ b' → c ≡ c' → Path R
 ratio p q r i = (p i, (q i, r i))
 
 -- alike, with the denominators named
-alike_by : (x y : Ratio) (d e : ℕ) → x.1.1 + 1 ≡ d → y.1.1 + 1 ≡ e → x.0 * e + y.1.0 * d ≡ y.0 * d + x.1.0 * e → Alike x y
+pub alike_by : (x y : Ratio) (d e : ℕ) → x.1.1 + 1 ≡ d → y.1.1 + 1 ≡ e → x.0 * e + y.1.0 * d ≡ y.0 * d + x.1.0 * e → Alike x y
 alike_by x y d e p q h = subst₂ (λ d e. x.0 * e + y.1.0 * d ≡ y.0 * d + x.1.0 * e) (sym p) (sym q) h
 
-by_product : (d e : ℕ) → d * e + d + e + 1 ≡ (d + 1) * (e + 1)
+pub by_product : (d e : ℕ) → d * e + d + e + 1 ≡ (d + 1) * (e + 1)
 by_product d e = omega arith
 
 pub plus_alike : (x x' y : Ratio) → Alike x x' → Alike (ratio_plus x y) (ratio_plus x' y)

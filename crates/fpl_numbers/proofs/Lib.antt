@@ -1,0 +1,9 @@
+pub mod Integers
+pub mod Gcd
+pub mod Inverses
+pub mod Fractions
+pub mod FractionSums
+pub mod FractionReads
+pub mod ResidueReads
+pub mod Fitting
+pub mod KindReads
