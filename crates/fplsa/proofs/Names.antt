@@ -1,0 +1,67 @@
+-- No two views have one name, and no two numbers one text, so words spell at most one view and limit.
+use Rattle.std.proofs.Common.{◌≡◌, ℕ, ◌<◌, ◌≤◌, ◌^◌, refl, arith, decimal, List, [], ◌∷◌, inl, inr, Some, None, ap, sym, ◌∙◌, if◌then◌else◌, codes}
+use Rattle.std.specs.declared.option.Option.{Option}
+use Rattle.std.specs.Str.{bytes_eq}
+use Rattle.std.proofs.lemmas.Fmt.{decimal_injective}
+use Rattle.fplsa.specs.declared.words.View.{View}
+use Rattle.fplsa.specs.declared.words.View.TheVariants.{Table, Series, Gap, Log, Checkpoint, Centre, Lcs, Ideal, Cohomology, Equal, Check, Sample}
+use Rattle.fplsa.specs.declared.words.Command.{Command}
+use Rattle.fplsa.specs.Words.{view_name, most_limit, IsCommand}
+
+abbrev view_of : List ℕ → Option View
+view_of text =
+    if bytes_eq text (codes "table") then Some Table else
+    if bytes_eq text (codes "series") then Some Series else
+    if bytes_eq text (codes "gap") then Some Gap else
+    if bytes_eq text (codes "log") then Some Log else
+    if bytes_eq text (codes "checkpoint") then Some Checkpoint else
+    if bytes_eq text (codes "centre") then Some Centre else
+    if bytes_eq text (codes "lcs") then Some Lcs else
+    if bytes_eq text (codes "ideal") then Some Ideal else
+    if bytes_eq text (codes "cohomology") then Some Cohomology else
+    if bytes_eq text (codes "equal") then Some Equal else
+    if bytes_eq text (codes "check") then Some Check else
+    if bytes_eq text (codes "sample") then Some Sample else None
+
+view_of_name : (v : View) → view_of (view_name v) ≡ Some v
+view_of_name Table = refl
+view_of_name Series = refl
+view_of_name Gap = refl
+view_of_name Log = refl
+view_of_name Checkpoint = refl
+view_of_name Centre = refl
+view_of_name Lcs = refl
+view_of_name Ideal = refl
+view_of_name Cohomology = refl
+view_of_name Equal = refl
+view_of_name Check = refl
+view_of_name Sample = refl
+
+pub view_name_injective : (v w : View) → view_name v ≡ view_name w → v ≡ w
+view_name_injective v w e = let s : Some v ≡ Some w = sym (view_of_name v) ∙ ap view_of e ∙ view_of_name w in cc
+
+pub number_injective : (k n : ℕ) → decimal k ≡ decimal n → k < 2 ^ 64 → n < 2 ^ 32 → k ≡ n
+number_injective k n e a b = decimal_injective k n a (omega arith) e
+
+pub ruleset names = (view_name_injective, number_injective)
+
+most_is_small : (v : View) → most_limit v ≤ 1000
+most_is_small Sample = omega arith
+most_is_small _ = omega arith
+
+heads : (v w : View) (k n : ℕ) (xs ys : List (List ℕ)) → view_name v ∷ decimal k ∷ xs ≡ view_name w ∷ decimal n ∷ ys → k ≤ 1000 → n ≤ 1000 → (v ≡ w) × (k ≡ n)
+heads v w k n xs ys e a b =
+    let names_same : view_name v ≡ view_name w = cc in
+    let numbers_same : decimal k ≡ decimal n = cc in
+    (view_name_injective v w names_same, number_injective k n numbers_same (omega arith) (omega arith))
+
+starts : (words : List (List ℕ)) (c : Command) → IsCommand words c → (rest : List (List ℕ)) × (words ≡ view_name c.view ∷ decimal c.limit ∷ rest) × (c.limit ≤ 1000)
+starts words c is =
+    let small : c.limit ≤ 1000 = omega (arith, most_is_small c.view, is.most) in
+    elim is.spelled [ inl two ↦ ([], two.0, small) | inr three ↦ (decimal c.entries ∷ [], three.0, small) ]
+
+pub one_command : (words : List (List ℕ)) (c d : Command) → IsCommand words c → IsCommand words d → (c.view ≡ d.view) × (c.limit ≡ d.limit)
+one_command words c d isc isd =
+    let a = starts words c isc in
+    let b = starts words d isd in
+    heads c.view d.view c.limit d.limit a.0 b.0 (sym a.1 ∙ b.1) a.2 b.2
