@@ -70,6 +70,7 @@ fn most_limit(view: View) -> u32
 #[tactic(auto, using(crate::proofs::Names::names))]
 pub fn command(words: &Vec<String>) -> Option<Command>
     ensures some { IfSome result (IsCommand (map string_bytes words.now.items)) }
+    ensures one { IfSome result (λ c. (d : Command) → IsCommand (map string_bytes words.now.items) d → d ≡ c) }
     ensures none { IfNone result ((c : Command) → IsCommand (map string_bytes words.now.items) c → ⊥) }
 {
     match words.as_slice() {
