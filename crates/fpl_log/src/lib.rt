@@ -1,0 +1,6 @@
+//! Temporary.
+#![tactic(auto)]
+
+mod step;
+
+pub use step::Origin;
