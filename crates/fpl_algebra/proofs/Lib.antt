@@ -1,0 +1,6 @@
+pub mod Freely
+pub mod Homogeneous
+pub mod Derived
+pub mod Degrees
+pub mod Equations
+pub mod Within

@@ -1,0 +1,9 @@
+pub mod Tree
+pub mod Degrees
+pub mod Derives
+pub mod Table
+pub mod Symbols
+pub mod SourceRows
+pub mod Built
+pub mod Standard
+pub mod NextTable

@@ -1,0 +1,10 @@
+pub mod Numbers
+pub mod Vectors
+pub mod Linear
+pub mod Places
+pub mod Span
+pub mod Closed
+pub mod Closing
+pub mod Echelon
+pub mod Reduced
+pub mod Kernel

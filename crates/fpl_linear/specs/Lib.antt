@@ -1,0 +1,5 @@
+pub mod Vector
+pub mod Span
+pub mod Closed
+pub mod Echelon
+pub mod Kernel

@@ -1,0 +1,2 @@
+//! Linear algebra over any field: vectors, spans, closed lists of rows, echelons and kernels.
+#![tactic(auto)]

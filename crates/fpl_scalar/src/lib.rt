@@ -1,0 +1,9 @@
+//! Arithmetic of a field: the trait `Field`, and the residues modulo an accepted prime.
+#![tactic(auto)]
+
+mod field;
+mod residue;
+
+pub use field::Field;
+pub use fpl_numbers::{Fault, Kind, Num, Op, PRIMES, Unfit};
+pub use residue::Residue;

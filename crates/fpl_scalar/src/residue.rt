@@ -1,0 +1,98 @@
+ghost use Rattle.std.specs.Prelude.{◌≡◌, ◌≤◌, ◌<◌, ◌+◌, true, IsTrue, IsSome, IfSome, ◌↔◌};
+ghost use Rattle.fpl_numbers.specs.declared.number.Kind.TheVariants.{Prime};
+ghost use Rattle.fpl_numbers.specs.Numbers.{IsListed, residue, residue_of};
+ghost use Rattle.fpl_scalar.specs.Listed.{is_listed, listed_is};
+ghost use Rattle.std.proofs.Common.{ap};
+
+use crate::Field;
+use fpl_numbers::{Kind, Num, PRIMES, Unfit};
+
+/// The residues modulo an accepted prime. An element is a number from 0 to the prime less 1.
+#[derive(Clone, Copy, Debug)]
+pub struct Residue {
+    p: u32,
+    ghost listed: { is_listed p ≡ true },
+    ghost least: { 3 ≤ p },
+    ghost most: { p ≤ 65521 },
+}
+
+impl Residue {
+    /// The residues modulo `p`, where it is one of `PRIMES`.
+    pub fn of(p: u32) -> Option<Residue>
+        ensures listed { IsSome result ↔ IsListed p }
+        ensures kind { IfSome result (λ r. ⟦<Residue as Field>⟧.kind_of r ≡ Prime p) }
+    {
+        if PRIMES.contains(&p) {
+            Some(Residue { p })
+        } else {
+            None
+        }
+    }
+}
+
+impl Field for Residue {
+    type Elem = u32;
+
+    ghost kind_of = { λ r. Prime r.p };
+
+    ghost number = { residue };
+
+    ghost is_field = { λ r. listed_is r.p r.listed };
+
+    ghost same_number = { λ r a b is_a is_b e. ap residue_of e };
+
+    fn kind(&self) -> Kind {
+        Kind::Prime(self.p)
+    }
+
+    fn zero(&self) -> u32 {
+        0
+    }
+
+    fn one(&self) -> u32 {
+        1
+    }
+
+    fn is_zero(&self, a: u32) -> bool {
+        a == 0
+    }
+
+    fn same(&self, a: u32, b: u32) -> bool {
+        a == b
+    }
+
+    // 65520 * 65520 + 65520 is below 2^32
+    fn add(&self, a: u32, b: u32) -> Result<u32, Unfit> {
+        Ok((a + b) % self.p)
+    }
+
+    fn mul(&self, a: u32, b: u32) -> Result<u32, Unfit> {
+        Ok(a * b % self.p)
+    }
+
+    fn neg(&self, a: u32) -> u32 {
+        if a == 0 { 0 } else { self.p - a }
+    }
+
+    // Keeps a * multiple congruent to rest. No rest above 1 divides the prime, so it falls to 1.
+    fn inverse(&self, a: u32) -> u32 {
+        let mut rest = a;
+        let mut multiple = 1;
+        while rest > 1 {
+            multiple = multiple * (self.p - self.p / rest) % self.p;
+            rest = self.p % rest;
+        }
+        multiple
+    }
+
+    fn of(&self, n: &Num) -> u32 {
+        n.numerator as u32
+    }
+
+    fn num(&self, a: u32) -> Num {
+        Num {
+            numerator: i128::from(a),
+            denominator: 1,
+        }
+    }
+}

@@ -1,0 +1,4 @@
+pub mod Products
+pub mod Parts
+pub mod Sound
+pub mod Soundness
