@@ -1,0 +1,8 @@
+//! Rows of numbers over any field, and lists of rows.
+#![tactic(auto)]
+
+mod row;
+mod rows;
+
+pub use row::Row;
+pub use rows::Rows;
