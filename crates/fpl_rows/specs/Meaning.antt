@@ -44,7 +44,7 @@ abbrev pub AreRows : Kind → ℕ → List (List Num) → Type 0
 AreRows kind n rows = All (IsRowOf kind n) rows
 
 pub record IsClosedList (kind : Kind) (n : ℕ) (rows : List (List Num)) : Type 0 where
-  pub rows : AreRows kind n rows
+  pub are_rows : AreRows kind n rows
   pub closed : IsClosed (field_of kind) (length rows) (row_in kind rows) (pivot_in rows)
 
 abbrev pub InSpanOf : (kind : Kind) → List (List Num) → Vector (field_of kind) → Type 0

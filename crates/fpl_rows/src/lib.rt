@@ -1,6 +1,7 @@
 //! Rows of numbers over any field, and lists of rows.
 #![tactic(auto)]
 
+mod places;
 mod row;
 mod rows;
 

@@ -4,6 +4,7 @@ ghost use Rattle.fpl_numbers.specs.Results.{Gives};
 ghost use Rattle.fpl_scalar.specs.Vectors.{AreElements, axpy_of, scale_of};
 ghost use Rattle.fpl_rows.specs.Positions.{lead_of, next_of, added_at};
 
+use crate::places;
 use fpl_scalar::{Fault, Field};
 use std::alloc::{AllocError, Global};
 use std::marker::Model;
@@ -75,26 +76,18 @@ impl<F: Field> Row<F> {
     pub fn lead(&self) -> Option<u32>
         ensures { result ≡ lead_of self.now }
     {
-        let mut s = self.numbers.len();
-        while s > 0 {
-            if !self.field.is_zero(self.numbers[s - 1]) {
-                return Some(s as u32);
-            }
-            s -= 1;
+        match places::lead(&self.field, &self.numbers) {
+            Some(s) => Some(s as u32),
+            None => None,
         }
-        None
     }
 
     /// The least position above `after` whose number is not 0.
     pub fn next(&self, after: u32) -> Option<u32>
         ensures { result ≡ next_of self.now after }
     {
-        let start = after as usize;
-        if start >= self.numbers.len() {
-            return None;
-        }
-        match self.field.first(&self.numbers[start..]) {
-            Some(place) => Some((start + place) as u32 + 1),
+        match places::next(&self.field, &self.numbers, after as usize) {
+            Some(s) => Some(s as u32),
             None => None,
         }
     }
@@ -114,12 +107,8 @@ impl<F: Field> Row<F> {
         ensures elements { OnOk result (AreElements (F.kind_of field.now) self.new) }
         ensures length { length self.new ≡ length self.old }
     {
-        let place = s as usize - 1;
-        match field.add(self.numbers[place], c) {
-            Ok(sum) => {
-                self.numbers[place] = sum;
-                Ok(())
-            }
+        match places::add_at(field, &mut self.numbers, s as usize - 1, c) {
+            Ok(()) => Ok(()),
             Err(u) => Err(Fault::Unfit(u)),
         }
     }
@@ -135,8 +124,7 @@ impl<F: Field> Row<F> {
         ensures elements { OnOk result (AreElements (F.kind_of field.now) self.new) }
         ensures length { length self.new ≡ length self.old }
     {
-        let count = other.numbers.len();
-        match field.axpy(&mut self.numbers[..count], c, &other.numbers) {
+        match places::axpy(field, &mut self.numbers, c, &other.numbers) {
             Ok(()) => Ok(()),
             Err(u) => Err(Fault::Unfit(u)),
         }
@@ -150,7 +138,7 @@ impl<F: Field> Row<F> {
         ensures elements { OnOk result (AreElements (F.kind_of field.now) self.new) }
         ensures length { length self.new ≡ length self.old }
     {
-        match field.scale(&mut self.numbers, c) {
+        match places::scale(field, &mut self.numbers, c) {
             Ok(()) => Ok(()),
             Err(u) => Err(Fault::Unfit(u)),
         }
