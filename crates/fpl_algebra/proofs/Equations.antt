@@ -1,14 +1,12 @@
 -- The weight of an equation as written, against the relations that the proofs match on; and sound presentations are homogeneous.
-use Rattle.std.specs.Prelude.{ℕ, suc, ◌≡◌, ◌≢◌, ◌⊎◌, ◌<◌, ◌+◌, length, Bool, true, false, cond, nat_eq}
+use Rattle.std.specs.Prelude.{ℕ, ◌≡◌, ◌≢◌, ◌⊎◌, ◌+◌, Bool, true, false, cond, nat_eq}
 use mathlib.Core.Path.{sym, refl, ap, ap₂, ◌∙◌, subst}
 use mathlib.Core.Logic.{inl, inr}
 use native.Mathlib.Omega.{arith}
-use Rattle.fpl_fields.specs.Field.{Field}
 use Rattle.fpl_algebra.specs.Tree.{Tree, Trees, Presentation, left, right, IsOver}
 use Rattle.fpl_algebra.specs.Degrees.{IsVoid, AreVoid, Degree, any, exact, mixed, of_both, of_bracket, weight_of, weights_of, weight_of_both, IsSoundPresentation}
 use Rattle.fpl_algebra.specs.Degrees.IsVoid.{void_none, void_sum, void_multiple, void_left, void_right}
 use Rattle.fpl_algebra.specs.Degrees.AreVoid.{void_end, void_more}
-use Rattle.fpl_algebra.specs.Derives.{Expression}
 use Rattle.fpl_algebra.proofs.Homogeneous.{WeightIs, WeightsAre}
 use Rattle.fpl_algebra.proofs.Homogeneous.WeightIs.{weight_void, weight_gen, weight_sum, weight_multiple, weight_bracket}
 use Rattle.fpl_algebra.proofs.Homogeneous.WeightsAre.{weight_end, weight_more}

@@ -1,3 +1,4 @@
 pub mod Accepted
 pub mod Inverses
 pub mod AtPlaces
+pub mod Euclid

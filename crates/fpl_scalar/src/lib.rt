@@ -1,9 +1,12 @@
 //! Arithmetic of a field: the trait `Field`, and the residues modulo an accepted prime.
 #![tactic(auto)]
 
+mod divisor;
 mod field;
+mod fraction;
 mod residue;
 
 pub use field::Field;
+pub use fraction::Fraction;
 pub use fpl_numbers::{Fault, Kind, Num, Op, PRIMES, Unfit};
 pub use residue::Residue;

@@ -1,0 +1,4 @@
+pub mod Plain
+pub mod Value
+pub mod Push
+pub mod Standard

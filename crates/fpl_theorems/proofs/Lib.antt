@@ -1,0 +1,3 @@
+pub mod LinearLaws
+pub mod ValueLaws
+pub mod StandardLaws
