@@ -1,7 +1,6 @@
 -- The vectors of the field of a kind that rows of numbers stand for, and closed lists of rows.
 --
---   vector_of K value xs     the vector over K of a list of numbers that value reads; 0 past the end
---   vector_in kind xs        the vector over the field of the kind
+--   vector_in kind xs        the vector over the field of the kind; 0 past the end
 --   row_in kind rows i       the vector of row i, counted from 0; 0 past the end
 --   pivot_of xs              the place, from 0, of the greatest position that is not 0
 --   pivot_in rows i          the same of row i
@@ -11,6 +10,7 @@
 use Rattle.std.specs.Prelude.{◌≡◌, ℕ, zero, suc, ◌-◌, List, [], ◌∷◌, length, All, slice_index_or, unwrap_or}
 use Rattle.fpl_fields.specs.Field.{Field}
 use Rattle.fpl_linear.specs.Vector.{Vector}
+use Rattle.fpl_linear.specs.Lists.{vector_of}
 use Rattle.fpl_linear.specs.Span.{InSpan}
 use Rattle.fpl_linear.specs.Closed.{IsClosed}
 use Rattle.fpl_numbers.specs.declared.number.Num.{Num}
@@ -18,11 +18,6 @@ use Rattle.fpl_numbers.specs.declared.number.Kind.{Kind}
 use Rattle.fpl_numbers.specs.Kinds.{field_of, number_of}
 use Rattle.fpl_scalar.specs.Vectors.{AreElements}
 use Rattle.fpl_rows.specs.Positions.{lead_of}
-
-abbrev pub vector_of : (K : Field) → (Num → K.Carrier) → List Num → Vector K
-vector_of K value [] s = K.nought
-vector_of K value (x ∷ xs) zero = value x
-vector_of K value (x ∷ xs) (suc s) = vector_of K value xs s
 
 abbrev pub vector_in : (kind : Kind) → List Num → Vector (field_of kind)
 vector_in kind xs = vector_of (field_of kind) (number_of kind) xs
