@@ -1,3 +1,4 @@
 pub mod LinearLaws
 pub mod ValueLaws
 pub mod StandardLaws
+pub mod ExampleLaws
