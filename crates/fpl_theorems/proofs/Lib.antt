@@ -2,3 +2,4 @@ pub mod LinearLaws
 pub mod ValueLaws
 pub mod StandardLaws
 pub mod ExampleLaws
+pub mod Three

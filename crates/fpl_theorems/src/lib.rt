@@ -4,7 +4,7 @@
 ghost use Rattle.fpl_numbers.specs.declared.number.Kind.{Kind};
 ghost use Rattle.fpl_numbers.specs.Kinds.{field_of};
 ghost use Rattle.fpl_theorems.specs.Linear.{ClosesReduced, FreeRowsSolve, KernelOfRows, OneClosedList, OneReduced, PutSpansMore, ReducedIsClosed, ReducesToZero, SomeClosedList, SpansAreOne, SweepsInSpan, SweepsPivots, SweepsToZero};
-ghost use Rattle.fpl_theorems.specs.Values.{DerivesOverP, OrderedTriplesSuffice, ValuesRespectDerivation};
+ghost use Rattle.fpl_theorems.specs.Values.{CubesModuloThree, DerivesOverP, OrderedTriplesSuffice, ParityAsWritten, ValuesRespectDerivation, WeightBoundsTop};
 ghost use Rattle.fpl_theorems.specs.Examples.{EvenSquareIsZero, OddCubeIsZero, OddCubeIsZeroByCube, OddSquareIsFree, PairIsFree, ZeroBracketsFail};
 ghost use Rattle.fpl_theorems.specs.Standard.{AgreeingIsBuilt, BuiltIsStandard, BuiltObeys, ClosedRowsAreZero, ClosedRowsBuild, Headline, ImagesPastAreZero, LowerIsBuilt, OneStandard, RowsAreZero, SomeStandard, StandardIsBuilt, StandardIsSound};
 
@@ -38,6 +38,13 @@ pub fn values()
     ensures over { (k : Kind) → DerivesOverP (field_of k) }
     ensures one_value { (k : Kind) → ValuesRespectDerivation (field_of k) }
     ensures triples { (k : Kind) → OrderedTriplesSuffice (field_of k) }
+    ensures cubes { (k : Kind) → CubesModuloThree k }
+{}
+
+/// Weights and parities as written: they bound the greatest written weight, and are parities that the expression has.
+pub fn degrees()
+    ensures weight { (k : Kind) → WeightBoundsTop (field_of k) }
+    ensures parity { (k : Kind) → ParityAsWritten (field_of k) }
 {}
 
 /// Built tables: they obey the law, and give equal values exactly where derivably equal.
