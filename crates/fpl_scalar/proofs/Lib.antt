@@ -2,3 +2,5 @@ pub mod Accepted
 pub mod Inverses
 pub mod AtPlaces
 pub mod Euclid
+pub mod Choices
+pub mod FractionArithmetic
