@@ -8,7 +8,8 @@ use native.Mathlib.Nat.{div-le_self}
 use Rattle.fpl_numbers.specs.declared.number.Num.{Num}
 use Rattle.fpl_numbers.specs.declared.number.Kind.TheVariants.{Rational}
 use Rattle.fpl_numbers.specs.declared.number.Op.TheVariants.{Add, Mul}
-use Rattle.fpl_numbers.specs.Numbers.{IsElement, bound, is_within, gcd, divided, common, left_part, right_part, both_parts, shared, sum_below, fraction_fits, fraction_sum}
+use Rattle.fpl_numbers.specs.Numbers.{IsElement, bound, is_within, gcd, divided, common, left_part, right_part, both_parts, shared, sum_below, fraction_fits, fraction_sum, fraction_product}
+use Rattle.fpl_numbers.proofs.FractionProducts.{left_gcd, right_gcd, cancelled_above, cancelled_below, product_cancelled}
 use Rattle.fpl_numbers.proofs.Integers.{abs-divided}
 use Rattle.fpl_scalar.proofs.Choices.{back, choose, choose_none, chosen, unchosen, false_left, false_right, true_both, within_is}
 
@@ -92,3 +93,58 @@ module _ (a b : Num) (is_a : IsElement Rational a) (is_b : IsElement Rational b)
             let q : unsigned_abs (both_parts a b) / shared a b ≤ unsigned_abs (both_parts a b) = div-le_self _ _ in
             let m : unsigned_abs (both_parts a b) ≤ bound = within_is _ t_is.0 in
             subst (λ w. w ≤ bound) (sym (abs-divided (both_parts a b) (shared a b))) (omega arith)
+
+-- ---- a product
+module _ (a b : Num) (is_a : IsElement Rational a) (is_b : IsElement Rational b) (da db : ℕ) (da_is : da ≡ unsigned_abs a.denominator) (db_is : db ≡ unsigned_abs b.denominator)
+    (ma mb l r : ℕ) (ma_is : ma ≡ unsigned_abs (wrapped a.numerator)) (mb_is : mb ≡ unsigned_abs (wrapped b.numerator)) (l_is : l ≡ gcd ma db) (r_is : r ≡ gcd mb da) where
+  left_is : l ≡ left_gcd a b is_a.0 is_b.0
+  left_is = l_is ∙ ap₂ gcd (ma_is ∙ ap unsigned_abs (back a.numerator is_a.1.0)) db_is
+
+  right_is : r ≡ right_gcd a b is_a.0 is_b.0
+  right_is = r_is ∙ ap₂ gcd (mb_is ∙ ap unsigned_abs (back b.numerator is_b.1.0)) da_is
+
+  -- the parts of the product, for any test and any answer
+  small_part : (z : ℤ) (d : ℕ) → unsigned_abs z ≤ bound → unsigned_abs (divided z d) ≤ bound
+  small_part z d h =
+      let q : unsigned_abs z / d ≤ unsigned_abs z = div-le_self _ _ in
+      subst (λ w. w ≤ bound) (sym (abs-divided z d)) (omega arith)
+
+  module _ (n m : ℤ) (n_is : n ≡ divided (wrapped a.numerator) l) (m_is : m ≡ divided (wrapped b.numerator) r) where
+    above_is : wrapped n *ℤ wrapped m ≡ cancelled_above a b is_a.0 is_b.0
+    above_is =
+        ap₂ (λ x y. x *ℤ y)
+        (ap wrapped (n_is ∙ ap₂ divided (back a.numerator is_a.1.0) left_is) ∙ back (divided a.numerator (left_gcd a b is_a.0 is_b.0)) (small_part a.numerator (left_gcd a b is_a.0 is_b.0) is_a.1.0))
+        (ap wrapped (m_is ∙ ap₂ divided (back b.numerator is_b.1.0) right_is) ∙ back (divided b.numerator (right_gcd a b is_a.0 is_b.0)) (small_part b.numerator (right_gcd a b is_a.0 is_b.0) is_b.1.0))
+
+    product_below_is : (da / r) * (db / l) ≡ cancelled_below a b is_a.0 is_b.0
+    product_below_is = ap₂ (λ x y. x * y) (ap₂ (λ x y. x / y) da_is right_is) (ap₂ (λ x y. x / y) db_is left_is)
+
+    pub above_unfit : ◌≡◌ {A = Option ℤ} None (if is_within (wrapped n *ℤ wrapped m) then Some (wrapped n *ℤ wrapped m) else None) →
+        ◌≡◌ {A = Option Num} None (if fraction_fits Mul a b then Some (fraction_product a b) else None)
+    above_unfit e =
+        choose_none _ (fraction_product a b)
+        (false_left _ (is_within (fraction_product a b).denominator)
+        (ap (λ w. is_within w.numerator) (product_cancelled a b is_a.0 is_b.0)
+        ∙ unchosen (is_within (cancelled_above a b is_a.0 is_b.0)) (cancelled_above a b is_a.0 is_b.0) (subst (λ w. ◌≡◌ {A = Option ℤ} None (if is_within w then Some w else None)) above_is e)))
+
+    pub product_below_unfit : ◌≡◌ {A = Option ℤ} None (if nat_le ((da / r) * (db / l)) bound then Some (pos ((da / r) * (db / l))) else None) →
+        ◌≡◌ {A = Option Num} None (if fraction_fits Mul a b then Some (fraction_product a b) else None)
+    product_below_unfit e =
+        choose_none _ (fraction_product a b)
+        (false_right (is_within (fraction_product a b).numerator) _
+        (ap (λ w. is_within w.denominator) (product_cancelled a b is_a.0 is_b.0)
+        ∙ unchosen (nat_le (cancelled_below a b is_a.0 is_b.0) bound) (pos (cancelled_below a b is_a.0 is_b.0)) (subst (λ w. ◌≡◌ {A = Option ℤ} None (if nat_le w bound then Some (pos w) else None)) product_below_is e)))
+
+    pub product_formed : (x d : ℤ) → Some x ≡ (if is_within (wrapped n *ℤ wrapped m) then Some (wrapped n *ℤ wrapped m) else None) →
+        Some d ≡ (if nat_le ((da / r) * (db / l)) bound then Some (pos ((da / r) * (db / l))) else None) →
+        ◌≡◌ {A = Option Num} (Some (record { numerator = wrapped x; denominator = wrapped d })) (if fraction_fits Mul a b then Some (fraction_product a b) else None)
+    product_formed x d e f =
+        choose _ (fraction_product a b) (record { numerator = wrapped x; denominator = wrapped d })
+        (true_both _ _ (ap (λ w. is_within w.numerator) (product_cancelled a b is_a.0 is_b.0) ∙ x_is.0) (ap (λ w. is_within w.denominator) (product_cancelled a b is_a.0 is_b.0) ∙ d_is.0))
+        (num_same (ap wrapped x_is.1 ∙ back _ (within_is _ x_is.0)) (ap wrapped d_is.1 ∙ back (pos (cancelled_below a b is_a.0 is_b.0)) (within_is _ d_is.0)) ∙ sym (product_cancelled a b is_a.0 is_b.0))
+      where
+        x_is : (is_within (cancelled_above a b is_a.0 is_b.0) ≡ true) × (x ≡ cancelled_above a b is_a.0 is_b.0)
+        x_is = chosen _ (cancelled_above a b is_a.0 is_b.0) x (subst (λ w. Some x ≡ (if is_within w then Some w else None)) above_is e)
+
+        d_is : (nat_le (cancelled_below a b is_a.0 is_b.0) bound ≡ true) × (d ≡ pos (cancelled_below a b is_a.0 is_b.0))
+        d_is = chosen _ (pos (cancelled_below a b is_a.0 is_b.0)) d (subst (λ w. Some d ≡ (if nat_le w bound then Some (pos w) else None)) product_below_is f)

@@ -119,3 +119,84 @@ fn product(a: Num, b: Num) -> Option<Num>
         denominator,
     })
 }
+
+impl Field for Fraction {
+    type Elem = Num;
+
+    ghost kind_of = { λ f. Rational };
+
+    ghost number = { λ a. a };
+
+    ghost is_field = { λ f. tt };
+
+    ghost same_number = { λ f a b is_a is_b e. e };
+
+    fn kind(&self) -> Kind {
+        Kind::Rational
+    }
+
+    fn zero(&self) -> Num {
+        Num {
+            numerator: 0,
+            denominator: 1,
+        }
+    }
+
+    fn one(&self) -> Num {
+        Num {
+            numerator: 1,
+            denominator: 1,
+        }
+    }
+
+    fn is_zero(&self, a: Num) -> bool {
+        a.numerator == 0
+    }
+
+    fn same(&self, a: Num, b: Num) -> bool {
+        a == b
+    }
+
+    fn add(&self, a: Num, b: Num) -> Result<Num, Unfit> {
+        match sum(a, b) {
+            Some(c) => Ok(c),
+            None => Err(Unfit { op: Op::Add, a, b }),
+        }
+    }
+
+    fn mul(&self, a: Num, b: Num) -> Result<Num, Unfit> {
+        match product(a, b) {
+            Some(c) => Ok(c),
+            None => Err(Unfit { op: Op::Mul, a, b }),
+        }
+    }
+
+    fn neg(&self, a: Num) -> Num {
+        Num {
+            numerator: -a.numerator,
+            denominator: a.denominator,
+        }
+    }
+
+    fn inverse(&self, a: Num) -> Num {
+        if a.numerator < 0 {
+            Num {
+                numerator: -a.denominator,
+                denominator: -a.numerator,
+            }
+        } else {
+            Num {
+                numerator: a.denominator,
+                denominator: a.numerator,
+            }
+        }
+    }
+
+    fn of(&self, n: &Num) -> Num {
+        *n
+    }
+
+    fn num(&self, a: Num) -> Num {
+        a
+    }
+}
