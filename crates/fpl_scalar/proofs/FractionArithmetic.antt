@@ -16,7 +16,7 @@ use Rattle.fpl_scalar.proofs.Choices.{back, choose, choose_none, chosen, unchose
 abbrev pub wrapped : ℤ → ℤ
 wrapped z = to_z w128 (of_z w128 z)
 
-num_same : {n n' d d' : ℤ} → n ≡ n' → d ≡ d' → Path Num (record { numerator = n; denominator = d }) (record { numerator = n'; denominator = d' })
+pub num_same : {n n' d d' : ℤ} → n ≡ n' → d ≡ d' → Path Num (record { numerator = n; denominator = d }) (record { numerator = n'; denominator = d' })
 num_same p q i = record { numerator = p i; denominator = q i }
 
 module _ (a b : Num) (is_a : IsElement Rational a) (is_b : IsElement Rational b) (da db g : ℕ) (da_is : da ≡ unsigned_abs a.denominator) (db_is : db ≡ unsigned_abs b.denominator) (g_is : g ≡ gcd da db) where

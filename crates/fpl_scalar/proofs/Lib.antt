@@ -4,3 +4,4 @@ pub mod AtPlaces
 pub mod Euclid
 pub mod Choices
 pub mod FractionArithmetic
+pub mod FractionElements
