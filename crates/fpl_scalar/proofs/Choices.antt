@@ -1,11 +1,11 @@
 -- A value that is there exactly where a test holds, and a number of 128 bits read back from its bits.
-use Rattle.std.specs.Prelude.{ℕ, ◌≡◌, ◌≤◌, ◌<◌, ◌^◌, ℤ, pos, negsuc, unsigned_abs, Bool, true, false, ◌&&◌, nat_le, Option, Some, None, if◌then◌else◌, FitsSigned}
+use Rattle.std.specs.Prelude.{ℕ, ◌≡◌, ◌≤◌, ℤ, unsigned_abs, Bool, true, false, ◌&&◌, nat_le, Option, Some, None, if◌then◌else◌, FitsSigned}
 use Rattle.std.specs.Int.{w128}
 use Rattle.std.proofs.Common.{to_z, of_z}
 use Rattle.std.proofs.lemmas.Int.{to_z-of_z, ints}
-use mathlib.Core.Path.{refl, sym, ap, ◌∙◌, subst}
+use mathlib.Core.Path.{refl, ap}
 use native.Mathlib.Omega.{arith}
-use Rattle.fpl_numbers.specs.Numbers.{bound, is_within}
+use Rattle.fpl_numbers.specs.Numbers.{bound}
 
 abbrev held : {T : Type 0} → T → Option T → T
 held d (Some x) = x

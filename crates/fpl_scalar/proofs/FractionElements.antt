@@ -1,12 +1,12 @@
 -- What the calls of the fractions answer are canonical numbers within the bound.
-use Rattle.std.specs.Prelude.{ℕ, suc, ◌≡◌, ◌≤◌, ℤ, pos, negsuc, neg_ℤ, ◌-ℤ◌, ◌<ℤ◌, ◌≤ℤ◌, unsigned_abs, true, false, Option, Some, None, if◌then◌else◌}
+use Rattle.std.specs.Prelude.{◌≡◌, ◌≤◌, ℤ, pos, negsuc, neg_ℤ, ◌-ℤ◌, ◌<ℤ◌, ◌≤ℤ◌, unsigned_abs, false, Some, None, if◌then◌else◌}
 use Rattle.std.proofs.lemmas.Int.{ints}
-use mathlib.Core.Path.{refl, sym, ap, ◌∙◌, subst}
+use mathlib.Core.Path.{refl, sym, ◌∙◌, subst}
 use native.Mathlib.Omega.{arith}
 use Rattle.fpl_numbers.specs.declared.number.Num.{Num}
 use Rattle.fpl_numbers.specs.declared.number.Kind.TheVariants.{Rational}
 use Rattle.fpl_numbers.specs.declared.number.Op.TheVariants.{Add, Mul}
-use Rattle.fpl_numbers.specs.Numbers.{IsElement, bound, is_nought, fraction_fits, fraction_sum, fraction_product, negative_of, inverse_of, inverted}
+use Rattle.fpl_numbers.specs.Numbers.{IsElement, bound, is_nought, fraction_fits, fraction_sum, fraction_product, inverse_of, inverted}
 use Rattle.fpl_numbers.proofs.Fitting.{result_fits, negative_fits, inverse_fits}
 use Rattle.fpl_numbers.proofs.KindReads.{kind_reads_exactly}
 use Rattle.fpl_scalar.proofs.Choices.{back, chosen}

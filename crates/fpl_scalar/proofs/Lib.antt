@@ -5,3 +5,4 @@ pub mod Euclid
 pub mod Choices
 pub mod FractionArithmetic
 pub mod FractionElements
+pub mod ReducedQuotients

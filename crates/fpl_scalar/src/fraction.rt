@@ -50,7 +50,7 @@ fn joined(a: u128, b: u128) -> Option<i128>
 }
 
 /// `n` divided by `d`, towards 0.
-fn reduced_by(n: i128, d: u128) -> i128
+pub fn reduced_by(n: i128, d: u128) -> i128
     requires positive { 0 < d }
     requires fits { d ≤ bound }
     ensures { result ≡ divided n d }
@@ -107,7 +107,10 @@ fn product(a: Num, b: Num) -> Option<Num>
     let b_below = below(b);
     let left = gcd(a.numerator.unsigned_abs(), b_below);
     let right = gcd(b.numerator.unsigned_abs(), a_below);
-    let above = times(reduced_by(a.numerator, left), reduced_by(b.numerator, right));
+    let above = times(
+        reduced_by(a.numerator, left),
+        reduced_by(b.numerator, right),
+    );
     let Some(numerator) = above else {
         return None;
     };

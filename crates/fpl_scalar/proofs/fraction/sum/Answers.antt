@@ -1,4 +1,3 @@
-use Rattle.std.proofs.Common.{arith}
 use Rattle.fpl_scalar.proofs.FractionArithmetic.{left_formed, right_formed, both_formed, both_unfit, below_unfit, sum_formed}
 use Rattle.fpl_scalar.proofs.fraction.sum.Goals as goal
 
