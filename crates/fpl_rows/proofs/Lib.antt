@@ -1,1 +1,4 @@
 pub mod AtPositions
+pub mod Fits
+pub mod Leads
+pub mod Readings
