@@ -44,3 +44,15 @@ lead_place xs s e = let k = lead_is xs (length xs) s (sym e) in (k.from_one, k.t
 
 pub lead_leads : (xs : List Num) (s : ℕ) → Some s ≡ lead_of xs → is_nought (get_or xs (s - 1) (residue 0)) ≡ false
 lead_leads xs s e = (lead_is xs (length xs) s (sym e)).leads
+
+-- the lead, from what stands there and above
+lead_down : (xs : List Num) (s n : ℕ) → 1 ≤ s → s ≤ n → is_nought (get_or xs (s - 1) (residue 0)) ≡ false → ((t : ℕ) → s ≤ t → t < n → is_nought (get_or xs t (residue 0)) ≡ true) → lead_below xs n ≡ Some s
+lead_down xs s zero one end z above = absurd (omega arith)
+lead_down xs s (suc n) one end z above = go (ℕ_discrete s (suc n)) (λ l. lead_down xs s n one l z (λ t m k. above t m (omega arith)))
+  where
+    go : Dec (s ≡ suc n) → (s ≤ n → lead_below xs n ≡ Some s) → (if is_nought (get_or xs n (residue 0)) then lead_below xs n else Some (suc n)) ≡ Some s
+    go (yes e) k = (let f : is_nought (get_or xs n (residue 0)) ≡ false = subst (λ w. is_nought (get_or xs w (residue 0)) ≡ false) (let h : s - 1 ≡ n = omega arith in h) z in rw f (ap Some (sym e)))
+    go (no d) k = (let f : is_nought (get_or xs n (residue 0)) ≡ true = above n (omega arith) (omega arith) in rw f (k (omega arith)))
+
+pub lead_found : (xs : List Num) (s : ℕ) → 1 ≤ s → s ≤ length xs → is_nought (get_or xs (s - 1) (residue 0)) ≡ false → ((t : ℕ) → s ≤ t → t < length xs → is_nought (get_or xs t (residue 0)) ≡ true) → lead_of xs ≡ Some s
+lead_found xs s one end z above = lead_down xs s (length xs) one end z above
