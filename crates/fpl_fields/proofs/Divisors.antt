@@ -68,10 +68,14 @@ apart-mul a b c h k = (one-dvd a, one-dvd (b * c), λ x p q. k.2 x p (gauss x b 
 
 -- two numbers divided by their greatest common divisor
 pub quotients_apart : (a b g : ℕ) → 0 < g → IsGcd a b g → IsGcd (a / g) (b / g) 1
-quotients_apart a b g some is = (one-dvd (a / g), one-dvd (b / g), λ c h k.
-    dvd_of_mul-dvd-mul_right c some
-    (subst (λ w. c * g ∣ w) (omega arith)
-    (is.2 (c * g) (subst (λ w. c * g ∣ w) (div-mul_cancel g is.0) (mul-dvd-mul_right c h g)) (subst (λ w. c * g ∣ w) (div-mul_cancel g is.1) (mul-dvd-mul_right c k g)))))
+quotients_apart a b g some is = (
+  one-dvd (a / g),
+  one-dvd (b / g),
+  λ c h k.
+      dvd_of_mul-dvd-mul_right c some
+      (subst (λ w. c * g ∣ w) (omega arith)
+      (is.2 (c * g) (subst (λ w. c * g ∣ w) (div-mul_cancel g is.0) (mul-dvd-mul_right c h g)) (subst (λ w. c * g ∣ w) (div-mul_cancel g is.1) (mul-dvd-mul_right c k g)))),
+)
 
 -- equal fractions in lowest terms have one numerator and one denominator
 pub lowest_equal : (n e m h : ℕ) → 0 < h → IsGcd n e 1 → IsGcd m h 1 → n * h ≡ m * e → (n ≡ m) × (e ≡ h)

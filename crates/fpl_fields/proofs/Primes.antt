@@ -28,20 +28,21 @@ none_divides_is (suc k) p d t l m = go (ℕ_discrete d (suc (suc k))) (λ n. non
     go (yes e) h = subst (λ w. p % w ≢ 0) (sym e) (apart _ (first_of_two _ (none_divides k p) t))
     go (no e) h = h (omega arith)
 
-pub prime_from_test : (k p : ℕ) → 1 < p → p < (k + 2) * (k + 2) → none_divides k p ≡ true → IsPrime p
-prime_from_test k p one small test = record {
+-- a number is prime where no number up to its root divides it
+pub prime_by_trial : (k p : ℕ) → 1 < p → p < (k + 2) * (k + 2) → ((d : ℕ) → 1 < d → d ≤ k + 1 → p % d ≢ 0) → IsPrime p
+prime_by_trial k p one small none = record {
   past_one = one;
   no_divisor = λ d l m e. go d l m e (dec_le d (k + 1));
 }
   where
     go : (d : ℕ) → 1 < d → d < p → p % d ≡ 0 → Dec (d ≤ k + 1) → ⊥
-    go d l m e (yes h) = none_divides_is k p d test l h e
+    go d l m e (yes h) = none d l h e
     go d l m e (no h) =
         let q = p / d in
         let f : d * q ≡ p = omega (arith, div-add-mod p d) in
         let small_q : q ≤ k + 1 = by_size q f (dec_le q (k + 1)) in
         let past_q : 1 < q = by_value q f in
-        none_divides_is k p q test past_q small_q (ap (λ w. w % q) (sym f) ∙ mul-mod_left d q)
+        none q past_q small_q (ap (λ w. w % q) (sym f) ∙ mul-mod_left d q)
       where
         by_size : (q : ℕ) → d * q ≡ p → Dec (q ≤ k + 1) → q ≤ k + 1
         by_size q f (yes s) = s
@@ -52,6 +53,9 @@ prime_from_test k p one small test = record {
         by_value zero f = absurd (omega arith)
         by_value (suc zero) f = absurd (omega arith)
         by_value (suc (suc q)) f = omega arith
+
+pub prime_from_test : (k p : ℕ) → 1 < p → p < (k + 2) * (k + 2) → none_divides k p ≡ true → IsPrime p
+prime_from_test k p one small test = prime_by_trial k p one small (λ d. none_divides_is k p d test)
 
 pub prime_3 : IsPrime 3
 prime_3 = prime_from_test 0 3 (omega arith) (omega arith) refl

@@ -1,6 +1,6 @@
 -- Operations that fit: their results fit, and what fitted in 63 bits fits.
-use Rattle.std.specs.Prelude.{ℕ, ◌≡◌, ◌≤◌, ◌<◌, ◌+◌, ◌-◌, ◌*◌, ◌/◌, ◌^◌, ℤ, pos, negsuc, unsigned_abs, neg_ℤ, Bool, true, false, ◌&&◌, nat_le, Result, Ok, Err, if◌then◌else◌}
-use mathlib.Core.Path.{refl, sym, ap, ◌∙◌, subst}
+use Rattle.std.specs.Prelude.{ℕ, ◌≡◌, ◌≤◌, ◌<◌, ◌+◌, ◌-◌, ◌*◌, ◌/◌, ◌^◌, ℤ, pos, negsuc, unsigned_abs, Bool, true, false, ◌&&◌, nat_le, Result, Ok, Err, if◌then◌else◌}
+use mathlib.Core.Path.{refl, sym, ap, ap₂, subst}
 use native.Mathlib.Omega.{arith}
 use native.Mathlib.Nat.{div-le_self, mul-le-mul}
 use Rattle.fpl_numbers.specs.declared.number.Num.{Num}
@@ -9,13 +9,19 @@ use Rattle.fpl_numbers.specs.declared.number.Kind.TheVariants.{Rational, Prime}
 use Rattle.fpl_numbers.specs.declared.number.Op.{Op}
 use Rattle.fpl_numbers.specs.declared.number.Op.TheVariants.{Add, Mul}
 use Rattle.fpl_numbers.specs.declared.number.Unfit.{Unfit}
-use Rattle.fpl_numbers.specs.Numbers.{Fits, bound, is_within, left_part, right_part, both_parts, shared, common, sum_below, fraction_sum, fraction_product, fraction_fits, fits, negative_of, inverse_of, inverted, result_of, operate}
+use Rattle.fpl_numbers.specs.Numbers.{Fits, IsSmall, bound, is_within, left_part, right_part, both_parts, shared, common, sum_below, fraction_sum, fraction_product, fraction_fits, fits, negative_of, inverse_of, inverted, result_of, operate}
 use Rattle.fpl_numbers.proofs.Integers.{abs-neg, abs-mul, abs-divided, abs-sum-le}
 
 both_true : (a b : Bool) → (a && b) ≡ true → (a ≡ true) × (b ≡ true)
 both_true true true h = (refl, refl)
 both_true true false h = cc
 both_true false b h = cc
+
+two_true : {a b : Bool} → a ≡ true → b ≡ true → (a && b) ≡ true
+two_true h k = ap₂ (λ x y. x && y) h k
+
+all_true : {a b c d : Bool} → a ≡ true → b ≡ true → c ≡ true → d ≡ true → (a && b && c && d) ≡ true
+all_true h k l m = two_true (two_true (two_true h k) l) m
 
 within : (m n : ℕ) → nat_le m n ≡ true → m ≤ n
 within m n h = grind arith
@@ -65,3 +71,34 @@ inverted_fits (negsuc n) d h k = (subst (λ w. w ≤ bound) (sym (abs-neg d)) k,
 pub inverse_fits : (kind : Kind) (a : Num) → Fits kind a → Fits kind (inverse_of kind a)
 inverse_fits Rational a h = inverted_fits a.numerator a.denominator h.0 h.1
 inverse_fits (Prime p) a h = tt
+
+-- two numbers below 2^63 have a product of which two are within the bound
+small_product : (m n e : ℕ) → m < 2 ^ 63 → n < 2 ^ 63 → e ≤ n → m * e ≤ (2 ^ 63 - 1) * (2 ^ 63 - 1)
+small_product m n e h k l = mul-le-mul (let r : m ≤ 2 ^ 63 - 1 = omega arith in r) (let r : e ≤ 2 ^ 63 - 1 = omega arith in r)
+
+small_sum_fits : (a b : Num) → IsSmall a → IsSmall b → IsSmall (fraction_sum a b) → fraction_fits Add a b ≡ true
+small_sum_fits a b h k s =
+    let u : unsigned_abs (left_part a b) ≤ (2 ^ 63 - 1) * (2 ^ 63 - 1) = subst (λ w. w ≤ (2 ^ 63 - 1) * (2 ^ 63 - 1)) (sym (abs-mul a.numerator (pos (unsigned_abs b.denominator / common a b)))) (small_product _ _ _ h.0 k.1 (div-le_self _ _)) in
+    let v : unsigned_abs (right_part a b) ≤ (2 ^ 63 - 1) * (2 ^ 63 - 1) = subst (λ w. w ≤ (2 ^ 63 - 1) * (2 ^ 63 - 1)) (sym (abs-mul b.numerator (pos (unsigned_abs a.denominator / common a b)))) (small_product _ _ _ k.0 h.1 (div-le_self _ _)) in
+    all_within (unsigned_abs (left_part a b)) (unsigned_abs (right_part a b)) (unsigned_abs (both_parts a b)) (sum_below a b) u v (abs-sum-le (left_part a b) (right_part a b)) s.1
+  where
+    all_within : (u v t d : ℕ) → u ≤ (2 ^ 63 - 1) * (2 ^ 63 - 1) → v ≤ (2 ^ 63 - 1) * (2 ^ 63 - 1) → t ≤ u + v → d < 2 ^ 63 →
+        (nat_le u bound && nat_le v bound && nat_le t bound && nat_le d bound) ≡ true
+    all_within u v t d p q r s =
+        all_true (is_within_is u bound (omega arith)) (is_within_is v bound (omega arith)) (is_within_is t bound (omega arith)) (is_within_is d bound (omega arith))
+
+small_product_fits : (a b : Num) → IsSmall (fraction_product a b) → fraction_fits Mul a b ≡ true
+small_product_fits a b s = two_true (small_within (unsigned_abs (fraction_product a b).numerator) s.0) (small_within (unsigned_abs (fraction_product a b).denominator) s.1)
+  where
+    small_within : (n : ℕ) → n < 2 ^ 63 → nat_le n bound ≡ true
+    small_within n l = is_within_is n bound (omega arith)
+
+-- an operation fits where its operands and its exact result have parts below 2^63
+pub small_fits : (k : Kind) (op : Op) (a b : Num) → IsSmall a → IsSmall b → IsSmall (result_of k op a b) → fits k op a b ≡ true
+small_fits Rational Add a b h k s = small_sum_fits a b h k s
+small_fits Rational Mul a b h k s = small_product_fits a b s
+small_fits (Prime p) op a b h k s = refl
+
+-- residues always fit
+pub residues_fit : (p : ℕ) (op : Op) (a b : Num) → operate (Prime p) op a b ≡ Ok (result_of (Prime p) op a b)
+residues_fit p op a b = refl

@@ -37,18 +37,26 @@ module _ (a b : Num) (is_a : IsLowest a) (is_b : IsLowest b) where
 
   -- the sum has no common divisor with the left denominator's part
   left_apart : IsGcd (unsigned_abs (both_parts a b)) (below a / common a b) 1
-  left_apart = (one-dvd _, one-dvd _, λ x p q.
-      let r : x ∣ unsigned_abs (right_part a b) = subst (λ w. x ∣ w) (sym right_is) (dvd-mul_left_of_dvd x q (size b)) in
-      let l : x ∣ size a * (below b / common a b) = subst (λ w. x ∣ w) left_is (dvd_left_part x (left_part a b) (right_part a b) p r) in
-      let n : x ∣ size a = gauss x (below b / common a b) (size a) (divisor_apart x _ _ q parts_apart) (subst (λ w. x ∣ w) (mul_comm (size a) (below b / common a b)) l) in
-      is_a.lowest.2 x n (dvd_trans x q (subst (λ w. (below a / common a b) ∣ w) (div-mul_cancel (common a b) is_g.0) (dvd-mul_right (below a / common a b) (common a b)))))
+  left_apart = (
+    one-dvd _,
+    one-dvd _,
+    λ x p q.
+        let r : x ∣ unsigned_abs (right_part a b) = subst (λ w. x ∣ w) (sym right_is) (dvd-mul_left_of_dvd x q (size b)) in
+        let l : x ∣ size a * (below b / common a b) = subst (λ w. x ∣ w) left_is (dvd_left_part x (left_part a b) (right_part a b) p r) in
+        let n : x ∣ size a = gauss x (below b / common a b) (size a) (divisor_apart x _ _ q parts_apart) (subst (λ w. x ∣ w) (mul_comm (size a) (below b / common a b)) l) in
+        is_a.lowest.2 x n (dvd_trans x q (subst (λ w. (below a / common a b) ∣ w) (div-mul_cancel (common a b) is_g.0) (dvd-mul_right (below a / common a b) (common a b)))),
+  )
 
   right_apart : IsGcd (unsigned_abs (both_parts a b)) (below b / common a b) 1
-  right_apart = (one-dvd _, one-dvd _, λ x p q.
-      let l : x ∣ unsigned_abs (left_part a b) = subst (λ w. x ∣ w) (sym left_is) (dvd-mul_left_of_dvd x q (size a)) in
-      let r : x ∣ size b * (below a / common a b) = subst (λ w. x ∣ w) right_is (dvd_right_part x (left_part a b) (right_part a b) p l) in
-      let n : x ∣ size b = gauss x (below a / common a b) (size b) (divisor_apart x _ _ q (IsGcd-swap _ _ 1 parts_apart)) (subst (λ w. x ∣ w) (mul_comm (size b) (below a / common a b)) r) in
-      is_b.lowest.2 x n (dvd_trans x q (subst (λ w. (below b / common a b) ∣ w) (div-mul_cancel (common a b) is_g.1) (dvd-mul_right (below b / common a b) (common a b)))))
+  right_apart = (
+    one-dvd _,
+    one-dvd _,
+    λ x p q.
+        let l : x ∣ unsigned_abs (left_part a b) = subst (λ w. x ∣ w) (sym left_is) (dvd-mul_left_of_dvd x q (size a)) in
+        let r : x ∣ size b * (below a / common a b) = subst (λ w. x ∣ w) right_is (dvd_right_part x (left_part a b) (right_part a b) p l) in
+        let n : x ∣ size b = gauss x (below a / common a b) (size b) (divisor_apart x _ _ q (IsGcd-swap _ _ 1 parts_apart)) (subst (λ w. x ∣ w) (mul_comm (size b) (below a / common a b)) r) in
+        is_b.lowest.2 x n (dvd_trans x q (subst (λ w. (below b / common a b) ∣ w) (div-mul_cancel (common a b) is_g.1) (dvd-mul_right (below b / common a b) (common a b)))),
+  )
 
   pub h_below : shared a b ∣ below b
   h_below = dvd_trans (shared a b) is_h.1 is_g.1

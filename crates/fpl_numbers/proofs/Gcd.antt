@@ -1,5 +1,5 @@
 -- Euclid's algorithm finds the greatest common divisor.
-use Rattle.std.specs.Prelude.{ℕ, zero, suc, ◌≡◌, ◌≢◌, ◌<◌, ◌+◌, ◌%◌, Bool, true, false, cond, nat_eq}
+use Rattle.std.specs.Prelude.{ℕ, zero, suc, ◌≡◌, ◌<◌, ◌+◌, ◌%◌, Bool, true, false, cond, nat_eq}
 use Rattle.std.specs.Int.{IsGcd}
 use mathlib.Core.Path.{refl}
 use native.Mathlib.Omega.{arith}

@@ -1,5 +1,5 @@
 -- Each kind that is a field: its prime is prime, and its exact operations are those of its field.
-use Rattle.std.specs.Prelude.{ℕ, ◌≡◌, ◌<◌, All, Bool, true, false, Ok}
+use Rattle.std.specs.Prelude.{ℕ, ◌≡◌, ◌<◌, Bool, true, false}
 use mathlib.Core.Path.{refl, sym, ap, ◌∙◌, subst}
 use native.Mathlib.Decide.{ℕ_discrete}
 use Rattle.std.proofs.lemmas.List.Elements.{All-contains, All-from_recursion}
@@ -10,7 +10,7 @@ use Rattle.fpl_numbers.specs.declared.number.Num.{Num}
 use Rattle.fpl_numbers.specs.declared.number.Kind.{Kind}
 use Rattle.fpl_numbers.specs.declared.number.Kind.TheVariants.{Rational, Prime}
 use Rattle.fpl_numbers.specs.declared.number.Op.TheVariants.{Add, Mul}
-use Rattle.fpl_numbers.specs.Numbers.{IsListed, IsField, IsElement, sum_of, product_of, inverse_of}
+use Rattle.fpl_numbers.specs.Numbers.{IsListed, IsField, IsElement}
 use Rattle.fpl_numbers.specs.Kinds.{Known, accepted, unknown, known, field_of, field_if, residue_in, number_of}
 use Rattle.fpl_numbers.specs.Reads.{ReadsExactly, Reads}
 use Rattle.fpl_numbers.proofs.Fitting.{from_operate, result_fits, negative_fits, inverse_fits}

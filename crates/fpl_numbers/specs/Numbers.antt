@@ -14,6 +14,7 @@
 --   negative_of           the negative
 --   inverse_of            the inverse of a number that is not 0
 --   fits kind op a b      the operation fits: a residue's always; a product where its result does; a sum where also what stands on the way does
+--   IsSmall a             numerator and denominator are below 2^63
 --   operate kind op a b   the exact result, or the operation with its operands where it does not fit
 use Rattle.std.specs.Prelude.{◌≡◌, ℕ, zero, suc, ◌+◌, ◌-◌, ◌*◌, ◌%◌, ◌/◌, ◌^◌, ◌<◌, ◌≤◌, Bool, true, false, cond, ◌&&◌, nat_le, nat_eq, if◌then◌else◌, ℤ, pos, negsuc, unsigned_abs, ◌+ℤ◌, ◌*ℤ◌, neg_ℤ, ◌<ℤ◌, Result, Ok, Err, Contains}
 use Rattle.std.specs.Int.{IsGcd}
@@ -146,6 +147,9 @@ fraction_fits Mul a b = is_within (fraction_product a b).numerator && is_within 
 abbrev pub fits : Kind → Op → Num → Num → Bool
 fits Rational op a b = fraction_fits op a b
 fits (Prime p) op a b = true
+
+abbrev pub IsSmall : Num → Type 0
+IsSmall a = (unsigned_abs a.numerator < 2 ^ 63) × (unsigned_abs a.denominator < 2 ^ 63)
 
 abbrev pub operate : Kind → Op → Num → Num → Result Num Unfit
 operate kind op a b = if fits kind op a b then Ok (result_of kind op a b) else Err (record { op = op; a = a; b = b })

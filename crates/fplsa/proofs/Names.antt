@@ -43,7 +43,6 @@ view_name_injective v w e = let s : Some v ≡ Some w = sym (view_of_name v) ∙
 pub number_injective : (k n : ℕ) → decimal k ≡ decimal n → k < 2 ^ 64 → n < 2 ^ 32 → k ≡ n
 number_injective k n e a b = decimal_injective k n a (omega arith) e
 
-
 abbrev IsRest : List (List ℕ) → ℕ → Type 0
 IsRest rest entries = ((rest ≡ []) × (entries ≡ 200000)) ⊎ ((rest ≡ decimal entries ∷ []) × (entries ≤ 2000000))
 

@@ -1,4 +1,4 @@
-use Rattle.std.proofs.Common.{arith, ◌≡◌, length, take}
+use Rattle.std.proofs.Common.{arith, take}
 use Rattle.std.proofs.lemmas.Grind.{common_steps}
 use Rattle.fpl_outside.proofs.Pieces.{gives_more}
 use Rattle.fpl_outside.proofs.whole.read_whole.Goals as goal

@@ -1,0 +1,5 @@
+use Rattle.fpl_fields.proofs.Divisors.{some_gcd}
+use Rattle.fpl_fields.proofs.numbers_have_gcds.Goals as goal
+
+pub returns : goal.returns
+returns c = some_gcd

@@ -1,0 +1,5 @@
+use Rattle.fpl_numbers.proofs.Gcd.{gcd_is}
+use Rattle.fpl_numbers.proofs.laws.gcd_is_greatest.Goals as goal
+
+pub returns : goal.returns
+returns c = gcd_is

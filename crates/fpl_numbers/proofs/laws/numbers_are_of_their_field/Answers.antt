@@ -1,0 +1,8 @@
+use Rattle.fpl_numbers.proofs.KindReads.{kind_reads, kind_reads_exactly}
+use Rattle.fpl_numbers.proofs.laws.numbers_are_of_their_field.Goals as goal
+
+pub returns : goal.returns
+returns c = record {
+  exact = kind_reads_exactly;
+  elements = kind_reads;
+}

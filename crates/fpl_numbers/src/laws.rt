@@ -1,0 +1,42 @@
+//! Laws of the numbers. Each function does nothing: what it ensures is the law.
+
+ghost use Rattle.std.specs.Prelude.{◌≡◌, ◌<◌, ℕ, true, Ok};
+ghost use Rattle.std.specs.Int.{IsGcd};
+ghost use Rattle.fpl_fields.specs.Residue.{IsPrime};
+ghost use Rattle.fpl_numbers.specs.declared.number.Kind.{Kind};
+ghost use Rattle.fpl_numbers.specs.declared.number.Kind.TheVariants.{Prime};
+ghost use Rattle.fpl_numbers.specs.declared.number.Num.{Num};
+ghost use Rattle.fpl_numbers.specs.declared.number.Op.{Op};
+ghost use Rattle.fpl_numbers.specs.Numbers.{IsListed, IsField, IsSmall, gcd, fits, operate, result_of};
+ghost use Rattle.fpl_numbers.specs.Kinds.{field_of, number_of};
+ghost use Rattle.fpl_numbers.specs.Reads.{Reads, ReadsExactly};
+
+/// Each accepted prime is prime, and odd.
+pub fn primes_are_prime()
+    ensures prime { (p : ℕ) → IsListed p → IsPrime p }
+    ensures odd { (p : ℕ) → IsListed p → 2 < p }
+{}
+
+/// Canonical numbers of any size stand for the numbers of their field, different ones for
+/// different ones, and their exact sum, product, negative and inverse are canonical and those of
+/// the field. So do numbers that fit, with the operations that fit.
+pub fn numbers_are_of_their_field()
+    ensures exact { (k : Kind) → IsField k → ReadsExactly k (field_of k) (number_of k) }
+    ensures elements { (k : Kind) → IsField k → Reads k (field_of k) (number_of k) }
+{}
+
+/// An operation fits where its operands and its exact result have parts below 2^63.
+pub fn small_operations_fit()
+    ensures { (k : Kind) (op : Op) (a b : Num) →
+        IsSmall a → IsSmall b → IsSmall (result_of k op a b) → fits k op a b ≡ true }
+{}
+
+/// An operation on residues always fits.
+pub fn residues_fit()
+    ensures { (p : ℕ) (op : Op) (a b : Num) → operate (Prime p) op a b ≡ Ok (result_of (Prime p) op a b) }
+{}
+
+/// Euclid's algorithm finds the greatest common divisor.
+pub fn gcd_is_greatest()
+    ensures { (a b : ℕ) → IsGcd a b (gcd a b) }
+{}
