@@ -1,3 +1,5 @@
 pub mod Fits
 pub mod Rows
 pub mod Walks
+pub mod Units
+pub mod Pairs

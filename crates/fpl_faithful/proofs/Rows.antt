@@ -19,6 +19,7 @@ use Rattle.fpl_numbers.specs.Results.{map_ok, and_then}
 use Rattle.fpl_numbers.specs.Reads.{Reads}
 use Rattle.fpl_scalar.specs.Vectors.{AreElements, axpy_of, scale_of}
 use Rattle.fpl_table.specs.Value.{zero_row, padded, add_at, add_row}
+use Rattle.fpl_faithful.specs.Premises.{IsFor}
 use Rattle.fpl_faithful.proofs.Fits.{ok_same, first_fits, part_fits}
 
 -- 0 and 1 as plain numbers
@@ -28,13 +29,7 @@ pub record HasUnits (kind : Kind) (K : Field) (value : Num → K.Carrier) : Type
   pub unit_is : value (residue 1) ≡ K.unit
 
 module _ (kind : Kind) (K : Field) (value : Num → K.Carrier) (reads : Reads kind K value) (units : HasUnits kind K value) where
-  -- a row of n elements that stands for the vector v
-  pub record IsFor (n : ℕ) (v : Vector K) (row : List Num) : Type 0 where
-    pub elements : AreElements kind row
-    pub long : length row ≡ n
-    pub vector : vector_of K value row ≡ v
-
-  pub for_same : (n : ℕ) (v w : Vector K) (row : List Num) → v ≡ w → IsFor n v row → IsFor n w row
+  pub for_same : (n : ℕ) (v w : Vector K) (row : List Num) → v ≡ w → IsFor kind K value n v row → IsFor kind K value n w row
   for_same n v w row e h = record { elements = h.elements; long = h.long; vector = h.vector ∙ e }
 
   pub nought_is : value (residue 0) ≡ K.nought
@@ -55,7 +50,7 @@ module _ (kind : Kind) (K : Field) (value : Num → K.Carrier) (reads : Reads ki
   zeros_at (suc n) zero = nought_is
   zeros_at (suc n) (suc s) = zeros_at n s
 
-  pub zero_row_reads : (n : ℕ) → IsFor n (vzero K) (zero_row n)
+  pub zero_row_reads : (n : ℕ) → IsFor kind K value n (vzero K) (zero_row n)
   unfolding vzero
   zero_row_reads n = record { elements = All-replicate (IsElement kind) n (residue 0) units.nought; long = length-replicate n (residue 0); vector = fun_ext (zeros_at n) }
 
@@ -64,7 +59,7 @@ module _ (kind : Kind) (K : Field) (value : Num → K.Carrier) (reads : Reads ki
   padded_at (x ∷ xs) n zero = refl
   padded_at (x ∷ xs) n (suc s) = padded_at xs n s
 
-  pub padded_reads : (n : ℕ) (row : List Num) → AreElements kind row → length row ≤ n → IsFor n (vector_of K value row) (padded n row)
+  pub padded_reads : (n : ℕ) (row : List Num) → AreElements kind row → length row ≤ n → IsFor kind K value n (vector_of K value row) (padded n row)
   padded_reads n row h l = record {
     elements = All-append (IsElement kind) row (zero_row (n - length row)) h (All-replicate (IsElement kind) (n - length row) (residue 0) units.nought);
     long = omega (arith, length-append row (zero_row (n - length row)), length-replicate (n - length row) (residue 0));
@@ -95,8 +90,8 @@ module _ (kind : Kind) (K : Field) (value : Num → K.Carrier) (reads : Reads ki
           set_other row s t x d ∙ sym (K.plus-nought _) ∙ ap (K.plus (vector_of K value row t)) (sym (ap (K.times (value c)) (place_other K s t d) ∙ times-nought K (value c)))
 
   -- a number added at a place
-  pub add_at_reads : (n : ℕ) (w : Vector K) (v z : List Num) (s : ℕ) (c : Num) → IsFor n w v → IsElement kind c → s < n → add_at kind v s c ≡ Ok z →
-    IsFor n (vplus K w (scale K (value c) (place K s))) z
+  pub add_at_reads : (n : ℕ) (w : Vector K) (v z : List Num) (s : ℕ) (c : Num) → IsFor kind K value n w v → IsElement kind c → s < n → add_at kind v s c ≡ Ok z →
+    IsFor kind K value n (vplus K w (scale K (value c) (place K s))) z
   unfolding vplus scale
   add_at_reads n w v z s c h b l e =
       let inside : s < length v = omega (arith, h.long) in
@@ -133,7 +128,7 @@ module _ (kind : Kind) (K : Field) (value : Num → K.Carrier) (reads : Reads ki
       go t rest h k (suc s) = k s
 
   -- a row added
-  pub add_row_reads : (n : ℕ) (w : Vector K) (v x z : List Num) → IsFor n w v → AreElements kind x → length x ≤ n → add_row kind v x ≡ Ok z → IsFor n (vplus K w (vector_of K value x)) z
+  pub add_row_reads : (n : ℕ) (w : Vector K) (v x z : List Num) → IsFor kind K value n w v → AreElements kind x → length x ≤ n → add_row kind v x ≡ Ok z → IsFor kind K value n (vplus K w (vector_of K value x)) z
   unfolding vplus
   add_row_reads n w v x z h d l e =
       let k = sum_places v x z h.elements d (omega (arith, h.long)) e in
@@ -164,8 +159,8 @@ module _ (kind : Kind) (K : Field) (value : Num → K.Carrier) (reads : Reads ki
       go t rest h k (suc s) = k s
 
   -- a multiple of a row added
-  pub axpy_reads : (n : ℕ) (w : Vector K) (v x z : List Num) (c : Num) → IsFor n w v → IsElement kind c → AreElements kind x → length x ≤ n → axpy_of kind v c x ≡ Ok z →
-    IsFor n (vplus K w (scale K (value c) (vector_of K value x))) z
+  pub axpy_reads : (n : ℕ) (w : Vector K) (v x z : List Num) (c : Num) → IsFor kind K value n w v → IsElement kind c → AreElements kind x → length x ≤ n → axpy_of kind v c x ≡ Ok z →
+    IsFor kind K value n (vplus K w (scale K (value c) (vector_of K value x))) z
   unfolding vplus scale
   axpy_reads n w v x z c h b d l e =
       let k = axpy_places v x z c h.elements b d (omega (arith, h.long)) e in
@@ -189,7 +184,7 @@ module _ (kind : Kind) (K : Field) (value : Num → K.Carrier) (reads : Reads ki
       go t rest h k (suc s) = k s
 
   -- a multiple of a row
-  pub scale_reads : (n : ℕ) (w : Vector K) (v z : List Num) (c : Num) → IsFor n w v → IsElement kind c → scale_of kind c v ≡ Ok z → IsFor n (scale K (value c) w) z
+  pub scale_reads : (n : ℕ) (w : Vector K) (v z : List Num) (c : Num) → IsFor kind K value n w v → IsElement kind c → scale_of kind c v ≡ Ok z → IsFor kind K value n (scale K (value c) w) z
   unfolding scale
   scale_reads n w v z c h b e =
       let k = scale_places v z c h.elements b e in
@@ -206,7 +201,7 @@ module _ (kind : Kind) (K : Field) (value : Num → K.Carrier) (reads : Reads ki
       All-cons (IsElement kind) (negative_of kind x) (map (negative_of kind) xs) (reads.negative x (All-head (IsElement kind) x xs a)).0 (minus_elements xs (All-tail (IsElement kind) x xs a))
 
   -- minus a row
-  pub minus_reads : (n : ℕ) (w : Vector K) (v : List Num) → IsFor n w v → IsFor n (scale K (K.minus K.unit) w) (map (negative_of kind) v)
+  pub minus_reads : (n : ℕ) (w : Vector K) (v : List Num) → IsFor kind K value n w v → IsFor kind K value n (scale K (K.minus K.unit) w) (map (negative_of kind) v)
   unfolding scale
   minus_reads n w v h = record {
     elements = minus_elements v h.elements;
