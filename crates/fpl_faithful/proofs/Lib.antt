@@ -3,3 +3,4 @@ pub mod Rows
 pub mod Walks
 pub mod Units
 pub mod Pairs
+pub mod Products
