@@ -4,3 +4,4 @@ pub mod Walks
 pub mod Units
 pub mod Pairs
 pub mod Products
+pub mod Values
