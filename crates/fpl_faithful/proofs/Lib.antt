@@ -5,3 +5,4 @@ pub mod Units
 pub mod Pairs
 pub mod Products
 pub mod Values
+pub mod Forms

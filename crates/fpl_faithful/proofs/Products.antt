@@ -72,10 +72,10 @@ module _ (T : PlainTable) (is_field : IsField T.kind) where
       ap (λ c. scale K c v) ((reads.negative m is).1 ∙ sym (ap K.minus (unit-times K _)) ∙ sym (minus-times K K.unit _) ∙ K.times_comm _ _) ∙ sym (scale_scale K _ _ v)
       ∙ times_twice x y m (scale K (K.minus K.unit) v) e
 
-  abbrev entry : ℕ → ℕ → Vector K
+  abbrev pub entry : ℕ → ℕ → Vector K
   entry i j = vector_in T.kind (entry_row T i j)
 
-  product_within : (i j : ℕ) → weight T i + weight T j ≤ T.weight → product K (table_in T.kind T) i j ≡ paired K entry (pairing T i j)
+  pub product_within : (i j : ℕ) → weight T i + weight T j ≤ T.weight → product K (table_in T.kind T) i j ≡ paired K entry (pairing T i j)
   unfolding product
   product_within i j h = let e : nat_le (weight T i + weight T j) T.weight ≡ true = grind arith in rw e (paired_is T K entry i j)
 

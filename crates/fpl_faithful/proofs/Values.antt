@@ -74,8 +74,8 @@ module _ (T : PlainTable) (is_field : IsField T.kind) (rows : HasRows T) (weight
   by_light e true h l r v f k = k f
   by_light e false h l r v f k = subst (Stands T is_field n (value_in (in_field T.kind e))) (ok_same f) (same T is_field n _ _ (zero_row n) (sym (zero_heavy e h l)) zero_reads)
 
-  row_of : (v : Vector (field_of T.kind)) (row : List Num) → Stands T is_field n v row → IsRowIn T row
-  row_of v row h = record { elements = h.elements; short = let l = h.long in omega arith }
+  pub is_row : (v : Vector (field_of T.kind)) (row : List Num) → Stands T is_field n v row → IsRowIn T row
+  is_row v row h = record { elements = h.elements; short = let l = h.long in omega arith }
 
   image_in : (g : ℕ) → IsRowIn T (image_row T g)
   image_in g = all_or (IsRowIn T) T.images g [] rows.images (empty_row T)
@@ -83,7 +83,7 @@ module _ (T : PlainTable) (is_field : IsField T.kind) (rows : HasRows T) (weight
   bracket_is : (a b : Tree Num) (x y z : List Num) → Stands T is_field n (value_in (in_field T.kind a)) x → Stands T is_field n (value_in (in_field T.kind b)) y → bracket_of T x y ≡ Ok z →
       Stands T is_field n (bracket (field_of T.kind) (table_in T.kind T) (value_in (in_field T.kind a)) (value_in (in_field T.kind b))) z
   bracket_is a b x y z h k e =
-      same T is_field n _ _ z (ap₂ (bracket (field_of T.kind) (table_in T.kind T)) h.vector k.vector) (bracket_reads T is_field rows x y z (row_of _ x h) (row_of _ y k) e)
+      same T is_field n _ _ z (ap₂ (bracket (field_of T.kind) (table_in T.kind T)) h.vector k.vector) (bracket_reads T is_field rows x y z (is_row _ x h) (is_row _ y k) e)
 
   sum_is : (e : Tree Num) (w : Vector (field_of T.kind)) (v x z : List Num) → Stands T is_field n w v → Stands T is_field n (value_in (in_field T.kind e)) x → add_row T.kind v x ≡ Ok z →
       Stands T is_field n (vplus (field_of T.kind) w (value_in (in_field T.kind e))) z
