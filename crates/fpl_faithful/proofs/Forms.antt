@@ -58,7 +58,7 @@ module _ (T : PlainTable) (is_field : IsField T.kind) where
   pair_inside : (i j a b : ℕ) → IsPairOf T i j a b → weight T i + weight T j ≡ suc T.weight → pair_place T a b < m
   pair_inside i j a b p w = (lists.number_of F (shell_in T.kind T) (table_in T.kind T) (of_pair a b) (is_pair a b p.first p.second (p.weights ∙ w) p.regular)).0
 
-  minus_once : (c : Num) (v : Vector F) → IsElement T.kind c → scale F (number_of T.kind (negative_of T.kind c)) v ≡ scale F (number_of T.kind c) (scale F (F.minus F.unit) v)
+  pub minus_once : (c : Num) (v : Vector F) → IsElement T.kind c → scale F (number_of T.kind (negative_of T.kind c)) v ≡ scale F (number_of T.kind c) (scale F (F.minus F.unit) v)
   minus_once c v is =
       ap (λ a. scale F a v) (((reads T is_field).negative c is).1 ∙ sym (ap F.minus (unit-times F _)) ∙ sym (minus-times F F.unit _) ∙ F.times_comm _ _) ∙ sym (scale_scale F _ _ v)
 

@@ -6,3 +6,4 @@ pub mod Pairs
 pub mod Products
 pub mod Values
 pub mod Forms
+pub mod Triples

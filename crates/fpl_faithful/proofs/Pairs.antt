@@ -27,13 +27,13 @@ module _ (T : PlainTable) where
   abbrev pub weight : ℕ → ℕ
   weight i = (plain_basis T i).weight
 
-  pairing_below : (i j : ℕ) → i < j → pairing T i j ≡ plus i j
+  pub pairing_below : (i j : ℕ) → i < j → pairing T i j ≡ plus i j
   pairing_below i j l = grind arith
 
   pairing_above : (i j : ℕ) → j < i → pairing T i j ≡ exchanged (parity i) (parity j) j i
   pairing_above i j l = grind arith
 
-  pairing_itself : (i : ℕ) → pairing T i i ≡ itself (parity i) i
+  pub pairing_itself : (i : ℕ) → pairing T i i ≡ itself (parity i) i
   pairing_itself i = grind arith
 
   exchanged_is : (K : Field) (entry : ℕ → ℕ → Vector K) (s t : Parity) (i j : ℕ) → scale K (K.minus (sign K s t)) (entry i j) ≡ paired K entry (exchanged s t i j)
