@@ -4,3 +4,4 @@ pub mod Spans
 pub mod Ascending
 pub mod ClosedLists
 pub mod Found
+pub mod Remainders
