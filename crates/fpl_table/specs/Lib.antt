@@ -5,3 +5,4 @@ pub mod Push
 pub mod Standard
 pub mod Truncate
 pub mod Whole
+pub mod Cells

@@ -8,6 +8,9 @@ ghost use Rattle.fpl_table.specs.Shape.{HasShape, IsNumbered, basis_trees};
 ghost use Rattle.fpl_table.specs.Standard.{start_of};
 ghost use Rattle.fpl_table.specs.Whole.{pair_in, IsPairWithin, shape_in};
 
+mod count;
+mod entry;
+
 use crate::shape::Shape;
 use crate::{Basis, PairSign};
 use fpl_model::{Generators, Mono, Parity, Presentation};
@@ -137,6 +140,7 @@ impl<F: Field> Table<F> {
         requires { (1 ≤ i) × (i ≤ length self.now.basis) }
         ensures value { basis_in result ≡ plain_basis self.now (i - 1) }
         ensures from_one { IsNumbered result.symbol }
+        ensures shape { HasShape self.now }
     {
         self.elements[i as usize - 1].basis
     }
