@@ -2,3 +2,4 @@ pub mod Lists
 pub mod Shapes
 pub mod Weights
 pub mod Entries
+pub mod Cells

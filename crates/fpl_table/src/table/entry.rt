@@ -1,5 +1,6 @@
 ghost use Rattle.std.specs.Prelude.{◌≡◌, ◌≤◌, ◌<◌, ◌+◌, ◌-◌, ◌⊎◌, length};
 ghost use Rattle.fpl_algebra.specs.Tree.{odd};
+ghost use Rattle.fpl_table.specs.Shape.{HasShape};
 ghost use Rattle.fpl_table.specs.Plain.{plain_basis, through, first_partner, partner_from, entry_row};
 
 use super::Table;
@@ -13,6 +14,7 @@ impl<F: Field> Table<F> {
         requires { w ≤ self.now.weight }
         ensures value { result ≡ through self.now w }
         ensures within { result ≤ length self.now.basis }
+        ensures shape { HasShape self.now }
     {
         let levels = self.levels.as_slice();
         if w == 0 {
@@ -30,6 +32,7 @@ impl<F: Field> Table<F> {
         ensures from { result.0 ≡ partner_from self.now (i - 1) w }
         ensures to { result.1 ≡ through self.now (w - (plain_basis self.now (i - 1)).weight) }
         ensures within { result.1 ≤ length self.now.basis }
+        ensures shape { HasShape self.now }
     {
         let element = self.basis(i);
         let first = match element.parity {
