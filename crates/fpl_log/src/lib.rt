@@ -1,6 +1,12 @@
-//! Temporary.
+//! Steps of an elimination, their conclusions, and the sections that keep them.
 #![tactic(auto)]
 
+mod closed;
+mod section;
 mod step;
+mod terms;
 
-pub use step::Origin;
+pub use closed::{ClosedList, ClosedRow, Coefficient};
+pub use section::{Section, Sections};
+pub use step::{Origin, Step, StepList};
+pub use terms::{Term, Terms};

@@ -1,5 +1,5 @@
 -- The plain tree of an expression, form by form.
-use Rattle.std.proofs.Common.{◌≡◌, List, map, refl, ap, sym, ◌∙◌}
+use Rattle.std.proofs.Common.{◌≡◌, List, map, ap, sym, ◌∙◌}
 use Rattle.fpl_numbers.specs.declared.number.Num.{Num}
 use Rattle.fpl_algebra.specs.Tree.{Tree, gen, none, sum_of, multiple, bracket_of, trees}
 use Rattle.fpl_model.specs.declared.expr.Expr.{Expr, Expr-F, fold-roll-Expr}

@@ -3,13 +3,14 @@
 --   plain e             the tree of an expression, with generators counted from 1, over plain numbers
 --   in_field k t        such a tree with generators counted from 0, over the numbers of the field of kind k
 --   tree_in k e         both: the tree that an expression stands for
+--   trees_in k es       the trees of a list of expressions
 --   parity_in s         a parity
 --   generators_in p     the weights and parities of a presentation's generators
 --   equation_in k q     the two sides of an equation, over the field of kind k
 --   presentation_in p   the presentation over the numbers of its field
 --
 -- Code and texts count generators from 1, the mathematics counts them from 0. The shift stands in in_field, and nowhere else.
-use Rattle.std.specs.Prelude.{ℕ, ◌-◌, List, map}
+use Rattle.std.specs.Prelude.{◌-◌, List, map}
 use Rattle.fpl_numbers.specs.declared.number.Num.{Num}
 use Rattle.fpl_numbers.specs.declared.number.Kind.{Kind}
 use Rattle.fpl_numbers.specs.Kinds.{Number, number_of}
@@ -48,6 +49,9 @@ abbrev mutual
 
 abbrev pub tree_in : (k : Kind) → Expr → Tree (Number k)
 tree_in k e = in_field k (plain e)
+
+abbrev pub trees_in : (k : Kind) → List Expr → Trees (Number k)
+trees_in k es = all_in_field k (trees (map plain es))
 
 abbrev pub parity_in : Parity → algebra.Parity
 parity_in Even = algebra.even

@@ -3,11 +3,13 @@
 --   count_tree t        how many places of generators a tree has
 --   places p            how many relations, ideal elements, queries and places of generators a presentation has, taken together
 --   deep t              how deep the brackets and parentheses of a tree's canonical text nest
+--   IsTerm k n t        its generators are numbered 1 to n, and its numbers are canonical and fit
+--   HaveWeights gs      each generator has a weight from 1 to 1000
 --   IsWithin k n t      its generators are numbered 1 to n, its numbers are canonical and fit, its sums have at least two members
 --   IsExpression p e    an expression of p, whose canonical text nests at most 64 deep
 --   IsHomogeneous p t u two sides, taken as one sum, have at most one weight and at most one parity
 --   IsSound p           a sound presentation
-use Rattle.std.specs.Prelude.{ℕ, ◌≡◌, ◌≢◌, ◌<◌, ◌≤◌, ◌+◌, ◌^◌, List, [], ◌∷◌, length, max, map, sum, All, get_or}
+use Rattle.std.specs.Prelude.{ℕ, ◌≢◌, ◌<◌, ◌≤◌, ◌+◌, ◌^◌, List, [], length, max, map, sum, All, get_or}
 use Rattle.fpl_numbers.specs.declared.number.Num.{Num}
 use Rattle.fpl_numbers.specs.declared.number.Kind.{Kind}
 use Rattle.fpl_numbers.specs.Numbers.{IsElement, IsField}
@@ -71,6 +73,21 @@ many end = 0
 many (more e es) = many es + 1
 
 abbrev mutual
+  pub IsTerm : (k : Kind) (generators : ℕ) → Tree Num → Type 0
+  IsTerm k n (gen g) = (1 ≤ g) × (g ≤ n)
+  IsTerm k n none = Unit {0}
+  IsTerm k n (sum_of es) = AreTerms k n es
+  IsTerm k n (multiple c e) = IsElement k c × IsTerm k n e
+  IsTerm k n (bracket_of a b) = IsTerm k n a × IsTerm k n b
+
+  pub AreTerms : (k : Kind) (generators : ℕ) → Trees Num → Type 0
+  AreTerms k n end = Unit {0}
+  AreTerms k n (more e es) = IsTerm k n e × AreTerms k n es
+
+abbrev pub HaveWeights : List Generator → Type 0
+HaveWeights gs = All (λ g. (1 ≤ g.weight) × (g.weight ≤ 1000)) gs
+
+abbrev mutual
   pub IsWithin : (k : Kind) (generators : ℕ) → Tree Num → Type 0
   IsWithin k n (gen g) = (1 ≤ g) × (g ≤ n)
   IsWithin k n none = Unit {0}
@@ -101,7 +118,7 @@ name_at p i = get_or (map (λ g. g.name) p.generators) i []
 pub record IsSound (p : Presentation) : Type 0 where
   pub field : IsField p.field
   pub few : length p.generators ≤ 64
-  pub weights : All (λ g. (1 ≤ g.weight) × (g.weight ≤ 1000)) p.generators
+  pub weights : HaveWeights p.generators
   pub names : All (λ g. IsName g.name) p.generators
   pub distinct : (i j : ℕ) → i < j → j < length p.generators → name_at p i ≢ name_at p j
   pub small : places p < 2 ^ 32

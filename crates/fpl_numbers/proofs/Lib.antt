@@ -7,3 +7,4 @@ pub mod FractionReads
 pub mod ResidueReads
 pub mod Fitting
 pub mod KindReads
+pub mod FractionProducts

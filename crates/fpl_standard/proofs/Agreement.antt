@@ -61,7 +61,7 @@ module _ (K : Field) (P : Presentation K.Carrier) (symbol tree' : ℕ → Expres
       (back (combined_vplus K P symbol s _ _)))
 
 -- combinations of the new weight that are derivably equal are the same
-symbol_over : (K : Field) (P : Presentation K.Carrier) (T : Table K) (tree : ℕ → Expression K) → ((i : ℕ) → i < length T.basis → IsOver P (tree i)) → (x : Symbol) → IsSymbol P T x → IsOver P (symbol_tree tree x)
+pub symbol_over : (K : Field) (P : Presentation K.Carrier) (T : Table K) (tree : ℕ → Expression K) → ((i : ℕ) → i < length T.basis → IsOver P (tree i)) → (x : Symbol) → IsSymbol P T x → IsOver P (symbol_tree tree x)
 symbol_over K P T tree over _ (is_generator g l w) = over_gen g l
 symbol_over K P T tree over _ (is_pair i j l k w r) = over_bracket (over i l) (over j k)
 
@@ -177,7 +177,7 @@ module _ (K : Field) (P : Presentation K.Carrier) (T S : Table K) (tree twig : �
   at_same : (s : ℕ) → symbol_at P T s ≡ symbol_at P S s
   at_same s = ap (λ l. get_or l s no_symbol) symbols_same
 
-  symbol_same : (s : ℕ) → s < length (symbols P T) → symbol_tree tree (symbol_at P T s) ≡ symbol_tree twig (symbol_at P S s)
+  pub symbol_same : (s : ℕ) → s < length (symbols P T) → symbol_tree tree (symbol_at P T s) ≡ symbol_tree twig (symbol_at P S s)
   symbol_same s l = tree_same (symbol_at P T s) (place_symbol K P T s l) ∙ ap (symbol_tree twig) (at_same s)
 
   combination_there : (s : ℕ) → s < length (symbols P T) → IsCombination K P T tree s → IsCombination K P S twig s

@@ -1,0 +1,5 @@
+pub mod Sweeping
+pub mod PivotRows
+pub mod Spans
+pub mod Ascending
+pub mod ClosedLists
