@@ -192,7 +192,7 @@ module _ (T : PlainTable) (is_field : IsField T.kind) where
   written e = weight_of (shell_in T.kind T) (in_field T.kind e)
 
   uncounted : (e : Tree Num) → IsWithin T.kind (length T.generators) e → counts T e ≡ false → row_in (in_field T.kind e) ≡ vzero F
-  uncounted e h f = void_row (void_by (written e) (in_field T.kind e) (weight_means (shell_in T.kind T) (over_is T e h)) f)
+  uncounted e h f = void_row (void_by (written e) (in_field T.kind e) (weight_means (shell_in T.kind T) (over_is T.kind (shell_in T.kind T) e h)) f)
 
   -- 0 where the expression has no weight, and else what the rest gives
   by_count : (e : Tree Num) (b : Bool) → IsWithin T.kind (length T.generators) e → counts T e ≡ b → (r : Result (List Num) Unfit) (v : List Num) → (if b then r else Ok (zero_row m)) ≡ Ok v →
@@ -210,7 +210,7 @@ module _ (T : PlainTable) (is_field : IsField T.kind) where
   module _ (rows : HasRows T) (weights : HasWeights T) where
     part_weight : (e : Tree Num) (d : ℕ) → IsWithin T.kind (length T.generators) e → written e ≡ exact d → IsOf F (table_in T.kind T) d (val F (table_in T.kind T) (in_field T.kind e))
     part_weight e d h k =
-        value_weight T is_field rows weights (in_field T.kind e) d (subst (λ w. WeightMeans (shell_in T.kind T) w (in_field T.kind e)) k (weight_means (shell_in T.kind T) (over_is T e h)))
+        value_weight T is_field rows weights (in_field T.kind e) d (subst (λ w. WeightMeans (shell_in T.kind T) w (in_field T.kind e)) k (weight_means (shell_in T.kind T) (over_is T.kind (shell_in T.kind T) e h)))
 
     bracket_row : (a b : Tree Num) → IsWithin T.kind (length T.generators) a → IsWithin T.kind (length T.generators) b →
         (p : (c : ℕ) × (d : ℕ) × (written a ≡ exact c) × (written b ≡ exact d) × (c + d ≡ suc T.weight)) → (x y v : List Num) → value_of T a ≡ Ok x → value_of T b ≡ Ok y → outer_of T x y ≡ Ok v →

@@ -7,7 +7,6 @@ pub mod Products
 pub mod Values
 pub mod Forms
 pub mod Triples
-pub mod Three
 pub mod Listed
 pub mod Sources
 pub mod Fitting

@@ -6,7 +6,7 @@ use native.Mathlib.Omega.{arith}
 use native.Mathlib.Decide.{ℕ_discrete}
 use Rattle.std.proofs.lemmas.List.Elements.{Contains-append_left, Contains-append_right, Contains-append_cases}
 use Rattle.fpl_numbers.specs.declared.number.Kind.{Kind}
-use Rattle.fpl_numbers.specs.declared.number.Kind.TheVariants.{Prime}
+use Rattle.fpl_numbers.specs.declared.number.Kind.TheVariants.{Rational, Prime}
 use Rattle.fpl_algebra.specs.Tree.{Parity, even, odd}
 use Rattle.fpl_algebra.specs.Degrees.{Degree, any, exact, mixed}
 use Rattle.fpl_algebra.specs.Symbols.{is_odd}
@@ -17,7 +17,10 @@ use Rattle.fpl_log.specs.declared.step.Origin.TheVariants.{Relation, Jacobi, Cub
 use Rattle.fpl_table.specs.Plain.{PlainTable}
 use Rattle.fpl_rewrite.specs.Origins.{joined, relation_weight, is_exactly, relations_from, relations_of, is_triple, triples_of, is_cube, is_three, cubes_of, origins_of}
 use Rattle.fpl_faithful.proofs.Pairs.{weight, parity}
-use Rattle.fpl_faithful.proofs.Three.{is_three_kind, is_three_test}
+
+is_three_kind : (k : Kind) → is_three k ≡ true → k ≡ Prime 3
+is_three_kind Rational e = absurd (let k : ⊥ = cc in k)
+is_three_kind (Prime p) e = ap Prime (grind arith)
 
 one_if : {A : Type 0} (b : Bool) (x y : A) → Contains (cond b (x ∷ []) []) y → (b ≡ true) × (x ≡ y)
 one_if true x y h = (refl, go h.0 h.1 h.2)
@@ -140,7 +143,7 @@ module _ (T : PlainTable) where
 
   cubes_have : (i : ℕ) → IsCube i → Contains (cubes_of T) (Cube (i + 1))
   cubes_have i h =
-      rw (is_three_test T.kind h.three)
+      rw (ap is_three h.three)
       (joined_has n (λ i. cond (is_cube T i) (Cube (i + 1) ∷ []) []) (Cube (i + 1)) i h.below (if_one _ (Cube (i + 1)) (is_cube_of i h)))
 
   -- what is so of an origin of the list

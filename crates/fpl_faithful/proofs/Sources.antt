@@ -31,7 +31,7 @@ use Rattle.fpl_faithful.proofs.Pairs.{weight, parity}
 use Rattle.fpl_faithful.proofs.Products.{Stands, same}
 use Rattle.fpl_faithful.proofs.Forms.{relation_reads}
 use Rattle.fpl_faithful.proofs.Triples.{jacobi_reads, cube_reads}
-use Rattle.fpl_faithful.proofs.Three.{three_is}
+use Rattle.fpl_theorems.proofs.Three.{three_is}
 use Rattle.fpl_faithful.proofs.Listed.{IsTriple, IsCube, IsListed, listed_relation, listed_triple, listed_cube, listed, is_listed}
 
 -- weights as written depend on the generators alone
@@ -65,9 +65,9 @@ equation_at T (q ∷ qs) (suc k) d l =
     let f : 1 + suc k - 1 ≡ 1 + k = omega arith in
     rw (e, f) (equation_at T qs k d (omega arith))
 
-some_equation : (qs : List Equation) (k : ℕ) → k < length qs → Equation
-some_equation [] k l = absurd (omega arith)
-some_equation (q ∷ qs) k l = q
+pub some_of : {A : Type 0} (xs : List A) (k : ℕ) → k < length xs → A
+some_of [] k l = absurd (omega arith)
+some_of (x ∷ xs) k l = x
 
 shift : (i : ℕ) → i ≡ i + 1 - 1
 shift i = omega arith
@@ -114,7 +114,7 @@ module _ (T : PlainTable) (is_field : IsField T.kind) (rows : HasRows T) (weight
   relation_stands : (k : ℕ) → k < length p.relations → ((d : Equation) → relation_weight T (get_or p.relations k d) ≡ exact (suc T.weight)) → (v : List Num) → equation_row T p.relations (1 + k) ≡ Ok v →
       Stands T is_field m (relation_row F P (table_in T.kind T) k) v
   relation_stands k l w v e =
-      let d = some_equation p.relations k l in
+      let d = some_of p.relations k l in
       let h = within k d l in
       same T is_field m _ _ v (ap (relation_by (symbols_in T)) (sym (equation_is k d l)) ∙ ap (λ s. relation_by s (get_or (map (equation_in T.kind) p.relations) k (none, none))) (sym symbols_same))
       (relation_reads T is_field rows weights (get_or p.relations k d) h.0 h.1 (w d) v (sym (equation_at T p.relations k d l) ∙ e))
@@ -146,7 +146,7 @@ module _ (T : PlainTable) (is_field : IsField T.kind) (rows : HasRows T) (weight
   pub origin_source : (o : Origin) → IsListed T p o → IsSource F P (table_in T.kind T) (origin_vector o)
   origin_source _ (listed_relation k l h) =
       subst (λ r. IsSource F P (table_in T.kind T) (relation_row F P (table_in T.kind T) r)) (let g : k ≡ 1 + k - 1 = omega arith in g)
-      (of_relation k (omega (arith, length-map p.relations (equation_in T.kind))) (weight_is k (some_equation p.relations k l) l ∙ h (some_equation p.relations k l)))
+      (of_relation k (omega (arith, length-map p.relations (equation_in T.kind))) (weight_is k (some_of p.relations k l) l ∙ h (some_of p.relations k l)))
   origin_source _ (listed_triple i j k h) =
       at_shifts (λ a b c. IsSource F P (table_in T.kind T) (jacobi_row F (table_in T.kind T) (pair_number P (table_in T.kind T)) a b c)) i j k (of_triple i j k h.first h.second h.third h.sum)
   origin_source _ (listed_cube i h) =

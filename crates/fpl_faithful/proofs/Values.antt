@@ -5,12 +5,13 @@ use native.Mathlib.Omega.{arith}
 use Rattle.fpl_linear.specs.Vector.{Vector, vzero, vplus, scale}
 use Rattle.fpl_linear.proofs.Vectors.{vplus_assoc, vplus-vzero, vzero-vplus}
 use Rattle.fpl_numbers.specs.declared.number.Num.{Num}
+use Rattle.fpl_numbers.specs.declared.number.Kind.{Kind}
 use Rattle.fpl_numbers.specs.declared.number.Unfit.{Unfit}
 use Rattle.fpl_numbers.specs.Numbers.{IsField, IsElement}
 use Rattle.fpl_numbers.specs.Results.{and_then}
 use Rattle.fpl_numbers.specs.Kinds.{field_of, number_of, Number}
 use Rattle.fpl_scalar.specs.Vectors.{scale_of}
-use Rattle.fpl_algebra.specs.Tree.{Tree, Trees, gen, none, sum_of, multiple, bracket_of as br, end, more, IsOver, AreOver}
+use Rattle.fpl_algebra.specs.Tree.{Tree, Trees, gen, none, sum_of, multiple, bracket_of as br, end, more, Presentation, IsOver, AreOver}
 use Rattle.fpl_algebra.specs.Tree.IsOver.{over_gen, over_none, over_sum, over_multiple, over_bracket}
 use Rattle.fpl_algebra.specs.Tree.AreOver.{over_end, over_more}
 use Rattle.fpl_algebra.specs.Degrees.{Degree, any, exact, mixed, weight_of}
@@ -29,18 +30,18 @@ use Rattle.fpl_faithful.proofs.Fits.{ok_same, first_fits}
 use Rattle.fpl_faithful.proofs.Rows.{zero_row_reads, padded_reads, scale_reads, add_row_reads}
 use Rattle.fpl_faithful.proofs.Products.{K, reads, units, Stands, same, all_or, empty_row, bracket_reads}
 
--- an expression within the generators of a table is one over them
+-- an expression within the generators of a presentation is one over it
 mutual
-  pub over_is : (T : PlainTable) (e : Tree Num) → IsWithin T.kind (length T.generators) e → IsOver (shell_in T.kind T) (in_field T.kind e)
-  over_is T (gen g) h = over_gen (g - 1) (let l = h.0 in let m = h.1 in omega arith)
-  over_is T none h = over_none
-  over_is T (sum_of es) h = over_sum (overs_are T es h.1)
-  over_is T (multiple c e) h = over_multiple (over_is T e h.1)
-  over_is T (br a b) h = over_bracket (over_is T a h.0) (over_is T b h.1)
+  pub over_is : (k : Kind) (P : Presentation (Number k)) (e : Tree Num) → IsWithin k (length P.generators) e → IsOver P (in_field k e)
+  over_is k P (gen g) h = over_gen (g - 1) (let l = h.0 in let m = h.1 in omega arith)
+  over_is k P none h = over_none
+  over_is k P (sum_of es) h = over_sum (overs_are k P es h.1)
+  over_is k P (multiple c e) h = over_multiple (over_is k P e h.1)
+  over_is k P (br a b) h = over_bracket (over_is k P a h.0) (over_is k P b h.1)
 
-  pub overs_are : (T : PlainTable) (es : Trees Num) → AreWithin T.kind (length T.generators) es → AreOver (shell_in T.kind T) (all_in_field T.kind es)
-  overs_are T end h = over_end
-  overs_are T (more e es) h = over_more (over_is T e h.0) (overs_are T es h.1)
+  pub overs_are : (k : Kind) (P : Presentation (Number k)) (es : Trees Num) → AreWithin k (length P.generators) es → AreOver P (all_in_field k es)
+  overs_are k P end h = over_end
+  overs_are k P (more e es) h = over_more (over_is k P e h.0) (overs_are k P es h.1)
 
 module _ (T : PlainTable) (is_field : IsField T.kind) (rows : HasRows T) (weights : HasWeights T) where
   abbrev n : ℕ
@@ -63,7 +64,7 @@ module _ (T : PlainTable) (is_field : IsField T.kind) (rows : HasRows T) (weight
 
   -- an expression that isn't light has value 0
   pub zero_heavy : (e : Tree Num) → IsWithin T.kind (length T.generators) e → is_light T e ≡ false → value_in (in_field T.kind e) ≡ vzero (field_of T.kind)
-  zero_heavy e h f = zero_by (in_field T.kind e) (weight_of (shell_in T.kind T) (in_field T.kind e)) (weight_means (shell_in T.kind T) (over_is T e h)) f
+  zero_heavy e h f = zero_by (in_field T.kind e) (weight_of (shell_in T.kind T) (in_field T.kind e)) (weight_means (shell_in T.kind T) (over_is T.kind (shell_in T.kind T) e h)) f
 
   zero_reads : Stands T is_field n (vzero (field_of T.kind)) (zero_row n)
   zero_reads = zero_row_reads T.kind (field_of T.kind) (number_of T.kind) (reads T is_field) (units T is_field) n
