@@ -10,3 +10,4 @@ pub mod Triples
 pub mod Listed
 pub mod Sources
 pub mod Fitting
+pub mod Laws
