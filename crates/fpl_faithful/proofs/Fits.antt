@@ -1,5 +1,5 @@
 -- Where a plain run fits as a whole, so does each part; and where each part fits, so does the whole.
-use Rattle.std.specs.Prelude.{◌≡◌, Result, Ok, Err, Bool, true, false, if◌then◌else◌}
+use Rattle.std.specs.Prelude.{◌≡◌, Result, Ok, Err}
 use mathlib.Core.Path.{sym, refl}
 use Rattle.fpl_numbers.specs.declared.number.Unfit.{Unfit}
 use Rattle.fpl_faithful.specs.PrimeLaws.{IsGiven}

@@ -1,13 +1,13 @@
 -- Over a prime every operation fits, so nothing in the plain run is refused.
-use Rattle.std.specs.Prelude.{◌≡◌, ℕ, ◌+◌, ◌-◌, List, [], ◌∷◌, length, get_or, map, set, Result, Ok, Bool, true, false, cond, nat_eq, nat_le, if◌then◌else◌}
-use mathlib.Core.Path.{sym, refl, ap, subst}
+use Rattle.std.specs.Prelude.{ℕ, ◌+◌, ◌-◌, List, [], ◌∷◌, length, get_or, map, set, Result, Bool, true, false, cond, nat_eq, if◌then◌else◌}
+use mathlib.Core.Path.{refl}
 use Rattle.fpl_numbers.specs.declared.number.Num.{Num}
 use Rattle.fpl_numbers.specs.declared.number.Op.{Op}
 use Rattle.fpl_numbers.specs.declared.number.Op.TheVariants.{Add, Mul}
 use Rattle.fpl_numbers.specs.declared.number.Kind.{Kind}
 use Rattle.fpl_numbers.specs.declared.number.Kind.TheVariants.{Prime}
 use Rattle.fpl_numbers.specs.declared.number.Unfit.{Unfit}
-use Rattle.fpl_numbers.specs.Numbers.{operate, result_of, is_nought, residue, negative_of}
+use Rattle.fpl_numbers.specs.Numbers.{operate, result_of, residue, negative_of}
 use Rattle.fpl_numbers.specs.Results.{map_ok, and_then}
 use Rattle.fpl_scalar.specs.Vectors.{fused, axpy_of, scale_of}
 use Rattle.fpl_algebra.specs.Tree.{Tree, Trees, gen, none, sum_of, multiple, bracket_of as br, end, more}
@@ -19,7 +19,7 @@ use Rattle.fpl_log.specs.declared.step.Origin.{Origin}
 use Rattle.fpl_log.specs.declared.step.Origin.TheVariants.{Relation, Jacobi, Cube, Row}
 use Rattle.fpl_table.specs.Plain.{PlainTable, plain_basis, entry_row, image_row, symbols_in, Pairing, nothing, plus, minus, pairing}
 use Rattle.fpl_table.specs.Value.{zero_row, padded, add_at, add_row, add_entry, add_product, bracket_with, bracket_from, bracket_of, is_light, value_of, values_of}
-use Rattle.fpl_rewrite.specs.Rows.{pair_place, generator_place, add_signed, add_outer, outer_with, outer_from, outer_of, counts, symbol_unit, form_of, forms_of, relation_row_of, entry_if, spread, first_terms, second_terms, swapped, third_terms, jacobi_row_of, cube_row_of, equation_row, row_of_origin}
+use Rattle.fpl_rewrite.specs.Rows.{pair_place, generator_place, add_signed, add_outer, outer_with, outer_from, outer_of, counts, form_of, forms_of, relation_row_of, entry_if, spread, first_terms, second_terms, swapped, third_terms, jacobi_row_of, cube_row_of, equation_row, row_of_origin}
 use Rattle.fpl_faithful.specs.PrimeLaws.{IsGiven}
 use Rattle.fpl_faithful.proofs.Fits.{then_fits, map_fits}
 

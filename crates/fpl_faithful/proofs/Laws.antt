@@ -1,15 +1,15 @@
 -- The laws of tables, over the field of a sound presentation.
-use Rattle.std.specs.Prelude.{◌≡◌, ◌≢◌, ℕ, suc, ◌+◌, ◌<◌, ◌≤◌, List, length, get_or, map, Result, Ok, All, Contains}
-use mathlib.Core.Path.{sym, refl, ap, ap₂, ◌∙◌, subst}
+use Rattle.std.specs.Prelude.{◌≡◌, ◌≢◌, ℕ, ◌+◌, ◌<◌, List, length, get_or, map, Ok, All, Contains}
+use mathlib.Core.Path.{sym, refl, subst}
 use native.Mathlib.Omega.{arith}
 use Rattle.std.proofs.lemmas.List.{get_or-map, length-map}
 use Rattle.fpl_linear.specs.Vector.{Vector}
 use Rattle.fpl_numbers.specs.declared.number.Num.{Num}
 use Rattle.fpl_numbers.specs.declared.number.Kind.{Kind}
 use Rattle.fpl_numbers.specs.Numbers.{IsField}
-use Rattle.fpl_numbers.specs.Kinds.{field_of, number_of, Number}
-use Rattle.fpl_algebra.specs.Tree.{Tree, none, Generator, no_generator, Presentation as Abstract, generator, left, right, IsOver}
-use Rattle.fpl_algebra.specs.Degrees.{mixed, weight_of_both, parity_of_both, IsSoundPresentation}
+use Rattle.fpl_numbers.specs.Kinds.{field_of, Number}
+use Rattle.fpl_algebra.specs.Tree.{Tree, none, Generator, no_generator, Presentation as Abstract, IsOver}
+use Rattle.fpl_algebra.specs.Degrees.{mixed, weight_of_both, parity_of_both}
 use Rattle.fpl_algebra.specs.Table.{IsOf, product, bracket, val}
 use Rattle.fpl_algebra.specs.Symbols.{symbols}
 use Rattle.fpl_algebra.specs.SourceRows.{IsSource}
@@ -17,19 +17,17 @@ use Rattle.fpl_algebra.specs.Built.{Built}
 use Rattle.fpl_algebra.proofs.Equations.{sound_homogeneous}
 use Rattle.fpl_built.proofs.BuiltFacts.{built_whole}
 use Rattle.fpl_theorems.proofs.StandardLaws.{standard_is_built}
-use Rattle.fpl_model.specs.declared.presentation.Equation.{Equation}
 use Rattle.fpl_model.specs.declared.presentation.Presentation.{Presentation}
-use Rattle.fpl_model.specs.Meaning.{plain, in_field, tree_in, generator_in, generators_in, equation_in, presentation_in}
+use Rattle.fpl_model.specs.Meaning.{plain, in_field, generator_in, generators_in, equation_in, presentation_in}
 use Rattle.fpl_model.specs.Sound.{IsWithin, IsSound}
 use Rattle.fpl_log.specs.declared.step.Origin.{Origin}
-use Rattle.fpl_table.specs.Plain.{PlainTable, plain_basis, image_row, vector_in, table_in, shell_in, symbols_in}
+use Rattle.fpl_table.specs.Plain.{PlainTable, plain_basis, image_row, vector_in, table_in, symbols_in}
 use Rattle.fpl_table.specs.Value.{bracket_of, value_of}
-use Rattle.fpl_table.specs.Standard.{IsTableOf}
 use Rattle.fpl_rewrite.specs.Origins.{origins_of}
 use Rattle.fpl_rewrite.specs.Rows.{row_of_origin}
-use Rattle.fpl_faithful.specs.Premises.{IsRowIn, HasRows, HasWeights, IsTableFor}
+use Rattle.fpl_faithful.specs.Premises.{IsRowIn, HasRows, HasWeights}
 use Rattle.fpl_faithful.specs.RowLaws.{Stands}
-use Rattle.fpl_faithful.specs.TableLaws.{SoundStands, WeightsOfBuilt, WeightsOfTable, SymbolsStand, BracketStands, ValueStands, origin_vector, OriginRowsStand, OriginsAreSources, SourcesAreOrigins}
+use Rattle.fpl_faithful.specs.TableLaws.{SoundStands, WeightsOfTable, origin_vector}
 use Rattle.fpl_faithful.proofs.Products.{bracket_reads}
 use Rattle.fpl_faithful.proofs.Values.{over_is, value_reads}
 use Rattle.fpl_faithful.proofs.Listed.{listed, is_listed}

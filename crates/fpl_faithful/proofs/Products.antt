@@ -1,25 +1,23 @@
 -- The plain bracket of two rows is the bracket of their vectors in the table.
-use Rattle.std.specs.Prelude.{◌≡◌, ℕ, ◌+◌, ◌-◌, ◌<◌, ◌≤◌, List, [], ◌∷◌, length, get_or, All, Result, Ok, true, false, Bool, nat_le, if◌then◌else◌}
+use Rattle.std.specs.Prelude.{◌≡◌, ℕ, ◌+◌, ◌-◌, ◌<◌, ◌≤◌, List, [], ◌∷◌, length, get_or, All, Ok, true, false, nat_le, if◌then◌else◌}
 use mathlib.Core.Path.{sym, refl, ap, ap₂, ◌∙◌, subst, fun_ext}
 use native.Mathlib.Omega.{arith}
 use native.Mathlib.Decide.{dec_le, dec_lt}
 use Rattle.std.proofs.lemmas.List.{get_or_past}
 use Rattle.std.proofs.lemmas.List.Elements.{All-get_or, All-nil}
 use Rattle.fpl_fields.specs.Field.{Field}
-use Rattle.fpl_linear.specs.Vector.{Vector, vzero, vplus, scale, bilinear}
-use Rattle.fpl_linear.specs.Lists.{vector_of}
+use Rattle.fpl_linear.specs.Vector.{Vector, vzero, vplus, scale}
 use Rattle.fpl_linear.proofs.Vectors.{vplus-vzero, vzero-vplus, scale_scale, scale-vzero}
 use Rattle.fpl_linear.proofs.Numbers.{minus-times, unit-times}
 use Rattle.fpl_numbers.specs.declared.number.Num.{Num}
 use Rattle.fpl_numbers.specs.declared.number.Op.TheVariants.{Mul}
-use Rattle.fpl_numbers.specs.declared.number.Unfit.{Unfit}
 use Rattle.fpl_numbers.specs.Numbers.{IsField, IsElement, operate, is_nought, negative_of}
 use Rattle.fpl_numbers.specs.Results.{and_then}
 use Rattle.fpl_numbers.specs.Kinds.{field_of, number_of}
 use Rattle.fpl_numbers.specs.Reads.{Reads}
 use Rattle.fpl_numbers.proofs.KindReads.{kind_reads}
-use Rattle.fpl_scalar.specs.Vectors.{AreElements, axpy_of}
-use Rattle.fpl_algebra.specs.Table.{Table, signed, product, bracket}
+use Rattle.fpl_scalar.specs.Vectors.{axpy_of}
+use Rattle.fpl_algebra.specs.Table.{product, bracket}
 use Rattle.fpl_values.proofs.Parts.{product_past}
 use Rattle.fpl_table.specs.Plain.{PlainTable, entry_row, first_partner, vector_in, table_in, Pairing, nothing, plus, minus, pairing}
 use Rattle.fpl_table.specs.Value.{zero_row, add_entry, add_product, bracket_with, bracket_from, bracket_of}
@@ -29,7 +27,7 @@ use Rattle.fpl_faithful.proofs.Fits.{ok_same, first_fits}
 use Rattle.fpl_faithful.proofs.Rows.{HasUnits, for_same, zero_row_reads, axpy_reads}
 use Rattle.fpl_faithful.proofs.Units.{kind_units}
 use Rattle.fpl_faithful.proofs.Walks.{Places, both_walks}
-use Rattle.fpl_faithful.proofs.Pairs.{paired, weight, parity, paired_is, IsPairOf, IsPaired, pairing_is}
+use Rattle.fpl_faithful.proofs.Pairs.{paired, weight, paired_is, IsPaired, pairing_is}
 
 pub all_or : {X : Type 0} (P : X → Type 0) (xs : List X) (i : ℕ) (d : X) → All P xs → P d → P (get_or xs i d)
 all_or P xs i d h k = go (dec_lt i (length xs))

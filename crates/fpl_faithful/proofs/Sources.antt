@@ -1,39 +1,35 @@
 -- The rows of a weight's origins are its source rows.
-use Rattle.std.specs.Prelude.{◌≡◌, ℕ, zero, suc, ◌+◌, ◌-◌, ◌<◌, ◌≤◌, List, [], ◌∷◌, length, get_or, map, Result, Ok, All, Bool, true, false, cond, Contains, nat_eq}
+use Rattle.std.specs.Prelude.{◌≡◌, ℕ, zero, suc, ◌+◌, ◌-◌, ◌<◌, List, [], ◌∷◌, length, get_or, map, Ok, All, false, nat_eq}
 use mathlib.Core.Path.{sym, refl, ap, ap₂, ◌∙◌, subst}
 use native.Mathlib.Omega.{arith}
-use native.Mathlib.Decide.{ℕ_discrete}
 use Rattle.std.proofs.lemmas.List.{get_or-map, length-map}
 use Rattle.fpl_fields.specs.Field.{Field}
-use Rattle.fpl_linear.specs.Vector.{Vector, vzero, vplus, scale, place}
+use Rattle.fpl_linear.specs.Vector.{Vector, vplus, scale, place}
 use Rattle.fpl_numbers.specs.declared.number.Num.{Num}
-use Rattle.fpl_numbers.specs.declared.number.Kind.{Kind}
 use Rattle.fpl_numbers.specs.Numbers.{IsField}
-use Rattle.fpl_numbers.specs.Kinds.{field_of, number_of, Number}
-use Rattle.fpl_scalar.specs.Vectors.{AreElements}
-use Rattle.fpl_algebra.specs.Tree.{Tree, Trees, gen, none, sum_of, multiple, bracket_of as br, end, more, Generator, no_generator, Presentation as Abstract, left, right}
+use Rattle.fpl_numbers.specs.Kinds.{field_of, Number}
+use Rattle.fpl_algebra.specs.Tree.{Tree, Trees, gen, none, sum_of, multiple, bracket_of as br, end, more, Generator, Presentation as Abstract, left, right}
 use Rattle.fpl_algebra.specs.Degrees.{exact, of_both, of_bracket, weight_of, weights_of, weight_of_both}
-use Rattle.fpl_algebra.specs.Table.{Symbol, of_generator, of_pair, parity_at, weight_at, bracket}
-use Rattle.fpl_algebra.specs.Symbols.{symbols, place_of, pair_number, generator_number}
+use Rattle.fpl_algebra.specs.Table.{Symbol, of_generator, of_pair, bracket}
+use Rattle.fpl_algebra.specs.Symbols.{symbols, place_of, pair_number}
 use Rattle.fpl_algebra.specs.SourceRows.{outer, row_of, jacobi_row, relation_row, cube_row, IsSource}
 use Rattle.fpl_algebra.specs.SourceRows.IsSource.{of_relation, of_triple, of_cube}
 use Rattle.fpl_model.specs.declared.presentation.Equation.{Equation}
 use Rattle.fpl_model.specs.declared.presentation.Presentation.{Presentation}
-use Rattle.fpl_model.specs.Meaning.{plain, tree_in, equation_in}
+use Rattle.fpl_model.specs.Meaning.{plain, equation_in}
 use Rattle.fpl_model.specs.Sound.{IsWithin}
 use Rattle.fpl_log.specs.declared.step.Origin.{Origin}
-use Rattle.fpl_log.specs.declared.step.Origin.TheVariants.{Relation, Jacobi, Cube, Row}
-use Rattle.fpl_table.specs.Plain.{PlainTable, vector_in, table_in, shell_in, symbols_in}
-use Rattle.fpl_rewrite.specs.Origins.{relation_weight, origins_of}
+use Rattle.fpl_log.specs.declared.step.Origin.TheVariants.{Relation, Jacobi, Cube}
+use Rattle.fpl_table.specs.Plain.{PlainTable, table_in, symbols_in}
+use Rattle.fpl_rewrite.specs.Origins.{relation_weight}
 use Rattle.fpl_rewrite.specs.Rows.{relation_row_of, jacobi_row_of, cube_row_of, equation_row, row_of_origin}
-use Rattle.fpl_faithful.specs.Premises.{IsFor, HasRows, HasWeights}
+use Rattle.fpl_faithful.specs.Premises.{HasRows, HasWeights}
 use Rattle.fpl_faithful.specs.TableLaws.{origin_vector}
-use Rattle.fpl_faithful.proofs.Pairs.{weight, parity}
 use Rattle.fpl_faithful.proofs.Products.{Stands, same}
 use Rattle.fpl_faithful.proofs.Forms.{relation_reads}
 use Rattle.fpl_faithful.proofs.Triples.{jacobi_reads, cube_reads}
 use Rattle.fpl_theorems.proofs.Three.{three_is}
-use Rattle.fpl_faithful.proofs.Listed.{IsTriple, IsCube, IsListed, listed_relation, listed_triple, listed_cube, listed, is_listed}
+use Rattle.fpl_faithful.proofs.Listed.{IsTriple, IsCube, IsListed, listed_relation, listed_triple, listed_cube}
 
 -- weights as written depend on the generators alone
 module _ {N : Type 0} (gs : List Generator) (rs ss : List (Tree N × Tree N)) where

@@ -1,10 +1,10 @@
 -- The plain rows of triples and cubes stand for their rows in the mathematics.
-use Rattle.std.specs.Prelude.{◌≡◌, ℕ, suc, ◌+◌, ◌<◌, ◌≤◌, List, [], length, Result, Ok}
+use Rattle.std.specs.Prelude.{◌≡◌, ℕ, suc, ◌+◌, ◌<◌, ◌≤◌, List, length, Result, Ok}
 use mathlib.Core.Path.{sym, refl, ap, ap₂, ◌∙◌, subst, fun_ext}
 use native.Mathlib.Omega.{arith}
 use native.Mathlib.Decide.{dec_lt}
 use Rattle.fpl_fields.specs.Field.{Field}
-use Rattle.fpl_linear.specs.Vector.{Vector, vzero, vplus, scale, place, total}
+use Rattle.fpl_linear.specs.Vector.{Vector, vzero, vplus, scale, total}
 use Rattle.fpl_linear.proofs.Vectors.{vplus_assoc, vzero-vplus, scale-vplus, scale_scale, scale_comm, total_same, total_scale}
 use Rattle.fpl_linear.proofs.Numbers.{minus_minus, minus-times, unit-times}
 use Rattle.fpl_numbers.specs.declared.number.Num.{Num}
@@ -17,10 +17,10 @@ use Rattle.fpl_algebra.specs.Derives.{sign}
 use Rattle.fpl_algebra.specs.Table.{IsOf, product}
 use Rattle.fpl_algebra.specs.SourceRows.{outer_place, jacobi_row, cube_row}
 use Rattle.fpl_standard.proofs.Views.{jacobi_entries, cube_entries}
-use Rattle.fpl_table.specs.Plain.{PlainTable, entry_row, vector_in, table_in, shell_in, Pairing, nothing, plus, minus, itself, pairing}
+use Rattle.fpl_table.specs.Plain.{PlainTable, vector_in, table_in, shell_in, Pairing, nothing, plus, minus, itself, pairing}
 use Rattle.fpl_table.specs.Value.{zero_row}
 use Rattle.fpl_rewrite.specs.Rows.{add_signed, entry_by, entry_if, spread, first_terms, second_terms, swapped, third_terms, jacobi_row_of, cube_row_of}
-use Rattle.fpl_faithful.specs.Premises.{IsFor, IsRowIn, HasRows, HasWeights}
+use Rattle.fpl_faithful.specs.Premises.{IsRowIn, HasRows, HasWeights}
 use Rattle.fpl_faithful.proofs.Fits.{first_fits}
 use Rattle.fpl_faithful.proofs.Walks.{Adds, Places, walk_reads}
 use Rattle.fpl_faithful.proofs.Pairs.{paired, weight, parity, pairing_below, pairing_itself, pairing_is}

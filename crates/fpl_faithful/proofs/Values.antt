@@ -1,13 +1,13 @@
 -- The plain value of an expression is its value in the table.
-use Rattle.std.specs.Prelude.{◌≡◌, ℕ, ◌+◌, ◌-◌, ◌<◌, ◌≤◌, List, [], length, Result, Ok, true, false, Bool, nat_le, if◌then◌else◌}
-use mathlib.Core.Path.{sym, refl, ap, ap₂, ◌∙◌, subst}
+use Rattle.std.specs.Prelude.{◌≡◌, ℕ, ◌-◌, List, [], length, Result, Ok, true, false, Bool, if◌then◌else◌}
+use mathlib.Core.Path.{sym, refl, ap, ap₂, subst}
 use native.Mathlib.Omega.{arith}
-use Rattle.fpl_linear.specs.Vector.{Vector, vzero, vplus, scale}
+use Rattle.fpl_linear.specs.Vector.{Vector, vzero, vplus}
 use Rattle.fpl_linear.proofs.Vectors.{vplus_assoc, vplus-vzero, vzero-vplus}
 use Rattle.fpl_numbers.specs.declared.number.Num.{Num}
 use Rattle.fpl_numbers.specs.declared.number.Kind.{Kind}
 use Rattle.fpl_numbers.specs.declared.number.Unfit.{Unfit}
-use Rattle.fpl_numbers.specs.Numbers.{IsField, IsElement}
+use Rattle.fpl_numbers.specs.Numbers.{IsField}
 use Rattle.fpl_numbers.specs.Results.{and_then}
 use Rattle.fpl_numbers.specs.Kinds.{field_of, number_of, Number}
 use Rattle.fpl_scalar.specs.Vectors.{scale_of}
@@ -23,12 +23,12 @@ use Rattle.fpl_tables.proofs.Relations.{val_of}
 use Rattle.fpl_built.proofs.Next.{of_past}
 use Rattle.fpl_model.specs.Meaning.{in_field, all_in_field}
 use Rattle.fpl_model.specs.Sound.{IsWithin, AreWithin}
-use Rattle.fpl_table.specs.Plain.{PlainTable, image_row, vector_in, table_in, shell_in}
+use Rattle.fpl_table.specs.Plain.{PlainTable, image_row, table_in, shell_in}
 use Rattle.fpl_table.specs.Value.{zero_row, padded, add_row, bracket_of, is_weight_light, is_light, value_of, values_of}
-use Rattle.fpl_faithful.specs.Premises.{IsFor, IsRowIn, HasRows, HasWeights}
+use Rattle.fpl_faithful.specs.Premises.{IsRowIn, HasRows, HasWeights}
 use Rattle.fpl_faithful.proofs.Fits.{ok_same, first_fits}
 use Rattle.fpl_faithful.proofs.Rows.{zero_row_reads, padded_reads, scale_reads, add_row_reads}
-use Rattle.fpl_faithful.proofs.Products.{K, reads, units, Stands, same, all_or, empty_row, bracket_reads}
+use Rattle.fpl_faithful.proofs.Products.{reads, units, Stands, same, all_or, empty_row, bracket_reads}
 
 -- an expression within the generators of a presentation is one over it
 mutual

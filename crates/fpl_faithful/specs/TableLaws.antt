@@ -14,7 +14,7 @@ use Rattle.std.specs.Prelude.{ℕ, ◌≡◌, ◌-◌, List, length, Ok, Contain
 use Rattle.fpl_fields.specs.Field.{Field}
 use Rattle.fpl_linear.specs.Vector.{Vector, vzero}
 use Rattle.fpl_numbers.specs.declared.number.Num.{Num}
-use Rattle.fpl_numbers.specs.Kinds.{Number, field_of}
+use Rattle.fpl_numbers.specs.Kinds.{field_of}
 use Rattle.fpl_algebra.specs.Tree.{Tree, Presentation as Abstract}
 use Rattle.fpl_algebra.specs.Degrees.{IsSoundPresentation}
 use Rattle.fpl_algebra.specs.Table.{Table, bracket, val}
