@@ -1,5 +1,5 @@
 -- The plain value of an expression is its value in the table.
-use Rattle.std.specs.Prelude.{◌≡◌, ℕ, ◌-◌, List, [], length, Result, Ok, true, false, Bool, if◌then◌else◌}
+use Rattle.std.specs.Prelude.{◌≡◌, ℕ, ◌-◌, List, length, Result, Ok, true, false, Bool, if◌then◌else◌}
 use mathlib.Core.Path.{sym, refl, ap, ap₂, subst}
 use native.Mathlib.Omega.{arith}
 use Rattle.fpl_linear.specs.Vector.{Vector, vzero, vplus}
@@ -28,7 +28,7 @@ use Rattle.fpl_table.specs.Value.{zero_row, padded, add_row, bracket_of, is_weig
 use Rattle.fpl_faithful.specs.Premises.{IsRowIn, HasRows, HasWeights}
 use Rattle.fpl_faithful.proofs.Fits.{ok_same, first_fits}
 use Rattle.fpl_faithful.proofs.Rows.{zero_row_reads, padded_reads, scale_reads, add_row_reads}
-use Rattle.fpl_faithful.proofs.Products.{reads, units, Stands, same, all_or, empty_row, bracket_reads}
+use Rattle.fpl_faithful.proofs.Products.{reads, units, Stands, same, bracket_reads}
 
 -- an expression within the generators of a presentation is one over it
 mutual
@@ -78,9 +78,6 @@ module _ (T : PlainTable) (is_field : IsField T.kind) (rows : HasRows T) (weight
   pub is_row : (v : Vector (field_of T.kind)) (row : List Num) → Stands T is_field n v row → IsRowIn T row
   is_row v row h = record { elements = h.elements; short = let l = h.long in omega arith }
 
-  image_in : (g : ℕ) → IsRowIn T (image_row T g)
-  image_in g = all_or (IsRowIn T) T.images g [] rows.images (empty_row T)
-
   bracket_is : (a b : Tree Num) (x y z : List Num) → Stands T is_field n (value_in (in_field T.kind a)) x → Stands T is_field n (value_in (in_field T.kind b)) y → bracket_of T x y ≡ Ok z →
       Stands T is_field n (bracket (field_of T.kind) (table_in T.kind T) (value_in (in_field T.kind a)) (value_in (in_field T.kind b))) z
   bracket_is a b x y z h k e =
@@ -98,7 +95,7 @@ module _ (T : PlainTable) (is_field : IsField T.kind) (rows : HasRows T) (weight
     pub value_reads : (e : Tree Num) → IsWithin T.kind (length T.generators) e → (v : List Num) → value_of T e ≡ Ok v → Stands T is_field n (value_in (in_field T.kind e)) v
     value_reads (gen g) h v f =
         by_light (gen g) (is_light T (gen g)) h refl (Ok (padded n (image_row T (g - 1)))) v f
-        (λ e. let i = image_in (g - 1) in
+        (λ e. let i = rows.images (g - 1) (let l = h.0 in let m = h.1 in omega arith) in
         subst (Stands T is_field n _) (ok_same e) (padded_reads T.kind (field_of T.kind) (number_of T.kind) (reads T is_field) (units T is_field) n (image_row T (g - 1)) i.elements i.short))
     value_reads none h v f = subst (Stands T is_field n _) (ok_same f) zero_reads
     value_reads (sum_of es) h v f =
