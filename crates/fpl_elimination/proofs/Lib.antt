@@ -3,3 +3,4 @@ pub mod PivotRows
 pub mod Spans
 pub mod Ascending
 pub mod ClosedLists
+pub mod Found
