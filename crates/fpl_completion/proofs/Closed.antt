@@ -15,9 +15,7 @@ use Rattle.fpl_rows.specs.Meaning.{vector_in, row_in, pivot_in, IsClosedList, In
 use Rattle.fpl_log.specs.declared.step.Origin.{Origin}
 use Rattle.fpl_elimination.specs.Plain.{PivotRow, IsPivotRow, Held, Elimination, close_of, rows_of}
 use Rattle.fpl_elimination.specs.Spans.{InSpanAt, table_of}
-use Rattle.fpl_elimination.proofs.Spans.{Stands, standing, close_form}
-use Rattle.fpl_elimination.proofs.Ascending.{close_ascends}
-use Rattle.fpl_elimination.proofs.ClosedLists.{closed_list}
+use Rattle.fpl_elimination.proofs.Found.{close_means}
 use Rattle.fpl_faithful.proofs.Fits.{ok_same, first_fits}
 use Rattle.fpl_model.specs.declared.presentation.Presentation.{Presentation}
 use Rattle.fpl_table.specs.Plain.{PlainTable, symbols_in}
@@ -53,14 +51,12 @@ module _ (T : PlainTable) (is_field : IsField T.kind) (p : Presentation) (vector
       closing : (e : Elimination) (g : Held) → IsGathered T is_field p n vector (λ x. ⊥) (origins_of T p) e → close_of e ≡ Ok g → IsClosing (origins_of T p) (rows_of g.pivots)
       closing e g d eq =
           let here : close_of (record { kind = T.kind; size = n; held = e.held }) ≡ Ok g = at_size e.kind e.size d.kind d.size eq in
-          let form = close_form T.kind (field_of T.kind) (number_of T.kind) (kind_reads T.kind is_field) is_field n e.held g (standing T.kind (field_of T.kind) (number_of T.kind) (kind_reads T.kind is_field) is_field n e.held.pivots d.rows) here in
-          let ascends = close_ascends T.kind e.held.pivots n (record { pivots = []; steps = e.held.steps }) g refl here in
-          let list = closed_list T.kind (field_of T.kind) (number_of T.kind) (kind_reads T.kind is_field) is_field n g.pivots form.rows ascends form.reduced in
+          let c = close_means (record { kind = T.kind; size = n; held = e.held }) g is_field d.rows here in
           record {
-            closed = record { are_rows = ?; closed = list.0 };
+            closed = c.closed;
             span = λ v. (
-              (λ k. spanned_through (field_of T.kind) _ (IsAmong T is_field p n vector (origins_of T p)) (λ x m. elim m [ inl b ↦ absurd b | inr a ↦ spanned_one (field_of T.kind) _ x a ]) v ((d.spans v).1 ((form.span v).0 ((list.1 v).0 k)))),
-              (λ k. (list.1 v).1 ((form.span v).1 ((d.spans v).0 (spanned_through (field_of T.kind) (IsAmong T is_field p n vector (origins_of T p)) _ (λ x m. spanned_one (field_of T.kind) _ x (inr m)) v k)))),
+              (λ k. spanned_through (field_of T.kind) _ (IsAmong T is_field p n vector (origins_of T p)) (λ x m. elim m [ inl b ↦ absurd b | inr a ↦ spanned_one (field_of T.kind) _ x a ]) v ((d.spans v).1 ((c.span v).0 k))),
+              (λ k. (c.span v).1 ((d.spans v).0 (spanned_through (field_of T.kind) (IsAmong T is_field p n vector (origins_of T p)) _ (λ x m. spanned_one (field_of T.kind) _ x (inr m)) v k))),
             );
           }
         where
