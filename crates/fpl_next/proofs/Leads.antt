@@ -1,6 +1,6 @@
 -- The leads of rows are their pivots, and the places without a lead are the free places.
-use Rattle.std.specs.Prelude.{ℕ, zero, suc, ◌≡◌, ◌≢◌, ◌<◌, ◌-◌, List, [], ◌∷◌, ◌++◌, length, get_or, cond, Bool, true, false, Option, Some, None, unwrap_or, nat_eq}
-use mathlib.Core.Path.{sym, refl, ap, ap₂, ◌∙◌}
+use Rattle.std.specs.Prelude.{ℕ, zero, suc, ◌≡◌, ◌≢◌, ◌<◌, ◌-◌, List, [], ◌∷◌, ◌++◌, length, get_or, cond, Bool, true, false, Some, None, unwrap_or}
+use mathlib.Core.Path.{sym, refl, ap, ◌∙◌}
 use native.Mathlib.Omega.{arith}
 use native.Mathlib.Decide.{ℕ_discrete}
 use Rattle.fpl_numbers.specs.declared.number.Num.{Num}

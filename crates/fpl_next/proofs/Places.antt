@@ -1,12 +1,12 @@
 -- Where the pushed table holds what it held, and where it holds what is new.
 use Rattle.std.specs.Prelude.{ℕ, zero, suc, ◌≡◌, ◌≢◌, ◌⊎◌, ◌<◌, ◌≤◌, ◌+◌, ◌-◌, List, [], ◌∷◌, ◌++◌, length, map, get_or, max, cond, nat_eq, nat_lt, nat_le}
-use mathlib.Core.Path.{sym, refl, ap, ap₂, ◌∙◌, subst}
+use mathlib.Core.Path.{refl, ap, ap₂, ◌∙◌, subst}
 use mathlib.Core.Logic.{inl, inr}
 use native.Mathlib.Omega.{arith}
 use native.Mathlib.Decide.{ℕ_discrete, dec_lt, dec_le}
 use Rattle.std.proofs.lemmas.List.{length-append, get_or_append_left, get_or-append-add, get_or_past}
 use Rattle.fpl_numbers.specs.declared.number.Num.{Num}
-use Rattle.fpl_algebra.specs.Tree.{Parity, even, odd, Generator, no_generator}
+use Rattle.fpl_algebra.specs.Tree.{Generator, no_generator}
 use Rattle.fpl_algebra.specs.Symbols.{is_odd}
 use Rattle.fpl_algebra.specs.Table.{Basis, no_basis, of_generator, of_pair}
 use Rattle.fpl_built.proofs.NextTables.{length_map, get_or_map}

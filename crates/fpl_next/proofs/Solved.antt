@@ -1,17 +1,17 @@
 -- The row of a symbol over the new basis stands for what the symbol means by the closed rows.
-use Rattle.std.specs.Prelude.{ℕ, suc, ◌≡◌, ◌≢◌, ◌<◌, ◌≤◌, ◌+◌, ◌-◌, List, [], ◌∷◌, ◌++◌, length, map, get_or, cond, nat_eq, nat_lt, Option, Some, None, replicate}
+use Rattle.std.specs.Prelude.{ℕ, ◌≡◌, ◌≢◌, ◌<◌, ◌≤◌, ◌+◌, ◌-◌, List, [], ◌++◌, length, get_or, cond, nat_eq, Option, Some, None}
 use mathlib.Core.Path.{sym, refl, ap, ap₂, ◌∙◌, fun_ext, subst}
 use native.Mathlib.Omega.{arith}
 use native.Mathlib.Decide.{ℕ_discrete, dec_lt}
 use Rattle.std.proofs.lemmas.List.{length-append, length-replicate, get_or_append_left, get_or-append-add, get_or-replicate}
 use Rattle.fpl_fields.specs.Field.{Field}
-use Rattle.fpl_linear.specs.Vector.{Vector, vplus, scale, place}
-use Rattle.fpl_linear.specs.Closed.{IsClosed, swept}
+use Rattle.fpl_linear.specs.Vector.{vplus, scale, place}
+use Rattle.fpl_linear.specs.Closed.{swept}
 use Rattle.fpl_linear.proofs.Numbers.{minus-times, unit-times, nought-plus}
 use Rattle.fpl_linear.proofs.Vectors.{place_same, place_other}
 use Rattle.fpl_numbers.specs.declared.number.Num.{Num}
 use Rattle.fpl_numbers.specs.declared.number.Kind.{Kind}
-use Rattle.fpl_numbers.specs.Numbers.{IsElement, IsField, residue, negative_of}
+use Rattle.fpl_numbers.specs.Numbers.{residue, negative_of}
 use Rattle.fpl_numbers.specs.Kinds.{field_of, number_of}
 use Rattle.fpl_numbers.specs.Reads.{Reads}
 use Rattle.fpl_scalar.specs.Vectors.{AreElements}
