@@ -1,10 +1,11 @@
 -- What a table in plain numbers must be for its plain run to stand for the mathematics.
 --
---   IsRowIn T row         elements of the table's field, at most one for each basis element
---   HasRows T             each image, and each entry within the table's weight, is such a row
---   HasWeights T          weights of basis elements are 1 to the table's; each image has its generator's weight, and each product the sum of its factors'
---   IsTableFor p T        a table of the presentation's field and generators, with these two
---   IsFor kind K value n v row   a row of n elements of the kind that stands for the vector v, where value reads numbers into K
+--   IsRowIn T row                 elements of the table's field, at most one for each basis element
+--   HasRows T                     each image, and each entry within the table's weight, is such a row
+--   HasWeights T                  basis elements weigh at least 1 and at most the table's weight; each image has its generator's weight, and each
+--                                 product the sum of its factors'
+--   IsTableFor p T                a table of the presentation's field and generators that has both
+--   IsFor kind K value n v row    a row of n elements of the kind that stands for the vector v, where value reads numbers into K
 use Rattle.std.specs.Prelude.{ℕ, ◌≡◌, ◌<◌, ◌≤◌, ◌+◌, List, length}
 use Rattle.fpl_fields.specs.Field.{Field}
 use Rattle.fpl_linear.specs.Vector.{Vector}

@@ -1,10 +1,13 @@
 -- Over a prime every operation fits, so nothing in the plain run is refused.
 --
---   IsGiven r               r is a value
---   AddAtFits, AddRowFits, AxpyFits, ScaleFits   the operations on rows
---   BracketFits             the bracket of two rows
---   ValueFits               the value of an expression
---   OriginRowFits           the row of an origin
+--   IsGiven r       r is a value
+--   AddAtFits       a number added at a place
+--   AddRowFits      a row added
+--   AxpyFits        a multiple of a row added
+--   ScaleFits       a multiple of a row
+--   BracketFits     the bracket of two rows
+--   ValueFits       the value of an expression
+--   OriginRowFits   the row of an origin
 use Rattle.std.specs.Prelude.{ℕ, ◌≡◌, List, Result, Ok}
 use Rattle.fpl_numbers.specs.declared.number.Num.{Num}
 use Rattle.fpl_numbers.specs.declared.number.Kind.TheVariants.{Prime}
