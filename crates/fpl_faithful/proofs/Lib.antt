@@ -9,5 +9,5 @@ pub mod Forms
 pub mod Triples
 pub mod Listed
 pub mod Sources
-pub mod Primes
+pub mod Fitting
 pub mod Laws

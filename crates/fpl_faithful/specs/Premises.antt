@@ -19,10 +19,10 @@ use Rattle.fpl_algebra.specs.Table.{IsOf, IsRegular, product}
 use Rattle.fpl_model.specs.declared.presentation.Presentation.{Presentation}
 use Rattle.fpl_model.specs.Meaning.{generators_in}
 use Rattle.fpl_table.specs.Plain.{PlainTable, plain_basis, image_row, entry_row, vector_in, table_in, shell_in}
+use Rattle.fpl_table.specs.Shape.{IsRowUpTo}
 
-pub record IsRowIn (T : PlainTable) (row : List Num) : Type 0 where
-  pub elements : AreElements T.kind row
-  pub short : length row ≤ length T.basis
+abbrev pub IsRowIn : PlainTable → List Num → Type 0
+IsRowIn T row = IsRowUpTo T.kind (length T.basis) row
 
 pub record HasRows (T : PlainTable) : Type 0 where
   pub images : (g : ℕ) → g < length T.generators → IsRowIn T (image_row T g)

@@ -1,6 +1,6 @@
 use mathlib.Core.Path.{sym, subst}
 use Rattle.fpl_numbers.specs.declared.number.Kind.TheVariants.{Prime}
-use Rattle.fpl_faithful.proofs.Primes.{Always, prime_always, add_at_fits, add_row_fits, axpy_fits, scale_fits, bracket_fits, value_fits, origin_fits}
+use Rattle.fpl_faithful.proofs.Fitting.{Always, prime_always, add_at_fits, add_row_fits, axpy_fits, scale_fits, bracket_fits, value_fits, origin_fits}
 use Rattle.fpl_faithful.proofs.prime_fields.Goals as goal
 
 pub returns-clause-at : goal.returns-clause-at
