@@ -1,7 +1,9 @@
-use Rattle.std.proofs.Common.{◌≡◌, ◌<◌, ◌-◌, ◌≤◌, List, [], length, map, get_or, ap, arith}
+use Rattle.std.proofs.Common.{◌≡◌, ◌<◌, ◌-◌, ◌≤◌, List, [], length, map, get_or, ap, subst, arith}
 use Rattle.std.proofs.lemmas.List.{length-map}
 use Rattle.fpl_algebra.specs.Tree.{no_generator}
 use Rattle.fpl_table.specs.Whole.{shape_in}
+use Rattle.fpl_table.specs.Shape.{HasShape}
+use Rattle.fpl_table.proofs.Entries.{image_row_within}
 use Rattle.fpl_table.proofs.Lists.{map_at}
 use Rattle.fpl_table.proofs.table.Table.image.Goals as goal
 
@@ -17,3 +19,8 @@ index-requires-3 g c =
     let level = map_at (λ l. l.images.items) c.self.inside.levels.items (c.index.result.now.weight - 1) [] c.index-2.result.now below c.index-2.ensures in
     let size = rw level at (c.self.invariant.shape.image_lengths (c.index.result.now.weight - 1) below) in
     omega (arith, size, many)
+
+pub returns-clause-row : goal.returns-clause-row
+returns-clause-row g c =
+    let shape : HasShape c.args.self.now = subst HasShape c.self.view_is c.self.invariant.shape in
+    rw ? (image_row_within c.args.self.now shape (c.args.g - 1) (omega arith) c.requires.reached)
