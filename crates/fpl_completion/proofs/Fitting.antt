@@ -70,10 +70,14 @@ module _ (T : PlainTable) (always : Always T.kind) (p : Presentation) where
       step o os n h later =
           let f = origin_fits T always p o in
           let i = insert_fits T.kind always n h f.0 o in
-          let r = later i.0.held in
-          (r.0, (
-            subst (λ w. and_then (λ row. and_then (λ x. gather T p os (with_held (record { kind = T.kind; size = n; held = h }) x.held)) (insert_of (record { kind = T.kind; size = n; held = h }) row o)) w ≡ Ok r.0) (sym f.1)
-            (subst (λ w. and_then (λ x. gather T p os (with_held (record { kind = T.kind; size = n; held = h }) x.held)) w ≡ Ok r.0) (sym i.1) r.1.0), r.1.1))
+          let r = later i.0.held in (
+            r.0,
+            (
+              subst (λ w. and_then (λ row. and_then (λ x. gather T p os (with_held (record { kind = T.kind; size = n; held = h }) x.held)) (insert_of (record { kind = T.kind; size = n; held = h }) row o)) w ≡ Ok r.0) (sym f.1)
+                  (subst (λ w. and_then (λ x. gather T p os (with_held (record { kind = T.kind; size = n; held = h }) x.held)) w ≡ Ok r.0) (sym i.1) r.1.0),
+              r.1.1,
+            ),
+          )
 
   again_fits : {A : Type 0} (rows : List (List Num)) (os : List Origin) (x : A) → DoesFit (again T p rows os x)
   again_fits rows [] x = (x, refl)
@@ -86,8 +90,8 @@ module _ (T : PlainTable) (always : Always T.kind) (p : Presentation) where
       let g = gather_fits (origins_of T p) (begun T).size (begun T).held in
       subst (λ w. DoesFit (and_then (λ e. and_then (λ h. again T p (rows_of h.pivots) (origins_of T p) h) (close_of e)) w)) (sym g.1.0)
       (then_fits (λ h. again T p (rows_of h.pivots) (origins_of T p) h) (close_of g.0)
-        (subst (λ k. DoesFit (close_to k g.0.held.pivots g.0.size (record { pivots = []; steps = g.0.held.steps }))) (sym g.1.1) (close_fits T.kind always g.0.held.pivots g.0.size (record { pivots = []; steps = g.0.held.steps })))
-        (λ h. again_fits (rows_of h.pivots) (origins_of T p) h))
+      (subst (λ k. DoesFit (close_to k g.0.held.pivots g.0.size (record { pivots = []; steps = g.0.held.steps }))) (sym g.1.1) (close_fits T.kind always g.0.held.pivots g.0.size (record { pivots = []; steps = g.0.held.steps })))
+      (λ h. again_fits (rows_of h.pivots) (origins_of T p) h))
 
   pub next_fits : DoesFit (next_of T p)
   next_fits = map_fits (λ h. push_of T (rows_of h.pivots)) (close_weight T p) close_weight_fits
