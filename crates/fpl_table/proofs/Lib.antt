@@ -2,3 +2,6 @@ pub mod Lists
 pub mod Shapes
 pub mod Weights
 pub mod Entries
+pub mod Cells
+pub mod Light
+pub mod Padded

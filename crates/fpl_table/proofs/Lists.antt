@@ -16,3 +16,10 @@ pub at_default : {A : Type 0} (xs : List A) (i : ℕ) (d x : A) → i < length x
 at_default [] i d x lt is = absurd (omega (arith, lt))
 at_default (y ∷ ys) zero d x lt is = sym is
 at_default (y ∷ ys) (suc i) d x lt is = at_default ys i d x (omega (arith, lt)) is
+
+-- one element more
+pub all_push : {A : Type 0} (P : A → Type 0) (xs : List A) (x : A) → All P xs → P x → (k : ℕ) (d : A) → k < length (xs ++ x ∷ []) → P (get_or (xs ++ x ∷ []) k d)
+all_push P [] x h p zero d lt = p
+all_push P [] x h p (suc k) d lt = absurd (omega (arith, lt))
+all_push P (y ∷ ys) x h p zero d lt = h zero d (omega arith)
+all_push P (y ∷ ys) x h p (suc k) d lt = all_push P ys x (λ i e below. h (suc i) e (omega (arith, below))) p k d (omega (arith, lt))

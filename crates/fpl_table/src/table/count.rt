@@ -1,7 +1,7 @@
 ghost use Rattle.std.specs.Prelude.{◌≡◌, ◌≤◌, ◌<◌, ◌+◌, ◌-◌, ◌++◌, length, map, IfOk, OnOk, All};
 ghost use Rattle.fpl_algebra.specs.Symbols.{symbols_of};
 ghost use Rattle.fpl_table.specs.Plain.{plain_basis, table_in, shell_in, symbol_in};
-ghost use Rattle.fpl_table.specs.Shape.{IsNumbered};
+ghost use Rattle.fpl_table.specs.Shape.{HasShape, IsNumbered};
 ghost use Rattle.fpl_table.specs.Standard.{count_of};
 ghost use Rattle.fpl_table.specs.Cells.{generator_cells, pair_cells};
 
@@ -15,10 +15,11 @@ impl<F: Field> Table<F> {
     fn generator_count(&self, w: u32) -> u32
         ensures value { result ≡ length (generator_cells self.now w) }
         ensures few { result ≤ 64 }
+        ensures shape { HasShape self.now }
     {
         let mut count = 0;
-        for shape in &self.shapes {
-            if shape.weight == w {
+        for g in 0..self.shapes.len() {
+            if self.shapes[g].weight == w {
                 count += 1;
             }
         }
@@ -44,6 +45,7 @@ impl<F: Field> Table<F> {
     /// Puts the generators of weight `w` last.
     fn push_generators(&self, w: u32, symbols: &mut Vec<Symbol>) -> Result<(), AllocError>
         ensures value { OnOk result (map symbol_in symbols.new.items ≡ map symbol_in symbols.old.items ++ generator_cells self.now w) }
+        ensures shape { HasShape self.now }
         ensures numbered { OnOk result (All IsNumbered symbols.old.items → All IsNumbered symbols.new.items) }
     {
         for g in 0..self.shapes.len() {
@@ -54,17 +56,17 @@ impl<F: Field> Table<F> {
         Ok(())
     }
 
-    /// Puts the regular pairs of weight `w` of the basis element at place `i` last.
+    /// Puts the regular pairs of weight `w` with basis element `i` first last.
     fn push_pairs(&self, i: u32, w: u32, symbols: &mut Vec<Symbol>) -> Result<(), AllocError>
-        requires place { i < length self.now.basis }
-        requires above { (plain_basis self.now i).weight < w }
+        requires number { (1 ≤ i) × (i ≤ length self.now.basis) }
+        requires above { (plain_basis self.now (i - 1)).weight < w }
         requires next { w ≤ self.now.weight + 1 }
-        ensures value { OnOk result (map symbol_in symbols.new.items ≡ map symbol_in symbols.old.items ++ pair_cells self.now w i) }
+        ensures value { OnOk result (map symbol_in symbols.new.items ≡ map symbol_in symbols.old.items ++ pair_cells self.now w (i - 1)) }
         ensures numbered { OnOk result (All IsNumbered symbols.old.items → All IsNumbered symbols.new.items) }
     {
-        let (from, to) = self.partners(i + 1, w);
+        let (from, to) = self.partners(i, w);
         for j in from..to {
-            symbols.push(Symbol::Pair(i + 1, j + 1))?;
+            symbols.push(Symbol::Pair(i, j + 1))?;
         }
         Ok(())
     }
@@ -81,7 +83,7 @@ impl<F: Field> Table<F> {
             return Ok(symbols);
         }
         for i in 0..self.through(w - 1) {
-            self.push_pairs(i, w, &mut symbols)?;
+            self.push_pairs(i + 1, w, &mut symbols)?;
         }
         Ok(symbols)
     }

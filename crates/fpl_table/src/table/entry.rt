@@ -1,5 +1,6 @@
 ghost use Rattle.std.specs.Prelude.{◌≡◌, ◌≤◌, ◌<◌, ◌+◌, ◌-◌, ◌⊎◌, length};
 ghost use Rattle.fpl_algebra.specs.Tree.{odd};
+ghost use Rattle.fpl_table.specs.Shape.{HasShape, IsRowUpTo};
 ghost use Rattle.fpl_table.specs.Plain.{plain_basis, through, first_partner, partner_from, entry_row};
 
 use super::Table;
@@ -9,10 +10,11 @@ use fpl_scalar::Field;
 
 impl<F: Field> Table<F> {
     /// How many basis elements weigh at most `w`.
-    pub(super) fn through(&self, w: u32) -> u32
+    pub fn through(&self, w: u32) -> u32
         requires { w ≤ self.now.weight }
         ensures value { result ≡ through self.now w }
         ensures within { result ≤ length self.now.basis }
+        ensures shape { HasShape self.now }
     {
         let levels = self.levels.as_slice();
         if w == 0 {
@@ -30,6 +32,7 @@ impl<F: Field> Table<F> {
         ensures from { result.0 ≡ partner_from self.now (i - 1) w }
         ensures to { result.1 ≡ through self.now (w - (plain_basis self.now (i - 1)).weight) }
         ensures within { result.1 ≤ length self.now.basis }
+        ensures shape { HasShape self.now }
     {
         let element = self.basis(i);
         let first = match element.parity {
@@ -47,7 +50,8 @@ impl<F: Field> Table<F> {
         requires right { (1 ≤ j) × (j ≤ length self.now.basis) }
         requires regular { first_partner self.now (i - 1) ≤ j - 1 }
         requires reached { (plain_basis self.now (i - 1)).weight + (plain_basis self.now (j - 1)).weight ≤ self.now.weight }
-        ensures { result.now ≡ entry_row self.now (i - 1) (j - 1) }
+        ensures value { result.now ≡ entry_row self.now (i - 1) (j - 1) }
+        ensures row { IsRowUpTo self.now.kind (length self.now.basis) result.now }
     {
         let left = self.basis(i).weight;
         let weight = left + self.basis(j).weight;
