@@ -81,23 +81,21 @@ reduced_is_closed K n at r count row pivot h = (
     apart i j l k d (no o) e = let p : j < i = omega (arith, o, d) in absurd (omega (arith, h.ascend j i p l, e))
 
 module _ (kind : Kind) (K : Field) (value : Num → K.Carrier) (reads : Reads kind K value) (listed : IsField kind) (n : ℕ) (ps : List PivotRow) (rows : All (IsPivotRow kind n) ps) (ascends : AscendsFrom 0 n ps) where
-  pub row_at : ℕ → Vector K
+  abbrev pub row_at : ℕ → Vector K
   row_at i = vector_of K value (get_or (rows_of ps) i [])
 
-  pub pivot_at : ℕ → ℕ
+  abbrev pub pivot_at : ℕ → ℕ
   pivot_at i = pivot_of (get_or (rows_of ps) i [])
 
   row_is : (i : ℕ) → i < length ps → get_or (rows_of ps) i [] ≡ (get_or ps i no_row).row
   row_is i l = get_or-map (λ p. p.row) ps i no_row [] l
 
   pivot_is : (i : ℕ) → i < length ps → pivot_at i ≡ (get_or ps i no_row).lead - 1
-  unfolding pivot_at
   pivot_is i l =
       let h = rows i no_row l in
       ap pivot_of (row_is i l) ∙ ap (λ o. unwrap_or o 1 - 1) (lead_found (get_or ps i no_row).row (get_or ps i no_row).lead h.from_one (let a = h.to_end in let b = h.length_is in omega arith) (ap is_nought h.leads) (λ t m k. h.above t m (let b = h.length_is in omega arith)))
 
   there : (i : ℕ) → i < length ps → table_of K value ps (pivot_at i) ≡ Some (row_at i)
-  unfolding row_at
   there i l =
       let h = rows i no_row l in
       ap (λ s. option_map (λ p. vector_of K value p.row) (find (stands_at s) ps)) (let a = pivot_is i l in let b = h.from_one in let e : pivot_at i + 1 ≡ (get_or ps i no_row).lead = omega arith in e)

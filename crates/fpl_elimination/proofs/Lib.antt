@@ -3,3 +3,5 @@ pub mod PivotRows
 pub mod Spans
 pub mod Ascending
 pub mod ClosedLists
+pub mod Found
+pub mod Remainders

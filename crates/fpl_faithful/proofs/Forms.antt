@@ -1,10 +1,10 @@
 -- Expressions of the next weight: their plain rows over the symbols stand for their rows in the mathematics.
-use Rattle.std.specs.Prelude.{◌≡◌, ℕ, suc, ◌+◌, ◌-◌, ◌<◌, ◌≤◌, ◌⊎◌, List, [], ◌∷◌, length, get_or, map, Result, Ok, true, false, Bool, cond, nat_eq, if◌then◌else◌}
+use Rattle.std.specs.Prelude.{◌≡◌, ℕ, suc, ◌+◌, ◌-◌, ◌<◌, ◌⊎◌, List, [], ◌∷◌, length, get_or, map, Result, Ok, true, false, Bool, cond, nat_eq, if◌then◌else◌}
 use mathlib.Core.Path.{sym, refl, ap, ap₂, ◌∙◌, subst, fun_ext}
 use mathlib.Core.Logic.{inl, inr}
 use native.Mathlib.Omega.{arith}
 use Rattle.fpl_fields.specs.Field.{Field}
-use Rattle.fpl_linear.specs.Vector.{Vector, vzero, vplus, scale, place, bilinear}
+use Rattle.fpl_linear.specs.Vector.{Vector, vzero, vplus, scale, place}
 use Rattle.fpl_linear.proofs.Vectors.{vplus_assoc, vplus-vzero, vzero-vplus, scale_scale, scale-vzero, scale-unit}
 use Rattle.fpl_linear.proofs.Linear.{linear_vzero, bilinear_left, bilinear_right}
 use Rattle.fpl_linear.proofs.Numbers.{minus-times, unit-times}
@@ -15,15 +15,14 @@ use Rattle.fpl_numbers.specs.Numbers.{IsField, IsElement, operate, is_nought, re
 use Rattle.fpl_numbers.specs.Results.{and_then}
 use Rattle.fpl_numbers.specs.Kinds.{field_of, number_of, Number}
 use Rattle.fpl_scalar.specs.Vectors.{AreElements, scale_of}
-use Rattle.fpl_algebra.specs.Tree.{Tree, Trees, gen, none, sum_of, multiple, bracket_of as br, end, more, odd, generator, IsOver}
+use Rattle.fpl_algebra.specs.Tree.{Tree, Trees, gen, none, sum_of, multiple, bracket_of as br, end, more, generator}
 use Rattle.fpl_algebra.specs.Degrees.{IsVoid, AreVoid, Degree, any, exact, mixed, of_both, of_bracket, weight_of, weights_of, weight_of_both}
 use Rattle.fpl_algebra.specs.Degrees.IsVoid.{void_none, void_sum, void_multiple, void_left, void_right}
 use Rattle.fpl_algebra.specs.Degrees.AreVoid.{void_end, void_more}
-use Rattle.fpl_algebra.specs.Table.{Symbol, of_generator, of_pair, val, IsOf, bracket}
-use Rattle.fpl_algebra.specs.Symbols.{symbols, pair_number, generator_number}
+use Rattle.fpl_algebra.specs.Table.{of_generator, of_pair, val, IsOf}
+use Rattle.fpl_algebra.specs.Symbols.{pair_number, generator_number}
 use Rattle.fpl_algebra.specs.Symbols.IsSymbol.{is_generator, is_pair}
 use Rattle.fpl_algebra.specs.SourceRows.{outer_place, outer, row_of, rows_of_all}
-use Rattle.fpl_algebra.proofs.Homogeneous.{WeightIs}
 use Rattle.fpl_algebra.proofs.Degrees.{WeightMeans, weight_means}
 use Rattle.fpl_values.proofs.Parts.{void_val}
 use Rattle.fpl_tables.proofs.Steps.{outer_within}
@@ -32,14 +31,14 @@ use Rattle.fpl_model.specs.declared.presentation.Equation.{Equation}
 use Rattle.fpl_model.specs.Meaning.{plain, in_field, all_in_field, tree_in}
 use Rattle.fpl_model.specs.Sound.{IsWithin, AreWithin}
 use Rattle.fpl_table.specs.Plain.{PlainTable, vector_in, table_in, shell_in, symbols_in, Pairing, nothing, plus, minus, pairing}
-use Rattle.fpl_table.specs.Value.{zero_row, add_at, add_row, value_of}
+use Rattle.fpl_table.specs.Value.{zero_row, add_row, value_of}
 use Rattle.fpl_rewrite.specs.Rows.{pair_place, generator_place, add_signed, add_outer, outer_with, outer_from, outer_of, has_weight, counts, symbol_unit, form_of, forms_of, relation_row_of, spread}
-use Rattle.fpl_faithful.specs.Premises.{IsFor, IsRowIn, HasRows, HasWeights}
+use Rattle.fpl_faithful.specs.Premises.{IsRowIn, HasRows, HasWeights}
 use Rattle.fpl_faithful.proofs.Fits.{ok_same, first_fits}
 use Rattle.fpl_faithful.proofs.Rows.{zero_row_reads, add_at_reads, add_row_reads, scale_reads, minus_reads, at_place}
 use Rattle.fpl_faithful.proofs.Walks.{Places, both_walks}
-use Rattle.fpl_faithful.proofs.Pairs.{paired, weight, parity, paired_is, IsPairOf, IsPaired, pairing_is}
-use Rattle.fpl_faithful.proofs.Products.{K, reads, units, Stands, same, times_twice, minus_twice}
+use Rattle.fpl_faithful.proofs.Pairs.{paired, weight, paired_is, IsPairOf, IsPaired, pairing_is}
+use Rattle.fpl_faithful.proofs.Products.{reads, units, Stands, same, times_twice}
 use Rattle.fpl_faithful.proofs.Values.{over_is, value_weight, value_reads, is_row}
 
 module _ (T : PlainTable) (is_field : IsField T.kind) where
@@ -192,7 +191,7 @@ module _ (T : PlainTable) (is_field : IsField T.kind) where
   written e = weight_of (shell_in T.kind T) (in_field T.kind e)
 
   uncounted : (e : Tree Num) → IsWithin T.kind (length T.generators) e → counts T e ≡ false → row_in (in_field T.kind e) ≡ vzero F
-  uncounted e h f = void_row (void_by (written e) (in_field T.kind e) (weight_means (shell_in T.kind T) (over_is T e h)) f)
+  uncounted e h f = void_row (void_by (written e) (in_field T.kind e) (weight_means (shell_in T.kind T) (over_is T.kind (shell_in T.kind T) e h)) f)
 
   -- 0 where the expression has no weight, and else what the rest gives
   by_count : (e : Tree Num) (b : Bool) → IsWithin T.kind (length T.generators) e → counts T e ≡ b → (r : Result (List Num) Unfit) (v : List Num) → (if b then r else Ok (zero_row m)) ≡ Ok v →
@@ -210,7 +209,7 @@ module _ (T : PlainTable) (is_field : IsField T.kind) where
   module _ (rows : HasRows T) (weights : HasWeights T) where
     part_weight : (e : Tree Num) (d : ℕ) → IsWithin T.kind (length T.generators) e → written e ≡ exact d → IsOf F (table_in T.kind T) d (val F (table_in T.kind T) (in_field T.kind e))
     part_weight e d h k =
-        value_weight T is_field rows weights (in_field T.kind e) d (subst (λ w. WeightMeans (shell_in T.kind T) w (in_field T.kind e)) k (weight_means (shell_in T.kind T) (over_is T e h)))
+        value_weight T is_field rows weights (in_field T.kind e) d (subst (λ w. WeightMeans (shell_in T.kind T) w (in_field T.kind e)) k (weight_means (shell_in T.kind T) (over_is T.kind (shell_in T.kind T) e h)))
 
     bracket_row : (a b : Tree Num) → IsWithin T.kind (length T.generators) a → IsWithin T.kind (length T.generators) b →
         (p : (c : ℕ) × (d : ℕ) × (written a ≡ exact c) × (written b ≡ exact d) × (c + d ≡ suc T.weight)) → (x y v : List Num) → value_of T a ≡ Ok x → value_of T b ≡ Ok y → outer_of T x y ≡ Ok v →

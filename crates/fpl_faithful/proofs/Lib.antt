@@ -7,3 +7,7 @@ pub mod Products
 pub mod Values
 pub mod Forms
 pub mod Triples
+pub mod Listed
+pub mod Sources
+pub mod Fitting
+pub mod Laws

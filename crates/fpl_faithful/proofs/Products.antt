@@ -1,27 +1,24 @@
 -- The plain bracket of two rows is the bracket of their vectors in the table.
-use Rattle.std.specs.Prelude.{◌≡◌, ℕ, ◌+◌, ◌-◌, ◌<◌, ◌≤◌, List, [], ◌∷◌, length, get_or, All, Result, Ok, true, false, Bool, nat_le, if◌then◌else◌}
+use Rattle.std.specs.Prelude.{◌≡◌, ℕ, ◌+◌, ◌<◌, ◌≤◌, List, [], ◌∷◌, length, Ok, true, false, nat_le, if◌then◌else◌}
 use mathlib.Core.Path.{sym, refl, ap, ap₂, ◌∙◌, subst, fun_ext}
 use native.Mathlib.Omega.{arith}
-use native.Mathlib.Decide.{dec_le, dec_lt}
-use Rattle.std.proofs.lemmas.List.{get_or_past}
-use Rattle.std.proofs.lemmas.List.Elements.{All-get_or, All-nil}
+use native.Mathlib.Decide.{dec_le}
+use Rattle.std.proofs.lemmas.List.Elements.{All-nil}
 use Rattle.fpl_fields.specs.Field.{Field}
-use Rattle.fpl_linear.specs.Vector.{Vector, vzero, vplus, scale, bilinear}
-use Rattle.fpl_linear.specs.Lists.{vector_of}
+use Rattle.fpl_linear.specs.Vector.{Vector, vzero, vplus, scale}
 use Rattle.fpl_linear.proofs.Vectors.{vplus-vzero, vzero-vplus, scale_scale, scale-vzero}
 use Rattle.fpl_linear.proofs.Numbers.{minus-times, unit-times}
 use Rattle.fpl_numbers.specs.declared.number.Num.{Num}
 use Rattle.fpl_numbers.specs.declared.number.Op.TheVariants.{Mul}
-use Rattle.fpl_numbers.specs.declared.number.Unfit.{Unfit}
 use Rattle.fpl_numbers.specs.Numbers.{IsField, IsElement, operate, is_nought, negative_of}
 use Rattle.fpl_numbers.specs.Results.{and_then}
 use Rattle.fpl_numbers.specs.Kinds.{field_of, number_of}
 use Rattle.fpl_numbers.specs.Reads.{Reads}
 use Rattle.fpl_numbers.proofs.KindReads.{kind_reads}
-use Rattle.fpl_scalar.specs.Vectors.{AreElements, axpy_of}
-use Rattle.fpl_algebra.specs.Table.{Table, signed, product, bracket}
+use Rattle.fpl_scalar.specs.Vectors.{axpy_of}
+use Rattle.fpl_algebra.specs.Table.{product, bracket}
 use Rattle.fpl_values.proofs.Parts.{product_past}
-use Rattle.fpl_table.specs.Plain.{PlainTable, entry_row, first_partner, vector_in, table_in, Pairing, nothing, plus, minus, pairing}
+use Rattle.fpl_table.specs.Plain.{PlainTable, entry_row, vector_in, table_in, Pairing, nothing, plus, minus, pairing}
 use Rattle.fpl_table.specs.Value.{zero_row, add_entry, add_product, bracket_with, bracket_from, bracket_of}
 use Rattle.fpl_rewrite.specs.Rows.{spread}
 use Rattle.fpl_faithful.specs.Premises.{IsFor, IsRowIn, HasRows}
@@ -29,21 +26,14 @@ use Rattle.fpl_faithful.proofs.Fits.{ok_same, first_fits}
 use Rattle.fpl_faithful.proofs.Rows.{HasUnits, for_same, zero_row_reads, axpy_reads}
 use Rattle.fpl_faithful.proofs.Units.{kind_units}
 use Rattle.fpl_faithful.proofs.Walks.{Places, both_walks}
-use Rattle.fpl_faithful.proofs.Pairs.{paired, weight, parity, paired_is, IsPairOf, IsPaired, pairing_is}
-
-pub all_or : {X : Type 0} (P : X → Type 0) (xs : List X) (i : ℕ) (d : X) → All P xs → P d → P (get_or xs i d)
-all_or P xs i d h k = go (dec_lt i (length xs))
-  where
-    go : Dec (i < length xs) → P (get_or xs i d)
-    go (yes l) = All-get_or P xs i d l h
-    go (no l) = subst P (sym (get_or_past xs i d (omega arith))) k
+use Rattle.fpl_faithful.proofs.Pairs.{paired, weight, paired_is, IsPairOf, IsPaired, pairing_is}
 
 pub empty_row : (T : PlainTable) → IsRowIn T []
 empty_row T = record { elements = All-nil (IsElement T.kind); short = omega arith }
 
-pub entry_in : (T : PlainTable) → HasRows T → (i j : ℕ) → IsRowIn T (entry_row T i j)
-entry_in T rows i j =
-    all_or (IsRowIn T) (get_or T.entries i []) (j - first_partner T i) [] (all_or (λ rows. All (IsRowIn T) rows) T.entries i [] rows.entries (All-nil (IsRowIn T))) (empty_row T)
+-- the entry of a pair within the table's weight
+pub pair_row : (T : PlainTable) → HasRows T → (i j a b : ℕ) → IsPairOf T i j a b → weight T i + weight T j ≤ T.weight → IsRowIn T (entry_row T a b)
+pair_row T rows i j a b p h = rows.entries a b p.first p.second p.regular (omega (arith, p.weights))
 
 module _ (T : PlainTable) (is_field : IsField T.kind) where
   abbrev pub K : Field
@@ -96,13 +86,13 @@ module _ (T : PlainTable) (is_field : IsField T.kind) where
     within_reads i j (plus c d) p h x y v z w a b k e =
         let m = first_fits (λ m. add_entry T c d m v) (operate T.kind Mul x y) z e in
         let q = reads.product x y m.0 a b m.1.0 in
-        let r = entry_in T rows c d in
+        let r = pair_row T rows i j c d p h in
         same n _ _ z (ap (vplus K w) (times_twice x y m.0 (entry c d) q.1))
         (axpy_reads T.kind K (number_of T.kind) reads units n w v (entry_row T c d) z m.0 k q.0 r.elements r.short (sym (entry_within c d m.0 v (omega (arith, p.weights))) ∙ m.1.1))
     within_reads i j (minus c d) p h x y v z w a b k e =
         let m = first_fits (λ m. add_entry T c d (negative_of T.kind m) v) (operate T.kind Mul x y) z e in
         let q = reads.product x y m.0 a b m.1.0 in
-        let r = entry_in T rows c d in
+        let r = pair_row T rows i j c d p h in
         same n _ _ z (ap (vplus K w) (minus_twice x y m.0 (entry c d) q.0 q.1))
         (axpy_reads T.kind K (number_of T.kind) reads units n w v (entry_row T c d) z (negative_of T.kind m.0) k (reads.negative m.0 q.0).0 r.elements r.short
         (sym (entry_within c d (negative_of T.kind m.0) v (omega (arith, p.weights))) ∙ m.1.1))

@@ -1,21 +1,20 @@
 -- Rows of plain numbers, and the vectors that they stand for.
-use Rattle.std.specs.Prelude.{◌≡◌, ◌≢◌, ℕ, zero, suc, ◌+◌, ◌-◌, ◌<◌, ◌≤◌, List, [], ◌∷◌, ◌++◌, length, get_or, map, set, replicate, Result, Ok, Err, true, false, Bool, All, if◌then◌else◌}
-use mathlib.Core.Path.{sym, refl, ap, ap₂, ◌∙◌, fun_ext, subst}
+use Rattle.std.specs.Prelude.{◌≡◌, ◌≢◌, ℕ, zero, suc, ◌-◌, ◌<◌, ◌≤◌, List, [], ◌∷◌, ◌++◌, length, get_or, map, set, replicate, Ok}
+use mathlib.Core.Path.{sym, refl, ap, ◌∙◌, fun_ext, subst}
 use native.Mathlib.Omega.{arith}
 use native.Mathlib.Decide.{ℕ_discrete}
 use Rattle.std.proofs.lemmas.List.{length-set, length-append, length-replicate, length-map}
-use Rattle.std.proofs.lemmas.List.Elements.{All-nil, All-cons, All-head, All-tail, All-append, All-replicate, All-set, All-map}
+use Rattle.std.proofs.lemmas.List.Elements.{All-nil, All-cons, All-head, All-tail, All-append, All-replicate, All-set}
 use Rattle.fpl_fields.specs.Field.{Field}
-use Rattle.fpl_linear.specs.Vector.{Vector, vzero, vplus, scale, place, total}
+use Rattle.fpl_linear.specs.Vector.{Vector, vzero, vplus, scale, place}
 use Rattle.fpl_linear.specs.Lists.{vector_of}
-use Rattle.fpl_linear.proofs.Numbers.{nought-plus, times-nought, nought-times, minus-times, unit-times, minus-nought}
-use Rattle.fpl_linear.proofs.Vectors.{vplus-vzero, vzero-vplus, vplus_assoc, place_same, place_other, total_same, total_none, scale-nought}
+use Rattle.fpl_linear.proofs.Numbers.{times-nought, minus-times, unit-times}
+use Rattle.fpl_linear.proofs.Vectors.{place_same, place_other}
 use Rattle.fpl_numbers.specs.declared.number.Num.{Num}
 use Rattle.fpl_numbers.specs.declared.number.Kind.{Kind}
-use Rattle.fpl_numbers.specs.declared.number.Unfit.{Unfit}
 use Rattle.fpl_numbers.specs.declared.number.Op.TheVariants.{Add, Mul}
-use Rattle.fpl_numbers.specs.Numbers.{IsElement, operate, is_nought, residue, negative_of}
-use Rattle.fpl_numbers.specs.Results.{map_ok, and_then}
+use Rattle.fpl_numbers.specs.Numbers.{IsElement, operate, residue, negative_of}
+use Rattle.fpl_numbers.specs.Results.{and_then}
 use Rattle.fpl_numbers.specs.Reads.{Reads}
 use Rattle.fpl_scalar.specs.Vectors.{AreElements, axpy_of, scale_of}
 use Rattle.fpl_table.specs.Value.{zero_row, padded, add_at, add_row}
@@ -79,7 +78,7 @@ module _ (kind : Kind) (K : Field) (value : Num → K.Carrier) (reads : Reads ki
   set_other (y ∷ ys) (suc s) (suc t) x d = set_other ys s t x (λ e. d (ap suc e))
 
   added_at : (row : List Num) (s t : ℕ) (x c : Num) → s < length row → value x ≡ K.plus (vector_of K value row s) (value c) →
-    vector_of K value (set row s x) t ≡ K.plus (vector_of K value row t) (K.times (value c) (place K s t))
+      vector_of K value (set row s x) t ≡ K.plus (vector_of K value row t) (K.times (value c) (place K s t))
   added_at row s t x c l e = go (ℕ_discrete s t)
     where
       go : Dec (s ≡ t) → vector_of K value (set row s x) t ≡ K.plus (vector_of K value row t) (K.times (value c) (place K s t))
@@ -91,7 +90,7 @@ module _ (kind : Kind) (K : Field) (value : Num → K.Carrier) (reads : Reads ki
 
   -- a number added at a place
   pub add_at_reads : (n : ℕ) (w : Vector K) (v z : List Num) (s : ℕ) (c : Num) → IsFor kind K value n w v → IsElement kind c → s < n → add_at kind v s c ≡ Ok z →
-    IsFor kind K value n (vplus K w (scale K (value c) (place K s))) z
+      IsFor kind K value n (vplus K w (scale K (value c) (place K s))) z
   unfolding vplus scale
   add_at_reads n w v z s c h b l e =
       let inside : s < length v = omega (arith, h.long) in
@@ -107,7 +106,7 @@ module _ (kind : Kind) (K : Field) (value : Num → K.Carrier) (reads : Reads ki
       }
 
   sum_places : (xs ys zs : List Num) → AreElements kind xs → AreElements kind ys → length ys ≤ length xs → add_row kind xs ys ≡ Ok zs →
-    AreElements kind zs × ((length zs ≡ length xs) × ((s : ℕ) → vector_of K value zs s ≡ K.plus (vector_of K value xs s) (vector_of K value ys s)))
+      AreElements kind zs × ((length zs ≡ length xs) × ((s : ℕ) → vector_of K value zs s ≡ K.plus (vector_of K value xs s) (vector_of K value ys s)))
   sum_places [] [] zs a d l e =
       let is : [] ≡ zs = ok_same e in
       (subst (AreElements kind) is a, (ap length (sym is), λ s. ap (λ w. vector_of K value w s) (sym is) ∙ sym (K.plus-nought K.nought)))
@@ -123,7 +122,7 @@ module _ (kind : Kind) (K : Field) (value : Num → K.Carrier) (reads : Reads ki
       (subst (AreElements kind) (sym r.1.1) (All-cons (IsElement kind) t.0 r.0 q.0 k.0), (ap length r.1.1 ∙ ap suc k.1.0, λ s. ap (λ w. vector_of K value w s) r.1.1 ∙ go t.0 r.0 q.1 k.1.1 s))
     where
       go : (t : Num) (rest : List Num) → value t ≡ K.plus (value x) (value y) → ((s : ℕ) → vector_of K value rest s ≡ K.plus (vector_of K value xs s) (vector_of K value ys s)) →
-        (s : ℕ) → vector_of K value (t ∷ rest) s ≡ K.plus (vector_of K value (x ∷ xs) s) (vector_of K value (y ∷ ys) s)
+          (s : ℕ) → vector_of K value (t ∷ rest) s ≡ K.plus (vector_of K value (x ∷ xs) s) (vector_of K value (y ∷ ys) s)
       go t rest h k zero = h
       go t rest h k (suc s) = k s
 
@@ -135,7 +134,7 @@ module _ (kind : Kind) (K : Field) (value : Num → K.Carrier) (reads : Reads ki
       record { elements = k.0; long = k.1.0 ∙ h.long; vector = fun_ext k.1.1 ∙ ap (λ u s. K.plus (u s) (vector_of K value x s)) h.vector }
 
   axpy_places : (xs ys zs : List Num) (c : Num) → AreElements kind xs → IsElement kind c → AreElements kind ys → length ys ≤ length xs → axpy_of kind xs c ys ≡ Ok zs →
-    AreElements kind zs × ((length zs ≡ length xs) × ((s : ℕ) → vector_of K value zs s ≡ K.plus (vector_of K value xs s) (K.times (value c) (vector_of K value ys s))))
+      AreElements kind zs × ((length zs ≡ length xs) × ((s : ℕ) → vector_of K value zs s ≡ K.plus (vector_of K value xs s) (K.times (value c) (vector_of K value ys s))))
   axpy_places [] [] zs c a b d l e =
       let is : [] ≡ zs = ok_same e in
       (subst (AreElements kind) is a, (ap length (sym is), λ s. ap (λ w. vector_of K value w s) (sym is) ∙ sym (ap (K.plus K.nought) (times-nought K _) ∙ K.plus-nought _)))
@@ -153,21 +152,21 @@ module _ (kind : Kind) (K : Field) (value : Num → K.Carrier) (reads : Reads ki
       (subst (AreElements kind) (sym r.1.1) (All-cons (IsElement kind) o.0 r.0 q.0 k.0), (ap length r.1.1 ∙ ap suc k.1.0, λ s. ap (λ w. vector_of K value w s) r.1.1 ∙ go o.0 r.0 (q.1 ∙ ap (K.plus (value x)) p.1) k.1.1 s))
     where
       go : (t : Num) (rest : List Num) → value t ≡ K.plus (value x) (K.times (value c) (value y)) →
-        ((s : ℕ) → vector_of K value rest s ≡ K.plus (vector_of K value xs s) (K.times (value c) (vector_of K value ys s))) →
-        (s : ℕ) → vector_of K value (t ∷ rest) s ≡ K.plus (vector_of K value (x ∷ xs) s) (K.times (value c) (vector_of K value (y ∷ ys) s))
+          ((s : ℕ) → vector_of K value rest s ≡ K.plus (vector_of K value xs s) (K.times (value c) (vector_of K value ys s))) →
+          (s : ℕ) → vector_of K value (t ∷ rest) s ≡ K.plus (vector_of K value (x ∷ xs) s) (K.times (value c) (vector_of K value (y ∷ ys) s))
       go t rest h k zero = h
       go t rest h k (suc s) = k s
 
   -- a multiple of a row added
   pub axpy_reads : (n : ℕ) (w : Vector K) (v x z : List Num) (c : Num) → IsFor kind K value n w v → IsElement kind c → AreElements kind x → length x ≤ n → axpy_of kind v c x ≡ Ok z →
-    IsFor kind K value n (vplus K w (scale K (value c) (vector_of K value x))) z
+      IsFor kind K value n (vplus K w (scale K (value c) (vector_of K value x))) z
   unfolding vplus scale
   axpy_reads n w v x z c h b d l e =
       let k = axpy_places v x z c h.elements b d (omega (arith, h.long)) e in
       record { elements = k.0; long = k.1.0 ∙ h.long; vector = fun_ext k.1.1 ∙ ap (λ u s. K.plus (u s) (K.times (value c) (vector_of K value x s))) h.vector }
 
   scale_places : (xs zs : List Num) (c : Num) → AreElements kind xs → IsElement kind c → scale_of kind c xs ≡ Ok zs →
-    AreElements kind zs × ((length zs ≡ length xs) × ((s : ℕ) → vector_of K value zs s ≡ K.times (value c) (vector_of K value xs s)))
+      AreElements kind zs × ((length zs ≡ length xs) × ((s : ℕ) → vector_of K value zs s ≡ K.times (value c) (vector_of K value xs s)))
   scale_places [] zs c a b e =
       let is : [] ≡ zs = ok_same e in
       (subst (AreElements kind) is a, (ap length (sym is), λ s. ap (λ w. vector_of K value w s) (sym is) ∙ sym (times-nought K _)))
@@ -179,7 +178,7 @@ module _ (kind : Kind) (K : Field) (value : Num → K.Carrier) (reads : Reads ki
       (subst (AreElements kind) (sym r.1.1) (All-cons (IsElement kind) m.0 r.0 p.0 k.0), (ap length r.1.1 ∙ ap suc k.1.0, λ s. ap (λ w. vector_of K value w s) r.1.1 ∙ go m.0 r.0 p.1 k.1.1 s))
     where
       go : (t : Num) (rest : List Num) → value t ≡ K.times (value c) (value x) → ((s : ℕ) → vector_of K value rest s ≡ K.times (value c) (vector_of K value xs s)) →
-        (s : ℕ) → vector_of K value (t ∷ rest) s ≡ K.times (value c) (vector_of K value (x ∷ xs) s)
+          (s : ℕ) → vector_of K value (t ∷ rest) s ≡ K.times (value c) (vector_of K value (x ∷ xs) s)
       go t rest h k zero = h
       go t rest h k (suc s) = k s
 

@@ -1,10 +1,10 @@
 -- The plain rows of triples and cubes stand for their rows in the mathematics.
-use Rattle.std.specs.Prelude.{◌≡◌, ℕ, suc, ◌+◌, ◌<◌, ◌≤◌, List, [], length, Result, Ok}
+use Rattle.std.specs.Prelude.{◌≡◌, ℕ, suc, ◌+◌, ◌<◌, ◌≤◌, List, length, Result, Ok}
 use mathlib.Core.Path.{sym, refl, ap, ap₂, ◌∙◌, subst, fun_ext}
 use native.Mathlib.Omega.{arith}
 use native.Mathlib.Decide.{dec_lt}
 use Rattle.fpl_fields.specs.Field.{Field}
-use Rattle.fpl_linear.specs.Vector.{Vector, vzero, vplus, scale, place, total}
+use Rattle.fpl_linear.specs.Vector.{Vector, vzero, vplus, scale, total}
 use Rattle.fpl_linear.proofs.Vectors.{vplus_assoc, vzero-vplus, scale-vplus, scale_scale, scale_comm, total_same, total_scale}
 use Rattle.fpl_linear.proofs.Numbers.{minus_minus, minus-times, unit-times}
 use Rattle.fpl_numbers.specs.declared.number.Num.{Num}
@@ -17,14 +17,14 @@ use Rattle.fpl_algebra.specs.Derives.{sign}
 use Rattle.fpl_algebra.specs.Table.{IsOf, product}
 use Rattle.fpl_algebra.specs.SourceRows.{outer_place, jacobi_row, cube_row}
 use Rattle.fpl_standard.proofs.Views.{jacobi_entries, cube_entries}
-use Rattle.fpl_table.specs.Plain.{PlainTable, entry_row, vector_in, table_in, shell_in, Pairing, nothing, plus, minus, itself, pairing}
+use Rattle.fpl_table.specs.Plain.{PlainTable, vector_in, table_in, shell_in, Pairing, nothing, plus, minus, itself, pairing}
 use Rattle.fpl_table.specs.Value.{zero_row}
 use Rattle.fpl_rewrite.specs.Rows.{add_signed, entry_by, entry_if, spread, first_terms, second_terms, swapped, third_terms, jacobi_row_of, cube_row_of}
-use Rattle.fpl_faithful.specs.Premises.{IsFor, IsRowIn, HasRows, HasWeights}
+use Rattle.fpl_faithful.specs.Premises.{IsRowIn, HasRows, HasWeights}
 use Rattle.fpl_faithful.proofs.Fits.{first_fits}
 use Rattle.fpl_faithful.proofs.Walks.{Adds, Places, walk_reads}
-use Rattle.fpl_faithful.proofs.Pairs.{paired, weight, parity, pairing_below, pairing_itself, pairing_is}
-use Rattle.fpl_faithful.proofs.Products.{reads, units, Stands, same, entry, entry_in, empty_row, product_within}
+use Rattle.fpl_faithful.proofs.Pairs.{paired, weight, parity, pairing_below, pairing_itself, IsPaired, pairing_is}
+use Rattle.fpl_faithful.proofs.Products.{reads, units, Stands, same, entry, pair_row, empty_row, product_within}
 use Rattle.fpl_faithful.proofs.Forms.{pairs, m, HasWeight, minus_once, signed_reads, outer_is, places_of, zero_symbols}
 
 module _ (T : PlainTable) (is_field : IsField T.kind) where
@@ -63,10 +63,10 @@ module _ (T : PlainTable) (is_field : IsField T.kind) where
   entry_is : (i j : ℕ) → i ≤ j → weight T i + weight T j ≤ T.weight → vector_in T.kind (entry_if T i j) ≡ product F (table_in T.kind T) i j
   entry_is i j l h = plus_entry (pairing T i j) (ordered_plus i j l) ∙ sym (product_within T is_field i j h)
 
-  entry_row_in : HasRows T → (pr : Pairing) → IsRowIn T (entry_by T pr)
-  entry_row_in rows nothing = empty_row T
-  entry_row_in rows (plus i j) = entry_in T rows i j
-  entry_row_in rows (minus i j) = empty_row T
+  entry_row_in : HasRows T → (i j : ℕ) (pr : Pairing) → IsPaired T i j pr → weight T i + weight T j ≤ T.weight → IsRowIn T (entry_by T pr)
+  entry_row_in rows i j nothing p h = empty_row T
+  entry_row_in rows i j (plus a b) p h = pair_row T rows i j a b p h
+  entry_row_in rows i j (minus a b) p h = empty_row T
 
   -- one place of an entry, in each of the three terms
   at_reads : (i j : ℕ) → i < n → j < n → weight T i + weight T j ≡ suc T.weight → (c : Num) (v z : List Num) (w : Vector F) → IsElement T.kind c → Stands T is_field (m T is_field) w v →
@@ -107,9 +107,12 @@ module _ (T : PlainTable) (is_field : IsField T.kind) where
       ∙ vplus_assoc F _ _ _ ∙ ap (vplus F a) (sym (scale-vplus F _ b (scale F s c)))
 
   module _ (rows : HasRows T) (weights : HasWeights T) where
+    entry_in : (i j : ℕ) → i ≤ j → j < n → weight T i + weight T j ≤ T.weight → IsRowIn T (entry_if T i j)
+    entry_in i j l k h = entry_row_in rows i j (pairing T i j) (pairing_is T i j (omega arith) k) h
+
     entry_places : (i j : ℕ) → i ≤ j → j < n → weight T i + weight T j ≤ T.weight → Places (HasWeight T is_field (weight T i + weight T j)) 0 (entry_if T i j)
     entry_places i j l k h =
-        places_of T is_field (weight T i + weight T j) (entry_if T i j) (entry_row_in rows (pairing T i j)).elements
+        places_of T is_field (weight T i + weight T j) (entry_if T i j) (entry_in i j l k h).elements
         (subst (IsOf F (table_in T.kind T) (weight T i + weight T j)) (sym (entry_is i j l h)) (weights.products i j (omega arith) k))
 
     -- a walk over the entry of an ordered pair adds the sum over its product
@@ -118,7 +121,7 @@ module _ (T : PlainTable) (is_field : IsField T.kind) where
         Stands T is_field (m T is_field) w v → spread T step 0 (entry_if T i j) v ≡ Ok z →
         Stands T is_field (m T is_field) (vplus F w (total F n (λ t. scale F (product F (table_in T.kind T) i j t) (form t)))) z
     entry_walk i j l k h step form adds v z w s e =
-        let r = entry_row_in rows (pairing T i j) in
+        let r = entry_in i j l k h in
         same T is_field (m T is_field) _ _ z (ap (λ u. vplus F w (total F n (λ t. scale F (u t) (form t)))) (entry_is i j l h))
         (walk_reads T.kind F (number_of T.kind) (reads T is_field) (units T is_field) T n (m T is_field) (HasWeight T is_field (weight T i + weight T j)) step form adds
         (entry_if T i j) v z w r.elements r.short (entry_places i j l k h) s e)

@@ -1,18 +1,15 @@
 -- 0 and 1 in each kind.
-use Rattle.std.specs.Prelude.{◌≡◌, ◌≢◌, ℕ, ◌<◌, ◌≤◌, ◌%◌, ◌*◌, pos, Ok}
-use mathlib.Core.Path.{sym, refl, ap, ◌∙◌, subst}
+use Rattle.std.specs.Prelude.{◌≡◌, ◌≢◌, ℕ, ◌<◌, ◌%◌, Ok}
+use mathlib.Core.Path.{sym, refl, ap, ◌∙◌}
 use native.Mathlib.Omega.{arith}
 use Rattle.std.proofs.Math.Nat.{mod-eq_of_lt}
 use Rattle.std.proofs.lemmas.Nat.Gcd.{IsGcd-from_zero, IsGcd-from_mod}
 use Rattle.fpl_fields.specs.Field.{Field}
-use Rattle.fpl_linear.proofs.Numbers.{times-nought}
-use Rattle.fpl_numbers.specs.declared.number.Num.{Num}
 use Rattle.fpl_numbers.specs.declared.number.Kind.{Kind}
 use Rattle.fpl_numbers.specs.declared.number.Kind.TheVariants.{Rational, Prime}
 use Rattle.fpl_numbers.specs.declared.number.Op.TheVariants.{Mul}
 use Rattle.fpl_numbers.specs.Numbers.{IsListed, IsField, IsElement, operate, residue, gcd_within, gcd}
 use Rattle.fpl_numbers.specs.Kinds.{field_of, number_of}
-use Rattle.fpl_numbers.specs.Reads.{Reads}
 use Rattle.fpl_numbers.proofs.KindReads.{kind_reads, listed_prime}
 use Rattle.fpl_faithful.proofs.Rows.{HasUnits}
 

@@ -1,16 +1,17 @@
 -- The plain value of an expression is its value in the table.
-use Rattle.std.specs.Prelude.{◌≡◌, ℕ, ◌+◌, ◌-◌, ◌<◌, ◌≤◌, List, [], length, Result, Ok, true, false, Bool, nat_le, if◌then◌else◌}
-use mathlib.Core.Path.{sym, refl, ap, ap₂, ◌∙◌, subst}
+use Rattle.std.specs.Prelude.{◌≡◌, ℕ, ◌-◌, List, length, Result, Ok, true, false, Bool, if◌then◌else◌}
+use mathlib.Core.Path.{sym, refl, ap, ap₂, subst}
 use native.Mathlib.Omega.{arith}
-use Rattle.fpl_linear.specs.Vector.{Vector, vzero, vplus, scale}
+use Rattle.fpl_linear.specs.Vector.{Vector, vzero, vplus}
 use Rattle.fpl_linear.proofs.Vectors.{vplus_assoc, vplus-vzero, vzero-vplus}
 use Rattle.fpl_numbers.specs.declared.number.Num.{Num}
+use Rattle.fpl_numbers.specs.declared.number.Kind.{Kind}
 use Rattle.fpl_numbers.specs.declared.number.Unfit.{Unfit}
-use Rattle.fpl_numbers.specs.Numbers.{IsField, IsElement}
+use Rattle.fpl_numbers.specs.Numbers.{IsField}
 use Rattle.fpl_numbers.specs.Results.{and_then}
 use Rattle.fpl_numbers.specs.Kinds.{field_of, number_of, Number}
 use Rattle.fpl_scalar.specs.Vectors.{scale_of}
-use Rattle.fpl_algebra.specs.Tree.{Tree, Trees, gen, none, sum_of, multiple, bracket_of as br, end, more, IsOver, AreOver}
+use Rattle.fpl_algebra.specs.Tree.{Tree, Trees, gen, none, sum_of, multiple, bracket_of as br, end, more, Presentation, IsOver, AreOver}
 use Rattle.fpl_algebra.specs.Tree.IsOver.{over_gen, over_none, over_sum, over_multiple, over_bracket}
 use Rattle.fpl_algebra.specs.Tree.AreOver.{over_end, over_more}
 use Rattle.fpl_algebra.specs.Degrees.{Degree, any, exact, mixed, weight_of}
@@ -22,25 +23,25 @@ use Rattle.fpl_tables.proofs.Relations.{val_of}
 use Rattle.fpl_built.proofs.Next.{of_past}
 use Rattle.fpl_model.specs.Meaning.{in_field, all_in_field}
 use Rattle.fpl_model.specs.Sound.{IsWithin, AreWithin}
-use Rattle.fpl_table.specs.Plain.{PlainTable, image_row, vector_in, table_in, shell_in}
+use Rattle.fpl_table.specs.Plain.{PlainTable, image_row, table_in, shell_in}
 use Rattle.fpl_table.specs.Value.{zero_row, padded, add_row, bracket_of, is_weight_light, is_light, value_of, values_of}
-use Rattle.fpl_faithful.specs.Premises.{IsFor, IsRowIn, HasRows, HasWeights}
+use Rattle.fpl_faithful.specs.Premises.{IsRowIn, HasRows, HasWeights}
 use Rattle.fpl_faithful.proofs.Fits.{ok_same, first_fits}
 use Rattle.fpl_faithful.proofs.Rows.{zero_row_reads, padded_reads, scale_reads, add_row_reads}
-use Rattle.fpl_faithful.proofs.Products.{K, reads, units, Stands, same, all_or, empty_row, bracket_reads}
+use Rattle.fpl_faithful.proofs.Products.{reads, units, Stands, same, bracket_reads}
 
--- an expression within the generators of a table is one over them
+-- an expression within the generators of a presentation is one over it
 mutual
-  pub over_is : (T : PlainTable) (e : Tree Num) → IsWithin T.kind (length T.generators) e → IsOver (shell_in T.kind T) (in_field T.kind e)
-  over_is T (gen g) h = over_gen (g - 1) (let l = h.0 in let m = h.1 in omega arith)
-  over_is T none h = over_none
-  over_is T (sum_of es) h = over_sum (overs_are T es h.1)
-  over_is T (multiple c e) h = over_multiple (over_is T e h.1)
-  over_is T (br a b) h = over_bracket (over_is T a h.0) (over_is T b h.1)
+  pub over_is : (k : Kind) (P : Presentation (Number k)) (e : Tree Num) → IsWithin k (length P.generators) e → IsOver P (in_field k e)
+  over_is k P (gen g) h = over_gen (g - 1) (let l = h.0 in let m = h.1 in omega arith)
+  over_is k P none h = over_none
+  over_is k P (sum_of es) h = over_sum (overs_are k P es h.1)
+  over_is k P (multiple c e) h = over_multiple (over_is k P e h.1)
+  over_is k P (br a b) h = over_bracket (over_is k P a h.0) (over_is k P b h.1)
 
-  pub overs_are : (T : PlainTable) (es : Trees Num) → AreWithin T.kind (length T.generators) es → AreOver (shell_in T.kind T) (all_in_field T.kind es)
-  overs_are T end h = over_end
-  overs_are T (more e es) h = over_more (over_is T e h.0) (overs_are T es h.1)
+  pub overs_are : (k : Kind) (P : Presentation (Number k)) (es : Trees Num) → AreWithin k (length P.generators) es → AreOver P (all_in_field k es)
+  overs_are k P end h = over_end
+  overs_are k P (more e es) h = over_more (over_is k P e h.0) (overs_are k P es h.1)
 
 module _ (T : PlainTable) (is_field : IsField T.kind) (rows : HasRows T) (weights : HasWeights T) where
   abbrev n : ℕ
@@ -63,7 +64,7 @@ module _ (T : PlainTable) (is_field : IsField T.kind) (rows : HasRows T) (weight
 
   -- an expression that isn't light has value 0
   pub zero_heavy : (e : Tree Num) → IsWithin T.kind (length T.generators) e → is_light T e ≡ false → value_in (in_field T.kind e) ≡ vzero (field_of T.kind)
-  zero_heavy e h f = zero_by (in_field T.kind e) (weight_of (shell_in T.kind T) (in_field T.kind e)) (weight_means (shell_in T.kind T) (over_is T e h)) f
+  zero_heavy e h f = zero_by (in_field T.kind e) (weight_of (shell_in T.kind T) (in_field T.kind e)) (weight_means (shell_in T.kind T) (over_is T.kind (shell_in T.kind T) e h)) f
 
   zero_reads : Stands T is_field n (vzero (field_of T.kind)) (zero_row n)
   zero_reads = zero_row_reads T.kind (field_of T.kind) (number_of T.kind) (reads T is_field) (units T is_field) n
@@ -76,9 +77,6 @@ module _ (T : PlainTable) (is_field : IsField T.kind) (rows : HasRows T) (weight
 
   pub is_row : (v : Vector (field_of T.kind)) (row : List Num) → Stands T is_field n v row → IsRowIn T row
   is_row v row h = record { elements = h.elements; short = let l = h.long in omega arith }
-
-  image_in : (g : ℕ) → IsRowIn T (image_row T g)
-  image_in g = all_or (IsRowIn T) T.images g [] rows.images (empty_row T)
 
   bracket_is : (a b : Tree Num) (x y z : List Num) → Stands T is_field n (value_in (in_field T.kind a)) x → Stands T is_field n (value_in (in_field T.kind b)) y → bracket_of T x y ≡ Ok z →
       Stands T is_field n (bracket (field_of T.kind) (table_in T.kind T) (value_in (in_field T.kind a)) (value_in (in_field T.kind b))) z
@@ -97,7 +95,7 @@ module _ (T : PlainTable) (is_field : IsField T.kind) (rows : HasRows T) (weight
     pub value_reads : (e : Tree Num) → IsWithin T.kind (length T.generators) e → (v : List Num) → value_of T e ≡ Ok v → Stands T is_field n (value_in (in_field T.kind e)) v
     value_reads (gen g) h v f =
         by_light (gen g) (is_light T (gen g)) h refl (Ok (padded n (image_row T (g - 1)))) v f
-        (λ e. let i = image_in (g - 1) in
+        (λ e. let i = rows.images (g - 1) (let l = h.0 in let m = h.1 in omega arith) in
         subst (Stands T is_field n _) (ok_same e) (padded_reads T.kind (field_of T.kind) (number_of T.kind) (reads T is_field) (units T is_field) n (image_row T (g - 1)) i.elements i.short))
     value_reads none h v f = subst (Stands T is_field n _) (ok_same f) zero_reads
     value_reads (sum_of es) h v f =

@@ -1,1 +1,4 @@
 pub mod Premises
+pub mod RowLaws
+pub mod TableLaws
+pub mod PrimeLaws

@@ -6,6 +6,8 @@ mod field;
 mod fraction;
 mod quotients;
 mod residue;
+#[cfg(test)]
+mod tests;
 
 pub use field::Field;
 pub use fpl_numbers::{Fault, Kind, Num, Op, PRIMES, Unfit};
