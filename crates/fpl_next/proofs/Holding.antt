@@ -28,8 +28,10 @@ use Rattle.fpl_table.specs.Plain.{PlainTable, plain_basis, through, table_in, sh
 use Rattle.fpl_table.specs.Push.{push_of}
 use Rattle.fpl_table.specs.Shape.{HasShape, images_at, entries_at}
 use Rattle.fpl_built.proofs.NextTables.{length_map}
-use Rattle.fpl_next.specs.Holds.{StartHolds, PushHolds, HeldIsTable, SymbolsAreSame, SoundIsSound}
+use Rattle.fpl_next.specs.Holds.{StartHolds, PushKeepsShape, PushHolds, HeldIsTable, SymbolsAreSame, SoundIsSound}
 use Rattle.fpl_next.proofs.Pushed.{push_built}
+use Rattle.fpl_next.proofs.Shaped.{push_shape}
+use Rattle.fpl_table.proofs.Shapes.{start_whole}
 
 -- expressions of a presentation are over its algebra
 module _ (k : Kind) (P : Algebra (Number k)) where
@@ -94,11 +96,11 @@ unfolding vzero
 no_vector k = fun_ext (λ s. refl)
 
 pub start_holds : StartHolds
-start_holds p s shape = record {
+start_holds p s = record {
   sound = s;
   kind = refl;
   generators = refl;
-  shape = shape;
+  shape = (start_whole p.field p.generators s.field s.few s.weights).shape;
   built = built_start (record { weight = refl; basis = refl; images = λ g l. no_vector p.field });
 }
 
@@ -110,12 +112,15 @@ push_by T shape rows closed k e =
     SpansKind (field_of k) (IsSource (field_of k) P (table_in k T)) (length rows) (row_in k rows) → Built (field_of k) P (table_in k (push_of T rows)))
     e (λ P g s b spans. push_built T shape P g rows closed s b spans)
 
+pub push_keeps_shape : PushKeepsShape
+push_keeps_shape T rows shape below few are = push_shape T shape rows are below few
+
 pub push_holds : PushHolds
-push_holds p T h rows shape closed spans = record {
+push_holds p T rows h below few closed spans = record {
   sound = h.sound;
   kind = h.kind;
   generators = h.generators;
-  shape = shape;
+  shape = push_shape T h.shape rows closed.are_rows below few;
   built = push_by T h.shape rows closed p.field h.kind (presentation_in p) (sym h.generators) (sound_is_sound p h.sound) h.built spans;
 }
 

@@ -4,3 +4,4 @@ pub mod Places
 pub mod Pushed
 pub mod Holding
 pub mod One
+pub mod Shaped

@@ -76,7 +76,7 @@ module _ (T : PlainTable) (shape : HasShape T) (rows : List (List Num)) where
       (omega (arith, w, shape.images_length, length-append T.images (new_images T rows 0 T.generators ∷ []))))
 
   -- entries
-  new_entries_at : (bs : List Basis) (i j : ℕ) → j < length bs → get_or (new_entries T rows i bs) j [] ≡ new_partners T rows (i + j) 0 T.basis
+  pub new_entries_at : (bs : List Basis) (i j : ℕ) → j < length bs → get_or (new_entries T rows i bs) j [] ≡ new_partners T rows (i + j) 0 T.basis
   new_entries_at [] i j l = absurd (omega arith)
   new_entries_at (b ∷ bs) i zero l = let e : i ≡ i + 0 = omega arith in ap (λ k. new_partners T rows k 0 T.basis) e
   new_entries_at (b ∷ bs) i (suc j) l =

@@ -2,6 +2,7 @@
 --
 --   Holds p T             T is a built table of the sound presentation p, in plain numbers
 --   StartHolds            the table through weight 0 is
+--   PushKeepsShape        pushing rows of elements over the symbols keeps the shape
 --   PushHolds             so is one with a weight more, pushed by closed rows that span exactly the source rows
 --   HeldIsTable           such a table is the table of p through its weight
 --   SymbolsAreSame        the symbols that a table names are those of its presentation, in every weight
@@ -12,7 +13,7 @@ use Rattle.fpl_linear.specs.Span.{SpansKind}
 use Rattle.fpl_numbers.specs.declared.number.Num.{Num}
 use Rattle.fpl_numbers.specs.Numbers.{residue}
 use Rattle.fpl_numbers.specs.Kinds.{field_of}
-use Rattle.fpl_rows.specs.Meaning.{row_in, IsClosedList}
+use Rattle.fpl_rows.specs.Meaning.{row_in, AreRows, IsClosedList}
 use Rattle.fpl_algebra.specs.Degrees.{IsSoundPresentation}
 use Rattle.fpl_algebra.specs.Symbols.{symbols, symbols_of}
 use Rattle.fpl_algebra.specs.SourceRows.{IsSource}
@@ -33,11 +34,15 @@ pub record Holds (p : Presentation) (T : PlainTable) : Type 0 where
   pub built : Built (field_of p.field) (presentation_in p) (table_in p.field T)
 
 abbrev pub StartHolds : Type 0
-StartHolds = (p : Presentation) → IsSound p → HasShape (start_of p) → Holds p (start_of p)
+StartHolds = (p : Presentation) → IsSound p → Holds p (start_of p)
+
+abbrev pub PushKeepsShape : Type 0
+PushKeepsShape =
+    (T : PlainTable) (rows : List (List Num)) → HasShape T → T.weight < 1000 → length (symbols_in T) ≤ 2000000 → AreRows T.kind (length (symbols_in T)) rows → HasShape (push_of T rows)
 
 abbrev pub PushHolds : Type 0
 PushHolds =
-    (p : Presentation) (T : PlainTable) → Holds p T → (rows : List (List Num)) → HasShape (push_of T rows) → IsClosedList T.kind (length (symbols_in T)) rows →
+    (p : Presentation) (T : PlainTable) (rows : List (List Num)) → Holds p T → T.weight < 1000 → length (symbols_in T) ≤ 2000000 → IsClosedList T.kind (length (symbols_in T)) rows →
     SpansKind (field_of p.field) (IsSource (field_of p.field) (presentation_in p) (table_in p.field T)) (length rows) (row_in p.field rows) → Holds p (push_of T rows)
 
 abbrev pub HeldIsTable : Type 0

@@ -3,7 +3,7 @@
 //! Each function does nothing: what it ensures is a law.
 #![tactic(auto)]
 
-ghost use Rattle.fpl_next.specs.Holds.{HeldIsTable, PushHolds, SoundIsSound, StartHolds, SymbolsAreSame, TablesAreOne};
+ghost use Rattle.fpl_next.specs.Holds.{HeldIsTable, PushHolds, PushKeepsShape, SoundIsSound, StartHolds, SymbolsAreSame, TablesAreOne};
 
 /// A sound presentation is sound as far as the algebra goes, and a table names the symbols of its presentation.
 pub fn presentations()
@@ -15,6 +15,7 @@ pub fn presentations()
 /// its presentation.
 pub fn raising()
     ensures start { StartHolds }
+    ensures shape { PushKeepsShape }
     ensures push { PushHolds }
     ensures table { HeldIsTable }
 {}
