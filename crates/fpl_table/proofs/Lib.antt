@@ -3,3 +3,5 @@ pub mod Shapes
 pub mod Weights
 pub mod Entries
 pub mod Cells
+pub mod Light
+pub mod Padded
