@@ -3,3 +3,4 @@ pub mod Shapes
 pub mod Weights
 pub mod Entries
 pub mod Cells
+pub mod Numbering
