@@ -3,7 +3,7 @@ use Rattle.std.proofs.Common.{◌≡◌, ◌≤◌, ◌<◌, ◌+◌, ◌-◌, �
 use Rattle.std.proofs.lemmas.List.{length-map}
 use Rattle.fpl_numbers.specs.declared.number.Num.{Num}
 use Rattle.fpl_table.specs.Plain.{PlainTable, through, first_partner, partner_from, plain_basis, entry_row, image_row, generator_at}
-use Rattle.fpl_table.specs.Shape.{HasShape, IsRowUpTo, entries_at, partners}
+use Rattle.fpl_table.specs.Shape.{HasShape, IsRowUpTo, images_at, entries_at, partners}
 use Rattle.fpl_table.proofs.Lists.{map_at, at_default}
 use Rattle.fpl_table.proofs.Weights.{through_above, through_heavier, through_within}
 
@@ -83,3 +83,22 @@ image_row_within T shape g lt reached =
     let row = shape.image_rows ((generator_at T g).weight - 1) g (omega arith) lt in
     let all : through T (suc ((generator_at T g).weight - 1)) ≤ length T.basis = through_within T shape (suc ((generator_at T g).weight - 1)) in
     record { elements = row.elements; short = omega (arith, row.short, all) }
+
+module _ (T : PlainTable) (shape : HasShape T) (g : ℕ) (lt : g < length T.generators) (reached : (generator_at T g).weight ≤ T.weight) where
+  image_place : (generator_at T g).weight - 1 < T.weight
+  image_place = let h : 1 ≤ (generator_at T g).weight = (shape.weights g lt).0 in omega arith
+
+  module _ {L : Type 0} (levels : List L) (images : L → List (List Num)) (is : map images levels ≡ T.images) (level : L) (at_level : level ≡ get_or levels ((generator_at T g).weight - 1) level) where
+    images_are : images_at T ((generator_at T g).weight - 1) ≡ images level
+    images_are =
+        let h : length levels ≡ T.weight = sym (length-map levels images) ∙ ap length is ∙ shape.images_length in
+        let k : (generator_at T g).weight - 1 < T.weight = image_place in
+        rw (← is) (map_at images levels ((generator_at T g).weight - 1) [] level (omega arith) at_level)
+
+    pub image_within : g < length (images level)
+    image_within =
+        let h : length (images level) ≡ length T.generators = ap length (sym images_are) ∙ shape.image_lengths ((generator_at T g).weight - 1) image_place in
+        omega arith
+
+    pub image_found : (row : List Num) → row ≡ get_or (images level) g row → row ≡ image_row T g
+    image_found row here = sym (ap (λ rows. get_or rows g []) images_are ∙ at_default (images level) g [] row image_within here)

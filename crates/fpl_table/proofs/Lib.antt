@@ -4,3 +4,5 @@ pub mod Weights
 pub mod Entries
 pub mod Cells
 pub mod Numbering
+pub mod Light
+pub mod Padded

@@ -1,5 +1,5 @@
-ghost use Rattle.std.specs.Prelude.{◌≡◌, ◌≤◌, ◌<◌, ◌^◌, length, map, IfOk, OnOk};
-ghost use Rattle.fpl_numbers.specs.Numbers.{IsElement};
+ghost use Rattle.std.specs.Prelude.{◌≡◌, ◌≤◌, ◌<◌, ◌^◌, length, map, get_or, IfOk, OnOk};
+ghost use Rattle.fpl_numbers.specs.Numbers.{IsElement, residue};
 ghost use Rattle.fpl_numbers.specs.Results.{Gives, GivesBy};
 ghost use Rattle.fpl_scalar.specs.Vectors.{AreElements, scale_of};
 ghost use Rattle.fpl_algebra.specs.Tree.{trees};
@@ -30,6 +30,19 @@ impl<F: Field> Table<F> {
         }
     }
 
+    /// The number at place `s` of a row, from 0; it is 0 past the end.
+    fn number_at(&self, row: &Row<F>, s: u32) -> F::Elem
+        requires { AreElements self.now.kind row.now }
+        ensures value { F.number result ≡ get_or row.now s (residue 0) }
+        ensures element { IsElement self.now.kind (F.number result) }
+    {
+        if s < row.len() {
+            row.at(s + 1)
+        } else {
+            self.field().zero()
+        }
+    }
+
     /// The row, with 0 past its end up to `basis_len`.
     fn padded(&self, alloc: Global, row: &Row<F>) -> Result<Row<F>, Fault>
         requires { IsRowUpTo self.now.kind (length self.now.basis) row.now }
@@ -40,12 +53,7 @@ impl<F: Field> Table<F> {
         let field = self.field();
         let mut numbers = Vec::new(alloc);
         for s in 0..self.basis_len() {
-            let number = if s < row.len() {
-                row.at(s + 1)
-            } else {
-                field.zero()
-            };
-            match numbers.push(number) {
+            match numbers.push(self.number_at(row, s)) {
                 Ok(()) => {}
                 Err(_) => return Err(Fault::NoMemory),
             }
@@ -91,6 +99,7 @@ impl<F: Field> Table<F> {
     /// `basis_len` positions: 0 where the expression has no weight, or one past the table's.
     /// `Unfit` is the first operation that does not fit.
     #[cycle(valuing)]
+    #[tactic(auto, using(fpl_model::proofs::Plain::plain_forms))]
     pub fn value(&self, alloc: Global, p: &Presentation, e: &Expr) -> Result<Row<F>, Fault>
         requires agrees { Agrees self.now p.now }
         requires weights { HaveWeights p.now.generators }
@@ -121,6 +130,7 @@ impl<F: Field> Table<F> {
 
     /// The sum of the values of the members, in order.
     #[cycle(valuing)]
+    #[tactic(auto, using(fpl_model::proofs::Plain::plain_forms))]
     fn sum_of(&self, alloc: Global, p: &Presentation, members: &Exprs) -> Result<Row<F>, Fault>
         requires agrees { Agrees self.now p.now }
         requires weights { HaveWeights p.now.generators }
