@@ -18,7 +18,7 @@ use Rattle.fpl_rewrite.specs.Origins.{origins_of}
 use Rattle.fpl_rewrite.specs.Rows.{row_of_origin}
 use Rattle.fpl_faithful.proofs.Fits.{DoesFit, then_fits, map_fits}
 use Rattle.fpl_faithful.proofs.Fitting.{Always, if_fits, axpy_fits, scale_fits, origin_fits}
-use Rattle.fpl_completion.specs.Weight.{begun, with_held, gather, again, close_weight, next_of}
+use Rattle.fpl_completion.specs.Weight.{begun, with_held, put_of, gather, again, close_weight, next_of}
 
 module _ (kind : Kind) (always : Always kind) where
   by_fits : (o : Option PivotRow) (c : Num) (x : Swept) → DoesFit (sweep_by kind o c x)
@@ -68,16 +68,14 @@ module _ (T : PlainTable) (always : Always T.kind) (p : Presentation) where
     where
       step : (o : Origin) (os : List Origin) (n : ℕ) (h : Held) → ((g : Held) → Gathers os n g) → Gathers (o ∷ os) n h
       step o os n h later =
+          let e : Elimination = record { kind = T.kind; size = n; held = h } in
           let f = origin_fits T always p o in
           let i = insert_fits T.kind always n h f.0 o in
-          let r = later i.0.held in (
-            r.0,
-            (
-              subst (λ w. and_then (λ row. and_then (λ x. gather T p os (with_held (record { kind = T.kind; size = n; held = h }) x.held)) (insert_of (record { kind = T.kind; size = n; held = h }) row o)) w ≡ Ok r.0) (sym f.1)
-                  (subst (λ w. and_then (λ x. gather T p os (with_held (record { kind = T.kind; size = n; held = h }) x.held)) w ≡ Ok r.0) (sym i.1) r.1.0),
-              r.1.1,
-            ),
-          )
+          let r = later i.0.held in
+          let put : put_of T p o e ≡ Ok (with_held e i.0.held) =
+              subst (λ w. and_then (λ row. map_ok (λ x. with_held e x.held) (insert_of e row o)) w ≡ Ok (with_held e i.0.held)) (sym f.1)
+              (subst (λ w. map_ok (λ x. with_held e x.held) w ≡ Ok (with_held e i.0.held)) (sym i.1) refl) in
+          (r.0, (subst (λ w. and_then (λ f. gather T p os f) w ≡ Ok r.0) (sym put) r.1.0, r.1.1))
 
   again_fits : {A : Type 0} (rows : List (List Num)) (os : List Origin) (x : A) → DoesFit (again T p rows os x)
   again_fits rows [] x = (x, refl)
