@@ -1,7 +1,8 @@
 -- The plain run of a table T for a sound presentation p stands for the mathematics over the field of p.
 --
 --   SoundStands           a sound presentation is one in the sense of the mathematics
---   WeightsOfLaw          a table with the shape of a table of code that obeys the law of the presentation has its weights
+--   RowsOfShape           a table with the shape of a table of code has its rows
+--   WeightsOfLaw          if it obeys the law of the presentation, it has its weights
 --   WeightsOfBuilt        a table whose vectors are those of a built table has its weights
 --   WeightsOfTable        the standard table has its weights
 --   SymbolsStand          the symbols of the table in plain numbers are those of the table
@@ -33,11 +34,14 @@ use Rattle.fpl_table.specs.Value.{bracket_of, value_of}
 use Rattle.fpl_table.specs.Standard.{IsTableOf}
 use Rattle.fpl_rewrite.specs.Origins.{origins_of}
 use Rattle.fpl_rewrite.specs.Rows.{row_of_origin}
-use Rattle.fpl_faithful.specs.Premises.{IsRowIn, HasWeights, IsTableFor}
+use Rattle.fpl_faithful.specs.Premises.{IsRowIn, HasRows, HasWeights, IsTableFor}
 use Rattle.fpl_faithful.specs.RowLaws.{Stands}
 
 abbrev pub SoundStands : Presentation → Type 0
 SoundStands p = IsSound p → IsSoundPresentation (presentation_in p)
+
+abbrev pub RowsOfShape : PlainTable → Type 0
+RowsOfShape T = HasShape T → HasRows T
 
 abbrev pub WeightsOfLaw : Presentation → Type 0
 WeightsOfLaw p =
