@@ -5,3 +5,4 @@ pub mod Pushed
 pub mod Holding
 pub mod One
 pub mod Shaped
+pub mod LowerParts

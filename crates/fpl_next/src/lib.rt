@@ -3,7 +3,7 @@
 //! Each function does nothing: what it ensures is a law.
 #![tactic(auto)]
 
-ghost use Rattle.fpl_next.specs.Holds.{HeldIsTable, PushHolds, PushKeepsShape, SoundIsSound, StartHolds, SymbolsAreSame, TablesAreOne};
+ghost use Rattle.fpl_next.specs.Holds.{HeldIsTable, PushHolds, PushKeepsShape, SoundIsSound, StartHolds, SymbolsAreSame, TablesAreOne, TruncatesBuilt};
 
 /// A sound presentation is sound as far as the algebra goes, and a table names the symbols of its presentation.
 pub fn presentations()
@@ -23,4 +23,9 @@ pub fn raising()
 /// A presentation has one table through a weight.
 pub fn one_table()
     ensures { TablesAreOne }
+{}
+
+/// The part of a table through a lower weight is built too.
+pub fn truncated()
+    ensures { TruncatesBuilt }
 {}
