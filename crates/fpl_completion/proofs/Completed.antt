@@ -1,5 +1,5 @@
 -- What the plain run of a weight gives is the table's next weight.
-use Rattle.std.specs.Prelude.{ℕ, ◌≡◌, ◌<◌, ◌↔◌, List, length, Ok, Contains}
+use Rattle.std.specs.Prelude.{ℕ, ◌≡◌, ◌<◌, ◌≤◌, ◌↔◌, List, length, Ok, Contains}
 use mathlib.Core.Path.{sym, subst}
 use Rattle.fpl_linear.specs.Vector.{Vector}
 use Rattle.fpl_linear.specs.Span.{Spanned, SpansKind}
@@ -16,7 +16,6 @@ use Rattle.fpl_model.specs.declared.presentation.Presentation.{Presentation}
 use Rattle.fpl_model.specs.Meaning.{presentation_in}
 use Rattle.fpl_table.specs.Plain.{PlainTable, table_in, symbols_in}
 use Rattle.fpl_table.specs.Push.{push_of}
-use Rattle.fpl_table.specs.Shape.{HasShape}
 use Rattle.fpl_next.specs.Holds.{Holds}
 use Rattle.fpl_next.proofs.Holding.{push_holds}
 use Rattle.fpl_rewrite.specs.Origins.{origins_of}
@@ -97,5 +96,5 @@ module _ (p : Presentation) (T : PlainTable) where
         }
 
     -- so the table with the weight pushed is built again
-    pub next_holds : (h : Held) → close_weight T p ≡ Ok h → HasShape (push_of T (rows_of h.pivots)) → Holds p (push_of T (rows_of h.pivots))
-    next_holds h run shape = push_holds p T holds (rows_of h.pivots) shape (weighed_closed h run) (weighed_spans h run)
+    pub next_holds : (h : Held) → close_weight T p ≡ Ok h → T.weight < 1000 → length (symbols_in T) ≤ 2000000 → Holds p (push_of T (rows_of h.pivots))
+    next_holds h run below few = push_holds p T (rows_of h.pivots) holds below few (weighed_closed h run) (weighed_spans h run)
