@@ -1,9 +1,8 @@
-use Rattle.std.proofs.Common.{◌≡◌, ◌≤◌, ◌<◌, ◌-◌, length, drop, refl, sym, ap, ◌∙◌, arith}
+use Rattle.std.proofs.Common.{◌≡◌, refl, ap, ◌∙◌, arith}
 use Rattle.std.proofs.Math.Seq.{drop-length}
 use Rattle.std.specs.Map.{lookup}
 use Rattle.fpl_table.specs.contracts.symbol.SymbolPartialEq.TheImpl.{eq-value}
 use Rattle.fpl_table.specs.declared.symbol.Symbol.TheVariants.{Gen}
-use Rattle.fpl_table.specs.Numbering.{number_from}
 use Rattle.fpl_table.proofs.Numbering.{one_put}
 use Rattle.fpl_table.proofs.symbols.numbers_of.Goals as goal
 

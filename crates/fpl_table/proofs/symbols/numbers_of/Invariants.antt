@@ -1,4 +1,4 @@
-use Rattle.std.proofs.Common.{◌≡◌, ◌≤◌, ◌^◌, length, drop}
+use Rattle.std.proofs.Common.{◌≡◌, ◌≤◌, length, drop}
 use Rattle.indexmap.specs.IndexMap.{get}
 use Rattle.fpl_table.specs.declared.symbol.Symbol.{Symbol}
 use Rattle.fpl_table.specs.Numbering.{number_from}

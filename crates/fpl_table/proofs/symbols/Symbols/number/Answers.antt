@@ -1,6 +1,4 @@
-use Rattle.std.proofs.Common.{◌≡◌, length, map, sym, ap, ◌∙◌, subst}
-use Rattle.fpl_table.specs.Plain.{symbol_in}
-use Rattle.fpl_table.specs.Numbering.{IsNumberOf}
+use Rattle.std.proofs.Common.{◌∙◌}
 use Rattle.fpl_table.proofs.Numbering.{number_is}
 use Rattle.fpl_table.proofs.symbols.Symbols.number.Goals as goal
 
