@@ -73,8 +73,8 @@ module _ (T : PlainTable) (always : Always T.kind) (p : Presentation) where
           let i = insert_fits T.kind always n h f.0 o in
           let r = later i.0.held in
           let put : put_of T p o e ≡ Ok (with_held e i.0.held) =
-              subst (λ w. and_then (λ row. map_ok (λ x. with_held e x.held) (insert_of e row o)) w ≡ Ok (with_held e i.0.held)) (sym f.1)
-              (subst (λ w. map_ok (λ x. with_held e x.held) w ≡ Ok (with_held e i.0.held)) (sym i.1) refl) in
+          subst (λ w. and_then (λ row. map_ok (λ x. with_held e x.held) (insert_of e row o)) w ≡ Ok (with_held e i.0.held)) (sym f.1)
+          (subst (λ w. map_ok (λ x. with_held e x.held) w ≡ Ok (with_held e i.0.held)) (sym i.1) refl) in
           (r.0, (subst (λ w. and_then (λ f. gather T p os f) w ≡ Ok r.0) (sym put) r.1.0, r.1.1))
 
   again_fits : {A : Type 0} (rows : List (List Num)) (os : List Origin) (x : A) → DoesFit (again T p rows os x)
