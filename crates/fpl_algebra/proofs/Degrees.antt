@@ -3,13 +3,13 @@ use Rattle.std.specs.Prelude.{ℕ, ◌≡◌, ◌≢◌, ◌⊎◌, ◌≤◌, �
 use mathlib.Core.Path.{sym, refl, ap, ap₂, ◌∙◌, subst}
 use mathlib.Core.Logic.{inl, inr}
 use native.Mathlib.Omega.{arith}
-use Rattle.fpl_algebra.specs.Tree.{Tree, Trees, gen, none, sum_of, multiple, bracket_of, end, more, Parity, even, odd, parity_sum, Presentation, left, right, IsOver, AreOver}
-use Rattle.fpl_algebra.specs.Degrees.{IsVoid, AreVoid, HasParity, HaveParity, Degree, any, exact, mixed, of_both, of_bracket, same_parity, weight_of, weights_of, parity_of, parities_of, weight_of_both, parity_of_both, is_void, are_void, top, tops, IsSoundPresentation}
+use Rattle.fpl_algebra.specs.Tree.{Tree, Trees, gen, none, sum_of, multiple, bracket_of, end, more, Parity, even, odd, parity_sum, Presentation, IsOver, AreOver}
+use Rattle.fpl_algebra.specs.Degrees.{IsVoid, AreVoid, HasParity, HaveParity, Degree, any, exact, mixed, of_both, of_bracket, same_parity, weight_of, weights_of, parity_of, parities_of, weight_of_both, parity_of_both, is_void, are_void, top, tops}
 use Rattle.fpl_algebra.specs.Degrees.IsVoid.{void_none, void_sum, void_multiple, void_left, void_right}
 use Rattle.fpl_algebra.specs.Degrees.AreVoid.{void_end, void_more}
 use Rattle.fpl_algebra.specs.Degrees.HasParity.{parity_void, parity_gen, parity_all, parity_multiple, parity_bracket}
 use Rattle.fpl_algebra.specs.Degrees.HaveParity.{parity_end, parity_more}
-use Rattle.fpl_algebra.proofs.Homogeneous.{WeightIs, WeightsAre, TopIs, TopsAre, IsHomogeneous}
+use Rattle.fpl_algebra.proofs.Homogeneous.{WeightIs, WeightsAre, TopIs, TopsAre}
 use Rattle.fpl_algebra.proofs.Homogeneous.WeightIs.{weight_void, weight_gen, weight_sum, weight_multiple, weight_bracket}
 use Rattle.fpl_algebra.proofs.Homogeneous.WeightsAre.{weight_end, weight_more}
 use Rattle.fpl_algebra.proofs.Homogeneous.TopIs.{top_void, top_gen, top_sum, top_multiple, top_bracket}
@@ -97,7 +97,7 @@ module _ {N : Type 0} (P : Presentation N) where
   equation_weight e f h k n = both_weights (weight_of P e) (weight_of P f) e f (weight_means h) (weight_means k) n
 
   -- parities
-  abbrev ParityMeans : Degree Parity → Tree N → Type 0
+  abbrev pub ParityMeans : Degree Parity → Tree N → Type 0
   ParityMeans any e = IsVoid e
   ParityMeans (exact s) e = HasParity P e s
   ParityMeans mixed e = Unit {0}

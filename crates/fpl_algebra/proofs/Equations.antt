@@ -1,14 +1,12 @@
 -- The weight of an equation as written, against the relations that the proofs match on; and sound presentations are homogeneous.
-use Rattle.std.specs.Prelude.{ℕ, suc, ◌≡◌, ◌≢◌, ◌⊎◌, ◌<◌, ◌+◌, length, Bool, true, false, cond, nat_eq}
+use Rattle.std.specs.Prelude.{ℕ, ◌≡◌, ◌≢◌, ◌⊎◌, ◌+◌, Bool, true, false, cond, nat_eq}
 use mathlib.Core.Path.{sym, refl, ap, ap₂, ◌∙◌, subst}
 use mathlib.Core.Logic.{inl, inr}
 use native.Mathlib.Omega.{arith}
-use Rattle.fpl_fields.specs.Field.{Field}
 use Rattle.fpl_algebra.specs.Tree.{Tree, Trees, Presentation, left, right, IsOver}
 use Rattle.fpl_algebra.specs.Degrees.{IsVoid, AreVoid, Degree, any, exact, mixed, of_both, of_bracket, weight_of, weights_of, weight_of_both, IsSoundPresentation}
 use Rattle.fpl_algebra.specs.Degrees.IsVoid.{void_none, void_sum, void_multiple, void_left, void_right}
 use Rattle.fpl_algebra.specs.Degrees.AreVoid.{void_end, void_more}
-use Rattle.fpl_algebra.specs.Derives.{Expression}
 use Rattle.fpl_algebra.proofs.Homogeneous.{WeightIs, WeightsAre}
 use Rattle.fpl_algebra.proofs.Homogeneous.WeightIs.{weight_void, weight_gen, weight_sum, weight_multiple, weight_bracket}
 use Rattle.fpl_algebra.proofs.Homogeneous.WeightsAre.{weight_end, weight_more}
@@ -134,12 +132,17 @@ module _ {N : Type 0} (P : Presentation N) where
       go (exact d) h k = absurd h
       go mixed h k = absurd h
 
+  -- the sides of an equation without a weight are void
+  pub equation_any : (e f : Tree N) → IsOver P e → IsOver P f → weight_of_both P e f ≡ any → IsVoid e × IsVoid f
+  equation_any e f o q p =
+      let r = both_any (weight_of P e) (weight_of P f) (subst IsAny (sym p) tt) in (void_any (weight_of P e) e r.0 refl o, void_any (weight_of P f) f r.1 refl q)
+
   -- an equation whose two sides have weight w has w as written, or both sides are void
   pub equation_is : (e f : Tree N) (w : ℕ) → IsOver P e → IsOver P f → weight_of_both P e f ≢ mixed → WeightIs P e w → WeightIs P f w → (IsVoid e × IsVoid f) ⊎ (weight_of_both P e f ≡ exact w)
   equation_is e f w o q n h k = go (weight_of_both P e f) refl (fits_both w (weight_of P e) (weight_of P f) (weight_fits h) (weight_fits k))
     where
       go : (a : Degree ℕ) → weight_of_both P e f ≡ a → Fits w a → (IsVoid e × IsVoid f) ⊎ (weight_of_both P e f ≡ exact w)
-      go any p t = let r = both_any (weight_of P e) (weight_of P f) (subst IsAny (sym p) tt) in inl (void_any (weight_of P e) e r.0 refl o, void_any (weight_of P f) f r.1 refl q)
+      go any p t = inl (equation_any e f o q p)
       go (exact c) p t = inr (p ∙ ap exact t)
       go mixed p t = absurd (n p)
 

@@ -1,6 +1,6 @@
 -- Weights as relations, which proofs match on, and presentations that are homogeneous in their terms.
 use Rattle.std.specs.Prelude.{ℕ, ◌≡◌, ◌⊎◌, ◌+◌, ◌<◌, ◌≤◌, length}
-use Rattle.fpl_algebra.specs.Tree.{Tree, Trees, gen, none, sum_of, multiple, bracket_of, end, more, Parity, Presentation, generator, left, right, IsOver}
+use Rattle.fpl_algebra.specs.Tree.{Tree, Trees, gen, sum_of, multiple, bracket_of, end, more, Parity, Presentation, generator, left, right, IsOver}
 use Rattle.fpl_algebra.specs.Degrees.{IsVoid, HasParity, exact, weight_of_both}
 
 -- every written weight is d, or the expression is void

@@ -4,3 +4,4 @@ pub mod Derived
 pub mod Degrees
 pub mod Equations
 pub mod Within
+pub mod Over

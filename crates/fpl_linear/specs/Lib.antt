@@ -3,3 +3,4 @@ pub mod Span
 pub mod Closed
 pub mod Echelon
 pub mod Kernel
+pub mod Lists

@@ -5,7 +5,7 @@ use mathlib.Core.Logic.{inl, inr}
 use native.Mathlib.Omega.{arith}
 use Rattle.fpl_fields.specs.Field.{Field}
 use Rattle.fpl_linear.specs.Vector.{Vector, vzero, vplus, scale, place, total}
-use Rattle.fpl_algebra.specs.Tree.{Tree, Trees, gen, bracket_of, odd, parity_sum, Presentation, generator, left, right}
+use Rattle.fpl_algebra.specs.Tree.{IsOver, Tree, Trees, gen, bracket_of, odd, parity_sum, Presentation, generator, left, right}
 use Rattle.fpl_algebra.specs.Degrees.{HasParity}
 use Rattle.fpl_algebra.specs.Derives.{three, Expression}
 use Rattle.fpl_algebra.proofs.Freely.{DerivesFreely}
@@ -34,6 +34,7 @@ pub record Facts (K : Field) (P : Presentation K.Carrier) (T : Table K) (tree : 
   pub jacobis : (i j k : ℕ) → i ≤ j → j ≤ k → k < length T.basis → HasJacobi K T i j k
   pub cubes : three K ≡ K.nought → (i : ℕ) → i < length T.basis → parity_at T i ≡ odd → bracket K T (place K i) (bracket K T (place K i) (place K i)) ≡ vzero K
   pub relations : (k : ℕ) → k < length P.relations → val K T (left P k) ≡ val K T (right P k)
+  pub tree_over : (i : ℕ) → i < length T.basis → IsOver P (tree i)
   pub tree_parity : (i : ℕ) → i < length T.basis → HasParity P (tree i) (parity_at T i)
   pub tree_weight : (i : ℕ) → i < length T.basis → WeightIs P (tree i) (weight_at T i)
   pub tree_val : (i : ℕ) → i < length T.basis → val K T (tree i) ≡ place K i

@@ -1,5 +1,5 @@
 -- Jacobi in the next table: below its weight from the table before, at its weight from the source rows, and past it since all is 0.
-use Rattle.std.specs.Prelude.{ℕ, suc, ◌≡◌, ◌⊎◌, ◌<◌, ◌≤◌, ◌+◌, length}
+use Rattle.std.specs.Prelude.{ℕ, suc, ◌≡◌, ◌<◌, ◌≤◌, ◌+◌, length}
 use mathlib.Core.Path.{sym, refl, ap, ap₂, ◌∙◌, subst}
 use mathlib.Core.Logic.{inl, inr}
 use native.Mathlib.Omega.{arith}
@@ -10,7 +10,7 @@ use Rattle.fpl_algebra.specs.Tree.{Parity, even, odd}
 use Rattle.fpl_algebra.specs.Derives.{sign}
 use Rattle.fpl_algebra.specs.Table.{basis_at, IsRegular, Table, signed, product, parity_at, bracket, HasJacobi, with_itself, weight_at, IsOf}
 use Rattle.fpl_algebra.specs.SourceRows.{outer_place, outer, jacobi_row}
-use Rattle.fpl_linear.proofs.Vectors.{from_places, by_members, scale-nought, scale-vzero, vplus-vzero, place_other}
+use Rattle.fpl_linear.proofs.Vectors.{scale-vzero, vplus-vzero}
 use Rattle.fpl_linear.proofs.Linear.{IsLinear, linear_vzero, bilinear_left, bilinear_right, bilinear_places, zero_linear, linear_after}
 use Rattle.fpl_values.proofs.Products.{bracket_places, bracket_linear_left, bracket_linear_right}
 use Rattle.fpl_linear.proofs.Span.{apart_zero}

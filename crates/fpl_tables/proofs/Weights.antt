@@ -10,16 +10,16 @@ use Rattle.fpl_algebra.specs.Tree.{Presentation, none, Parity, even, odd}
 use Rattle.fpl_algebra.proofs.Freely.{DerivesFreely}
 use Rattle.fpl_algebra.specs.Derives.{Expression}
 use Rattle.fpl_algebra.proofs.Freely.DerivesFreely.{same, back, then, in_multiple}
-use Rattle.fpl_linear.specs.Span.{combination, InSpan, Spanned}
+use Rattle.fpl_linear.specs.Span.{InSpan, Spanned}
 use Rattle.fpl_linear.specs.Closed.{IsClosed, swept}
 use Rattle.fpl_algebra.specs.Built.{at_slot, relabel, meaning_of}
 use Rattle.fpl_algebra.specs.Standard.{combined}
-use Rattle.fpl_linear.proofs.Vectors.{total_vzero, by_members, scale-nought, total_same, total_scale, total_vplus, scale_scale, plus-scale, place_other, place_same, vplus_comm, minus-vplus}
+use Rattle.fpl_linear.proofs.Vectors.{place_other, place_same, vplus_comm, minus-vplus}
 use Rattle.fpl_linear.proofs.Numbers.{times-nought, nought-times}
-use Rattle.fpl_linear.proofs.Linear.{IsLinear, linear_vzero, linear_itself, linear_scale, linear_vplus, swept_linear}
+use Rattle.fpl_linear.proofs.Linear.{IsLinear, linear_vzero, swept_linear}
 use Rattle.fpl_linear.proofs.Places.{zero_at, less_at, Only, Stands, by_places}
 use Rattle.fpl_linear.proofs.Span.{span_vzero, span_vplus, span_scale, by_span, apart_zero, in_span, span_less}
-use Rattle.fpl_linear.proofs.Closed.{combination_none, find_pivot, zero_at_pivots, swept_span, span_swept, pivot_of, at_pivot, at_none}
+use Rattle.fpl_linear.proofs.Closed.{combination_none, find_pivot, zero_at_pivots, swept_span, span_swept, pivot_of, at_pivot}
 use Rattle.fpl_algebra.proofs.Derived.{of_path, both_same, both_none, none_both, multiple_none, combined_vzero, combined_vplus, combined_scale, combined_place}
 
 pub relabel_linear : (K : Field) (slot : ℕ → Option ℕ) → IsLinear K (relabel K slot)

@@ -1,0 +1,5 @@
+pub mod Next
+pub mod NextSound
+pub mod BuiltFacts
+pub mod NextTables
+pub mod Exists

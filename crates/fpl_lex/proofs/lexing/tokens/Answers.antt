@@ -1,0 +1,5 @@
+use Rattle.fpl_lex.proofs.Cutting.{lexed_from_gives}
+use Rattle.fpl_lex.proofs.lexing.tokens.Goals as goal
+
+pub returns : goal.returns
+returns c = lexed_from_gives c.args.bytes.now c.lex.result c.lex.ensures

@@ -1,0 +1,10 @@
+//! The tokens of a text of the input language.
+#![tactic(auto)]
+
+mod fault;
+mod lexing;
+mod token;
+
+pub use fault::LexError;
+pub use lexing::{one_reading, tokens};
+pub use token::{Token, TokenKind, Tokens};

@@ -1,0 +1,14 @@
+//! Expressions and presentations, as they are read and written.
+#![tactic(auto)]
+
+mod degree;
+mod expr;
+mod mono;
+mod name;
+mod presentation;
+
+pub use degree::{Degree, ParityOf};
+pub use expr::{Expr, Exprs};
+pub use mono::Mono;
+pub use name::Name;
+pub use presentation::{Equation, Equations, Generator, Generators, Parity, Presentation};

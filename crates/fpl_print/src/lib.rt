@@ -1,0 +1,4 @@
+//! The texts of the views.
+#![tactic(auto)]
+
+mod combinations;

@@ -1,0 +1,4 @@
+pub mod Agreement
+pub mod Main
+pub mod Views
+pub mod Standing

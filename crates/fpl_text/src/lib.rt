@@ -1,0 +1,2 @@
+//! The bytes and the names of the input language: definitions alone.
+#![tactic(auto)]
