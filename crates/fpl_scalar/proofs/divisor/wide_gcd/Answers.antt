@@ -1,7 +1,7 @@
 use Rattle.std.proofs.Common.{arith, ◌≡◌, subst}
 use Rattle.fpl_numbers.specs.Numbers.{gcd}
 use Rattle.fpl_scalar.proofs.Euclid.{AfterTurns, after_turn, found, last_turn, gcd_positive, gcd_within_right}
-use Rattle.fpl_scalar.proofs.divisor.gcd.Goals as goal
+use Rattle.fpl_scalar.proofs.divisor.wide_gcd.Goals as goal
 
 pub loop-turn-preserved : goal.loop-turn-preserved
 loop-turn-preserved c = after_turn c.args.a c.args.b c.loop-turn.x c.loop-turn.y c.loop-turn._turn (λ e. c.if-y-eq0.false e) c.loop-turn.invariant
