@@ -1,1 +1,2 @@
 pub mod Conclusion
+pub mod Plain
