@@ -1,5 +1,5 @@
 -- What the plain run of a weight gives is the table's next weight.
-use Rattle.std.specs.Prelude.{ℕ, ◌≡◌, ◌<◌, ◌≤◌, ◌↔◌, List, length, Ok, Contains}
+use Rattle.std.specs.Prelude.{◌≡◌, ◌<◌, ◌≤◌, ◌↔◌, List, length, Ok, Contains}
 use mathlib.Core.Path.{sym, subst}
 use Rattle.fpl_linear.specs.Vector.{Vector}
 use Rattle.fpl_linear.specs.Span.{Spanned, SpansKind}

@@ -1,13 +1,11 @@
 -- Over a prime the plain run of a weight is never refused.
-use Rattle.std.specs.Prelude.{ℕ, zero, suc, ◌+◌, ◌-◌, ◌≡◌, List, [], ◌∷◌, length, Option, Some, None, slice_index_or, Result, Ok}
+use Rattle.std.specs.Prelude.{ℕ, zero, suc, ◌+◌, ◌-◌, ◌≡◌, List, [], ◌∷◌, Option, Some, None, slice_index_or, Ok}
 use Rattle.std.specs.List.{find}
 use mathlib.Core.Path.{refl, sym, subst}
 use Rattle.fpl_numbers.specs.declared.number.Num.{Num}
 use Rattle.fpl_numbers.specs.declared.number.Kind.{Kind}
-use Rattle.fpl_numbers.specs.declared.number.Unfit.{Unfit}
 use Rattle.fpl_numbers.specs.Numbers.{is_nought, residue, negative_of, inverse_of}
 use Rattle.fpl_numbers.specs.Results.{and_then, map_ok}
-use Rattle.fpl_scalar.specs.Vectors.{axpy_of, scale_of}
 use Rattle.fpl_rows.specs.Positions.{lead_of}
 use Rattle.fpl_log.specs.declared.step.Origin.{Origin}
 use Rattle.fpl_elimination.specs.Plain.{PivotRow, Swept, stands_at, taken_off, sweep_by, sweep_at, sweep_of, Held, Elimination, kept, keep_of, inserted_as, insert_of, closed_with, close_by, close_at, close_to, close_of, rows_of, take_at, take_row, sweep_rows}

@@ -1,16 +1,13 @@
 -- The rows that a weight gathers span what the vectors of its origins span; closed, they are the closed list of that span.
-use Rattle.std.specs.Prelude.{ℕ, zero, suc, ◌+◌, ◌≡◌, ◌<◌, ◌≤◌, ◌↔◌, ◌⊎◌, List, [], ◌∷◌, length, get_or, Option, None, Some, Result, Ok, All, Contains}
-use Rattle.std.specs.List.{find}
+use Rattle.std.specs.Prelude.{ℕ, zero, suc, ◌+◌, ◌≡◌, ◌<◌, ◌↔◌, ◌⊎◌, List, [], ◌∷◌, length, get_or, Ok, All, Contains}
 use mathlib.Core.Logic.{inl, inr}
 use mathlib.Core.Path.{sym, refl, ap, ◌∙◌, subst}
 use native.Mathlib.Omega.{arith}
 use Rattle.fpl_fields.specs.Field.{Field}
-use Rattle.fpl_linear.specs.Vector.{Vector, vzero}
+use Rattle.fpl_linear.specs.Vector.{Vector}
 use Rattle.fpl_linear.specs.Span.{Spanned}
-use Rattle.fpl_linear.specs.Echelon.{IsRow}
 use Rattle.fpl_linear.proofs.Span.{spanned_one, spanned_through}
 use Rattle.fpl_numbers.specs.declared.number.Num.{Num}
-use Rattle.fpl_numbers.specs.declared.number.Kind.{Kind}
 use Rattle.fpl_numbers.specs.Numbers.{IsField}
 use Rattle.fpl_numbers.specs.Kinds.{field_of, number_of}
 use Rattle.fpl_numbers.specs.Results.{map_ok}
@@ -21,7 +18,7 @@ use Rattle.fpl_rows.specs.Meaning.{vector_in}
 use Rattle.fpl_log.specs.declared.step.Origin.{Origin}
 use Rattle.fpl_elimination.specs.Plain.{PivotRow, IsPivotRow, Held, Elimination, Inserted, insert_of, sweep_rows}
 use Rattle.fpl_elimination.specs.Spans.{InSpanAt}
-use Rattle.fpl_elimination.proofs.Spans.{Stands, standing, insert_reads, Spans, spans_more}
+use Rattle.fpl_elimination.proofs.Spans.{standing, insert_reads, spans_more}
 use Rattle.fpl_faithful.proofs.Fits.{ok_same, first_fits, part_fits}
 use Rattle.fpl_model.specs.declared.presentation.Presentation.{Presentation}
 use Rattle.fpl_table.specs.Plain.{PlainTable}

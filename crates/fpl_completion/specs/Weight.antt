@@ -8,7 +8,7 @@
 --   next_of T p           the table with one weight more
 --
 -- Over a prime all operations fit, so that forming and sweeping the origins again changes nothing there.
-use Rattle.std.specs.Prelude.{ℕ, List, [], ◌∷◌, length, Result, Ok}
+use Rattle.std.specs.Prelude.{List, [], ◌∷◌, length, Result, Ok}
 use Rattle.fpl_numbers.specs.declared.number.Num.{Num}
 use Rattle.fpl_numbers.specs.declared.number.Unfit.{Unfit}
 use Rattle.fpl_numbers.specs.Results.{map_ok, and_then}
