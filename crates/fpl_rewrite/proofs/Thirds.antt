@@ -4,7 +4,7 @@ use Rattle.std.proofs.lemmas.Bool.Decides.{nat_tests}
 use Rattle.fpl_log.specs.declared.step.Origin.TheVariants.{Jacobi}
 use Rattle.fpl_table.specs.Plain.{PlainTable, plain_basis, through}
 use Rattle.fpl_table.specs.Shape.{HasShape}
-use Rattle.fpl_table.proofs.Through.{leading_light, leading_heavy, leading_within}
+use Rattle.fpl_table.proofs.Weights.{leading_within, leading_below, through_above}
 use Rattle.fpl_rewrite.specs.Triples.{from_to, triple_at, thirds_from}
 use Rattle.fpl_rewrite.proofs.Onward.{from_to_step, from_to_skip, from_to_none}
 
@@ -18,10 +18,10 @@ pub triple_here : (T : PlainTable) (i j k : ℕ) → i ≤ j → j ≤ k → (pl
 triple_here T i j k l m e = grind (arith, nat_tests)
 
 pub light_through : (T : PlainTable) (w i : ℕ) → i < through T w → (plain_basis T i).weight ≤ w
-light_through T w i lt = leading_light T.basis w i lt
+light_through T w i lt = leading_below T.basis w i lt
 
 pub heavy_past : (T : PlainTable) (w i : ℕ) → HasShape T → through T w ≤ i → i < length T.basis → w < (plain_basis T i).weight
-heavy_past T w i shape le lt = leading_heavy T.basis w i shape.ascend le lt
+heavy_past T w i shape le lt = (let h : (plain_basis T i).weight ≤ w → i < through T w = through_above T shape w i lt in grind arith)
 
 -- where the first two are as heavy as the table's weight allows for, there is no third
 pub thirds_none : (T : PlainTable) (i j k : ℕ) → ((x : ℕ) → k ≤ x → x < length T.basis → suc T.weight < (plain_basis T i).weight + (plain_basis T j).weight + (plain_basis T x).weight) →

@@ -2,7 +2,7 @@ use Rattle.std.proofs.Common.{◌≡◌, ◌+◌, ◌/◌, true, false, refl, �
 use Rattle.fpl_algebra.specs.Symbols.{is_odd}
 use Rattle.fpl_rewrite.specs.Origins.{is_three}
 use Rattle.fpl_table.specs.Plain.{plain_basis}
-use Rattle.fpl_table.proofs.Through.{leading_within}
+use Rattle.fpl_table.proofs.Weights.{leading_within}
 use Rattle.fpl_rewrite.proofs.Cubes.{cubes_without, cubes_indivisible, cubes_start, cubes_next, cubes_found, cubes_end}
 use Rattle.fpl_rewrite.proofs.origins.next_cube.Goals as goal
 
@@ -14,7 +14,7 @@ returns-then-w-ne0-clause-value g c = cubes_indivisible c.args.table.now c.args.
 
 pub loop-at-init : goal.loop-at-init
 loop-at-init g c =
-    cubes_start c.args.table.now c.args.i ((c.weight-w.result + 1) / 3) c.through.result (omega arith) c.through.ensures
+    cubes_start c.args.table.now c.args.i ((c.weight-w.result + 1) / 3) c.through.result (omega arith) c.through.ensures.value
     ∙ (let e = c.max-first.ensures in rw e refl)
 
 pub is_odd_at-requires-clause-within : goal.is_odd_at-requires-clause-within

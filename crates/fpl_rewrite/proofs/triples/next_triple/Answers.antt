@@ -1,6 +1,6 @@
 use Rattle.std.proofs.Common.{◌+◌, ◌/◌, ◌∙◌, arith}
 use Rattle.fpl_log.specs.declared.step.Origin.TheVariants.{Jacobi}
-use Rattle.fpl_table.proofs.Through.{leading_within}
+use Rattle.fpl_table.proofs.Weights.{leading_within}
 use Rattle.fpl_rewrite.proofs.TriplesInOrder.{firsts_found, firsts_next, firsts_end}
 use Rattle.fpl_rewrite.proofs.triples.next_triple.Goals as goal
 
