@@ -1,6 +1,6 @@
 -- Adding to 0 fits, so adding past the end of a row changes nothing.
-use Rattle.std.proofs.Common.{◌≡◌, ◌≤◌, ◌<◌, ◌+◌, ◌*◌, ◌/◌, ◌^◌, ◌-◌, ℕ, zero, suc, List, [], ◌∷◌, length, get_or, Bool, true, false, ◌&&◌, refl, sym, ap, ap₂, ◌∙◌, arith}
-use Rattle.std.specs.Prelude.{nat_le, unsigned_abs, pos, Result, Ok, slice_set}
+use Rattle.std.proofs.Common.{◌≡◌, ◌≤◌, ◌/◌, ℕ, zero, suc, List, [], ◌∷◌, length, get_or, true, ◌&&◌, refl, ap, ◌∙◌, arith}
+use Rattle.std.specs.Prelude.{nat_le, unsigned_abs, pos, Ok}
 use Rattle.std.proofs.lemmas.Bool.Decides.{nat_tests}
 use Rattle.std.proofs.lemmas.List.{set_past}
 use Rattle.std.proofs.Math.Nat.{div-le_self, mul-le-mul, mul-le-mul_left}
@@ -8,9 +8,7 @@ use Rattle.fpl_numbers.specs.declared.number.Num.{Num}
 use Rattle.fpl_numbers.specs.declared.number.Kind.{Kind}
 use Rattle.fpl_numbers.specs.declared.number.Kind.TheVariants.{Rational, Prime}
 use Rattle.fpl_numbers.specs.declared.number.Op.TheVariants.{Add}
-use Rattle.fpl_numbers.specs.declared.number.Unfit.{Unfit}
-use Rattle.fpl_numbers.specs.Numbers.{IsElement, Fits, residue, operate, fits, result_of, bound, is_within, common, left_part, right_part, both_parts, shared, sum_below, fraction_fits}
-use Rattle.fpl_numbers.specs.Results.{map_ok}
+use Rattle.fpl_numbers.specs.Numbers.{IsElement, Fits, residue, fits, result_of, bound, is_within, common, left_part, right_part, both_parts, shared, sum_below, fraction_fits}
 use Rattle.fpl_numbers.proofs.Integers.{abs-mul, abs-sum-le}
 use Rattle.fpl_table.specs.Value.{add_at}
 

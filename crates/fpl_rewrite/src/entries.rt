@@ -67,7 +67,13 @@ pub fn add_signed<F: Field>(
         PairSign::Zero => Ok(()),
         PairSign::Plus(k, l) => add_at_symbol(table, symbols, Symbol::Pair(k, l), c, row),
         PairSign::Minus(k, l) => {
-            add_at_symbol(table, symbols, Symbol::Pair(k, l), table.field().neg(c), row)
+            add_at_symbol(
+                table,
+                symbols,
+                Symbol::Pair(k, l),
+                table.field().neg(c),
+                row,
+            )
         }
     }
 }

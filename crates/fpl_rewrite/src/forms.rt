@@ -114,7 +114,12 @@ fn outer<F: Field>(
 }
 
 /// 1 at the symbol of generator `g`.
-fn unit<F: Field>(alloc: Global, table: &Table<F>, symbols: &Symbols, g: u32) -> Result<Row<F>, Fault>
+fn unit<F: Field>(
+    alloc: Global,
+    table: &Table<F>,
+    symbols: &Symbols,
+    g: u32,
+) -> Result<Row<F>, Fault>
     requires symbols { symbols.now.symbols ≡ symbols_in table.now }
     requires number { 1 ≤ g }
     ensures value { GivesBy (λ r. r) result (symbol_unit table.now (generator_place table.now (g - 1))) }
@@ -122,7 +127,13 @@ fn unit<F: Field>(alloc: Global, table: &Table<F>, symbols: &Symbols, g: u32) ->
     ensures whole { IfOk result (λ r. length r ≡ length symbols.now.symbols) }
 {
     let mut row = zero_row(alloc, table, symbols)?;
-    add_at_symbol(table, symbols, Symbol::Gen(g), table.field().one(), &mut row)?;
+    add_at_symbol(
+        table,
+        symbols,
+        Symbol::Gen(g),
+        table.field().one(),
+        &mut row,
+    )?;
     Ok(row)
 }
 
@@ -136,7 +147,8 @@ fn is_of_some_weight<F: Field>(table: &Table<F>, p: &Presentation, e: &Expr) -> 
 {
     match p.weight_of(e) {
         Degree::Any => false,
-        Degree::Exact(_) | Degree::Mixed => true,
+        Degree::Exact(_) => true,
+        Degree::Mixed => true,
     }
 }
 
@@ -197,7 +209,13 @@ fn take_row<F: Field>(table: &Table<F>, sum: &mut Row<F>, x: &Row<F>) -> Result<
 /// 0 where the expression has no weight.
 #[cycle(forming)]
 #[tactic(auto, using(fpl_model::proofs::Plain::plain_forms))]
-fn form<F: Field>(alloc: Global, table: &Table<F>, p: &Presentation, symbols: &Symbols, e: &Expr) -> Result<Row<F>, Fault>
+fn form<F: Field>(
+    alloc: Global,
+    table: &Table<F>,
+    p: &Presentation,
+    symbols: &Symbols,
+    e: &Expr,
+) -> Result<Row<F>, Fault>
     requires agrees { Agrees table.now p.now }
     requires weights { HaveWeights p.now.generators }
     requires term { IsTerm p.now.field (length p.now.generators) (plain e.now) }
@@ -212,7 +230,7 @@ fn form<F: Field>(alloc: Global, table: &Table<F>, p: &Presentation, symbols: &S
         Expr::Zero => zero_row(alloc, table, symbols),
         Expr::Sum(members) => form_all(alloc, table, p, symbols, members),
         Expr::Times(c, factor) => {
-            if !is_of_some_weight(table, p, e) {
+            if !is_of_some_weight(table, p, factor.get()) {
                 return zero_row(alloc, table, symbols);
             }
             let row = form(alloc, table, p, symbols, factor.get())?;
@@ -232,7 +250,13 @@ fn form<F: Field>(alloc: Global, table: &Table<F>, p: &Presentation, symbols: &S
 /// The sum of the members that have a weight, in order.
 #[cycle(forming)]
 #[tactic(auto, using(fpl_model::proofs::Plain::plain_forms))]
-fn form_all<F: Field>(alloc: Global, table: &Table<F>, p: &Presentation, symbols: &Symbols, members: &Exprs) -> Result<Row<F>, Fault>
+fn form_all<F: Field>(
+    alloc: Global,
+    table: &Table<F>,
+    p: &Presentation,
+    symbols: &Symbols,
+    members: &Exprs,
+) -> Result<Row<F>, Fault>
     requires agrees { Agrees table.now p.now }
     requires weights { HaveWeights p.now.generators }
     requires terms { AreTerms p.now.field (length p.now.generators) (trees (map plain members.now)) }

@@ -17,7 +17,11 @@ use fpl_table::{Symbols, Table};
 use std::alloc::Global;
 
 /// 0 at each symbol.
-pub fn zero_row<F: Field>(alloc: Global, table: &Table<F>, symbols: &Symbols) -> Result<Row<F>, Fault>
+pub fn zero_row<F: Field>(
+    alloc: Global,
+    table: &Table<F>,
+    symbols: &Symbols,
+) -> Result<Row<F>, Fault>
     ensures value { GivesBy (λ r. r) result (Ok (zero_row (length symbols.now.symbols))) }
     ensures elements { IfOk result (λ r. AreElements table.now.kind r) }
     ensures whole { IfOk result (λ r. length r ≡ length symbols.now.symbols) }
@@ -92,7 +96,12 @@ pub fn jacobi_row<F: Field>(
 
 /// `[b_i, [b_i, b_i]]` over the symbols of the weight after the table's, for an odd basis
 /// element three times the weight of which is that weight.
-pub fn cube_row<F: Field>(alloc: Global, table: &Table<F>, symbols: &Symbols, i: u32) -> Result<Row<F>, Fault>
+pub fn cube_row<F: Field>(
+    alloc: Global,
+    table: &Table<F>,
+    symbols: &Symbols,
+    i: u32,
+) -> Result<Row<F>, Fault>
     requires symbols { symbols.now.symbols ≡ symbols_in table.now }
     requires number { (1 ≤ i) × (i ≤ length table.now.basis) }
     requires odd { (plain_basis table.now (i - 1)).parity ≡ odd }

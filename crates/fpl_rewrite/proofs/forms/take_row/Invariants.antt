@@ -1,4 +1,4 @@
-use Rattle.std.proofs.Common.{◌≡◌, ◌≤◌, ◌++◌, length, drop, take, map}
+use Rattle.std.proofs.Common.{◌≡◌, ◌++◌, length, drop, take, map}
 use Rattle.fpl_numbers.specs.Numbers.{negative_of}
 use Rattle.fpl_numbers.specs.Results.{map_ok}
 use Rattle.fpl_scalar.specs.Vectors.{AreElements}

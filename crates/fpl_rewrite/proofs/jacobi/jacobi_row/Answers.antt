@@ -1,5 +1,4 @@
-use Rattle.std.proofs.Common.{◌≡◌, ◌≤◌, ◌<◌, ◌+◌, ◌-◌, length, arith}
-use Rattle.fpl_table.specs.Plain.{plain_basis}
+use Rattle.std.proofs.Common.{◌-◌, arith}
 use Rattle.fpl_rewrite.proofs.jacobi.jacobi_row.Goals as goal
 
 pub add_entry-requires-clause-reached : goal.add_entry-requires-clause-reached
