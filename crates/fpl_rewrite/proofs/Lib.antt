@@ -1,4 +1,5 @@
 pub mod Cubes
+pub mod Listed
 pub mod Nought
 pub mod Onward
 pub mod Relations

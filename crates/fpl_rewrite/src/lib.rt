@@ -5,8 +5,10 @@ mod entries;
 mod forms;
 mod jacobi;
 mod origins;
+mod row;
 mod triples;
 
 pub use forms::relation_row;
 pub use jacobi::{cube_row, jacobi_row};
 pub use origins::Origins;
+pub use row::origin_row;
