@@ -75,7 +75,7 @@ conclusion_means kind earlier start row terms k listed a rows all el e =
     go left b v (Some c) el g = (scale_reads kind (field_of kind) (number_of kind) (kind_reads kind listed) left row c b (el c refl) g).vector ∙ ap (scale (field_of kind) (number_of kind c)) v
 
 -- the next term
-drop_next : {X : Type 0} (xs : List X) (k : ℕ) (x : X) → Some x ≡ slice_get xs k → drop k xs ≡ x ∷ drop (suc k) xs
+pub drop_next : {X : Type 0} (xs : List X) (k : ℕ) (x : X) → Some x ≡ slice_get xs k → drop k xs ≡ x ∷ drop (suc k) xs
 drop_next [] k x e = absurd (none_some (sym e))
 drop_next (y ∷ ys) zero x e = ap (λ z. z ∷ ys) (sym (some_same e))
 drop_next (y ∷ ys) (suc k) x e = drop_next ys k x e

@@ -21,7 +21,7 @@ use Rattle.fpl_log.specs.declared.step.Step.TheVariants.{Insert, Close}
 use Rattle.fpl_log.specs.Conclusion.{cited, terms_sum, less, conclude, concluded}
 use Rattle.fpl_log.specs.Slim.{is_left_out, new_number, next_number, next_count, slim_term, slim_terms, slim_step, kept_if, slim_steps, numbers_after, IsEarlier, CitesEarlier, AreInOrder}
 use Rattle.fpl_log.specs.Laws.{HaveElements, ConclusionsStay, ConclusionsUnfold}
-use Rattle.fpl_log.proofs.Conclusions.{conclusion_unfolds, length-concluded}
+use Rattle.fpl_log.proofs.Unfoldings.{conclusion_unfolds, length-concluded}
 
 get-before : {X : Type 0} (xs : List X) (x d : X) (i : ℕ) → i < length xs → get_or (xs ++ x ∷ []) i d ≡ get_or xs i d
 get-before [] x d i l = absurd (omega arith)
