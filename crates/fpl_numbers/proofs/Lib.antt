@@ -8,3 +8,5 @@ pub mod ResidueReads
 pub mod Fitting
 pub mod KindReads
 pub mod FractionProducts
+pub mod WholeNumbers
+pub mod WholeFractions

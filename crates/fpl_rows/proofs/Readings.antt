@@ -31,7 +31,7 @@ module _ (kind : Kind) (K : Field) (value : Num → K.Carrier) (reads : Reads ki
     pub vector : vector_of K value zs ≡ v
 
   pub axpy_places : (xs ys zs : List Num) (c : Num) → AreElements kind xs → IsElement kind c → AreElements kind ys → length xs ≡ length ys → axpy_of kind xs c ys ≡ Ok zs →
-    AreElements kind zs × ((length zs ≡ length xs) × ((s : ℕ) → vector_of K value zs s ≡ K.plus (vector_of K value xs s) (K.times (value c) (vector_of K value ys s))))
+      AreElements kind zs × ((length zs ≡ length xs) × ((s : ℕ) → vector_of K value zs s ≡ K.plus (vector_of K value xs s) (K.times (value c) (vector_of K value ys s))))
   axpy_places [] [] zs c a b d l e =
       let is : [] ≡ zs = ok_same e in
       (subst (AreElements kind) is a, (ap length (sym is), λ s. ap (λ w. vector_of K value w s) (sym is) ∙ sym (ap (K.plus K.nought) (times-nought K _) ∙ K.plus-nought _)))
@@ -47,13 +47,13 @@ module _ (kind : Kind) (K : Field) (value : Num → K.Carrier) (reads : Reads ki
       (subst (AreElements kind) (sym r.1.1) (all_cons (IsElement kind) t.0 r.0 q.0 k.0), (ap length r.1.1 ∙ ap suc k.1.0, λ s. ap (λ w. vector_of K value w s) r.1.1 ∙ go t.0 r.0 (q.1 ∙ ap (K.plus (value x)) p.1) k.1.1 s))
     where
       go : (t : Num) (rest : List Num) → value t ≡ K.plus (value x) (K.times (value c) (value y)) →
-        ((s : ℕ) → vector_of K value rest s ≡ K.plus (vector_of K value xs s) (K.times (value c) (vector_of K value ys s))) →
-        (s : ℕ) → vector_of K value (t ∷ rest) s ≡ K.plus (vector_of K value (x ∷ xs) s) (K.times (value c) (vector_of K value (y ∷ ys) s))
+          ((s : ℕ) → vector_of K value rest s ≡ K.plus (vector_of K value xs s) (K.times (value c) (vector_of K value ys s))) →
+          (s : ℕ) → vector_of K value (t ∷ rest) s ≡ K.plus (vector_of K value (x ∷ xs) s) (K.times (value c) (vector_of K value (y ∷ ys) s))
       go t rest h k zero = h
       go t rest h k (suc s) = k s
 
   pub scale_places : (xs zs : List Num) (c : Num) → AreElements kind xs → IsElement kind c → scale_of kind c xs ≡ Ok zs →
-    AreElements kind zs × ((length zs ≡ length xs) × ((s : ℕ) → vector_of K value zs s ≡ K.times (value c) (vector_of K value xs s)))
+      AreElements kind zs × ((length zs ≡ length xs) × ((s : ℕ) → vector_of K value zs s ≡ K.times (value c) (vector_of K value xs s)))
   scale_places [] zs c a b e =
       let is : [] ≡ zs = ok_same e in
       (subst (AreElements kind) is a, (ap length (sym is), λ s. ap (λ w. vector_of K value w s) (sym is) ∙ sym (times-nought K _)))
@@ -65,14 +65,14 @@ module _ (kind : Kind) (K : Field) (value : Num → K.Carrier) (reads : Reads ki
       (subst (AreElements kind) (sym r.1.1) (all_cons (IsElement kind) m.0 r.0 p.0 k.0), (ap length r.1.1 ∙ ap suc k.1.0, λ s. ap (λ w. vector_of K value w s) r.1.1 ∙ go m.0 r.0 p.1 k.1.1 s))
     where
       go : (t : Num) (rest : List Num) → value t ≡ K.times (value c) (value x) →
-        ((s : ℕ) → vector_of K value rest s ≡ K.times (value c) (vector_of K value xs s)) →
-        (s : ℕ) → vector_of K value (t ∷ rest) s ≡ K.times (value c) (vector_of K value (x ∷ xs) s)
+          ((s : ℕ) → vector_of K value rest s ≡ K.times (value c) (vector_of K value xs s)) →
+          (s : ℕ) → vector_of K value (t ∷ rest) s ≡ K.times (value c) (vector_of K value (x ∷ xs) s)
       go t rest h k zero = h
       go t rest h k (suc s) = k s
 
   -- c times another row added
   pub axpy_reads : (xs ys zs : List Num) (c : Num) → AreElements kind xs → IsElement kind c → AreElements kind ys → length xs ≡ length ys → axpy_of kind xs c ys ≡ Ok zs →
-    IsFor (length xs) (vplus K (vector_of K value xs) (scale K (value c) (vector_of K value ys))) zs
+      IsFor (length xs) (vplus K (vector_of K value xs) (scale K (value c) (vector_of K value ys))) zs
   unfolding vplus scale
   axpy_reads xs ys zs c a b d l e = let k = axpy_places xs ys zs c a b d l e in record { elements = k.0; length_is = k.1.0; vector = fun_ext k.1.1 }
 
@@ -122,4 +122,4 @@ module _ (kind : Kind) (K : Field) (value : Num → K.Carrier) (reads : Reads ki
   vectors_same (x ∷ xs) [] a b l e = absurd (omega arith)
   vectors_same (x ∷ xs) (y ∷ ys) a b l e =
       ap₂ (λ z zs. z ∷ zs) (reads.apart x y (all_head (IsElement kind) x xs a) (all_head (IsElement kind) y ys b) (ap (λ v. v 0) e))
-        (vectors_same xs ys (all_tail (IsElement kind) x xs a) (all_tail (IsElement kind) y ys b) (omega arith) (ap (λ v s. v (suc s)) e))
+      (vectors_same xs ys (all_tail (IsElement kind) x xs a) (all_tail (IsElement kind) y ys b) (omega arith) (ap (λ v s. v (suc s)) e))

@@ -1,4 +1,4 @@
-ghost use Rattle.std.specs.Prelude.{◌≡◌, ◌≤◌, ◌<◌, ◌+◌, ◌-◌, ◌^◌, List, length, IfOk, IfErr, OnOk, IsTrue, ◌↔◌, None, slice_index_or, replicate};
+ghost use Rattle.std.specs.Prelude.{◌≡◌, ◌≤◌, ◌<◌, ◌+◌, ◌-◌, ◌^◌, List, length, IfOk, IfErr, OnOk, IsTrue, ◌↔◌, None, slice_index_or, replicate, map, vec_len};
 ghost use Rattle.fpl_numbers.specs.Numbers.{IsElement, residue};
 ghost use Rattle.fpl_numbers.specs.Results.{Gives};
 ghost use Rattle.fpl_scalar.specs.Vectors.{AreElements, axpy_of, scale_of};
@@ -44,6 +44,17 @@ impl<F: Field> Row<F> {
             field: *field,
             numbers,
         })
+    }
+
+    /// The row with these numbers, the first at position 1.
+    pub fn from_vec(field: &F, numbers: Vec<F::Elem>) -> Row<F>
+        requires { vec_len numbers < 2 ^ 32 }
+        ensures { result ≡ map F.number numbers.items }
+    {
+        Row {
+            field: *field,
+            numbers,
+        }
     }
 
     pub fn copy(&self, alloc: Global) -> Result<Row<F>, AllocError>
