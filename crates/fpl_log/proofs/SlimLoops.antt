@@ -1,5 +1,5 @@
 -- The terms and the steps that are left to look at.
-use Rattle.std.specs.Prelude.{◌≡◌, ℕ, zero, suc, ◌+◌, ◌<◌, ◌≤◌, List, [], ◌∷◌, ◌++◌, length, drop, slice_get, Option, Some, None, Bool, true, false, All}
+use Rattle.std.specs.Prelude.{◌≡◌, ℕ, zero, suc, ◌≤◌, List, [], ◌∷◌, ◌++◌, length, drop, slice_get, Option, Some, None, Bool, true, false}
 use mathlib.Core.Path.{sym, refl, ap, ap₂, ◌∙◌, subst}
 use native.Mathlib.Omega.{arith}
 use Rattle.std.proofs.Common.{append_assoc, append-nil}
@@ -39,16 +39,17 @@ pub steps_next : (steps : List Step) (j i : ℕ) (numbers after : List (Option �
     after ≡ numbers ++ (next_number (is_left_out s) (length kept)) ∷ [] → more ≡ kept ++ kept_if (is_left_out s) (slim_step numbers s) [] → Left steps j after more
 steps_next steps j i numbers after kept more s is e h f g =
     subst (λ j. Left steps j after more) (sym is) (subst (λ n. Left steps (suc i) n more) (sym f) (subst (Left steps (suc i) numbers') (sym g)
-      (record {
-        order = subst (λ c. AreInOrder numbers' c (drop (suc i) steps)) (sym count) (subst (AreInOrder numbers (length kept)) (drop_next steps i s e) h.order).1;
-        left =
+    (record {
+      order = subst (λ c. AreInOrder numbers' c (drop (suc i) steps)) (sym count) (subst (AreInOrder numbers (length kept)) (drop_next steps i s e) h.order).1;
+      left =
           h.left ∙ ap (λ w. kept ++ slim_steps numbers (length kept) w) (drop_next steps i s e)
           ∙ ap (λ w. kept ++ w) (kept-first (is_left_out s) (slim_step numbers s) (slim_steps numbers' (next_count (is_left_out s) (length kept)) (drop (suc i) steps)))
-          ∙ sym (append_assoc kept _ _) ∙ ap (λ c. (kept ++ kept_if (is_left_out s) (slim_step numbers s) []) ++ slim_steps numbers' c (drop (suc i) steps)) (sym count)
-      })))
+          ∙ sym (append_assoc kept _ _) ∙ ap (λ c. (kept ++ kept_if (is_left_out s) (slim_step numbers s) []) ++ slim_steps numbers' c (drop (suc i) steps)) (sym count);
+    })))
   where
     numbers' : List (Option ℕ)
     numbers' = numbers ++ (next_number (is_left_out s) (length kept)) ∷ []
+
     count : length (kept ++ kept_if (is_left_out s) (slim_step numbers s) []) ≡ next_count (is_left_out s) (length kept)
     count = count-next (is_left_out s) (slim_step numbers s) kept
 

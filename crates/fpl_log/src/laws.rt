@@ -6,5 +6,4 @@ ghost use Rattle.fpl_log.specs.Laws.{ConclusionsUnfold, ConclusionsStay};
 pub fn conclusions()
     ensures unfold { (k : Kind) → ConclusionsUnfold k }
     ensures stay { (k : Kind) → ConclusionsStay k }
-{
-}
+{}
