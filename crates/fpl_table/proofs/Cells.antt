@@ -8,17 +8,11 @@ use Rattle.fpl_algebra.specs.Symbols.{joined, is_odd, symbols_of}
 use Rattle.fpl_algebra.specs.Tree.{no_generator}
 use Rattle.fpl_table.specs.declared.shape.Shape.{Shape}
 use Rattle.fpl_table.specs.Whole.{shape_in}
-use Rattle.fpl_table.proofs.Lists.{map_at}
+use Rattle.fpl_table.proofs.Lists.{map_at, nat_split}
 use Rattle.fpl_table.specs.Plain.{PlainTable, through, first_partner, partner_from, plain_basis, generator_at, table_in, shell_in}
 use Rattle.fpl_table.specs.Shape.{HasShape, partners}
-use Rattle.fpl_table.specs.Cells.{generator_cell, generator_cells, pair_cell, pair_cells}
+use Rattle.fpl_table.specs.Cells.{generator_cell, generator_cells, pair_cell, pair_cells, pairs_to}
 use Rattle.fpl_table.proofs.Weights.{through_below, through_above, through_heavier, through_within}
-
-nat_split : (a b : ℕ) → (a < b) ⊎ (b ≤ a)
-nat_split zero zero = inr (omega arith)
-nat_split zero (suc b) = inl (omega arith)
-nat_split (suc a) zero = inr (omega arith)
-nat_split (suc a) (suc b) = elim (nat_split a b) [ inl h ↦ inl (omega (arith, h)) | inr h ↦ inr (omega (arith, h)) ]
 
 -- lists joined one after the other
 pub joined_one : (n : ℕ) (f : ℕ → List Symbol) → joined (n + 1) f ≡ joined n f ++ f n
@@ -131,10 +125,6 @@ module _ (T : PlainTable) (shape : HasShape T) (w i : ℕ) (lti : i < length T.b
 pub row_above : (T : PlainTable) → HasShape T → (w i : ℕ) → i < length T.basis → w ≤ (plain_basis T i).weight → pair_cells T w i ≡ []
 row_above T shape w i lti above =
     joined_none (pair_cell T w i) (length T.basis) (λ j ltj. let h : 1 ≤ (plain_basis T j).weight = shape.heavy j ltj in grind (arith, nat_tests))
-
--- the pairs of weight w whose first basis element stands before place i
-abbrev pub pairs_to : PlainTable → ℕ → ℕ → List Symbol
-pairs_to T w i = joined i (pair_cells T w)
 
 module _ (T : PlainTable) (shape : HasShape T) (w : ℕ) where
   pub pairs_first : pairs_to T w 0 ≡ []

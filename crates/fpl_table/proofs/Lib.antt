@@ -5,3 +5,4 @@ pub mod Entries
 pub mod Cells
 pub mod Light
 pub mod Padded
+pub mod Leads

@@ -1,6 +1,18 @@
 -- Elements of lists.
-use Rattle.std.proofs.Common.{◌≡◌, ◌<◌, ◌+◌, ◌++◌, ℕ, zero, suc, List, [], ◌∷◌, length, map, get_or, All, refl, ap, sym, arith}
+use Rattle.std.proofs.Common.{◌≡◌, ◌≢◌, ◌<◌, ◌≤◌, ◌+◌, ◌++◌, ◌⊎◌, inl, inr, ℕ, zero, suc, List, [], ◌∷◌, length, map, get_or, All, refl, ap, sym, arith}
 use Rattle.std.proofs.lemmas.List.{length-map}
+
+pub nat_split : (a b : ℕ) → (a < b) ⊎ (b ≤ a)
+nat_split zero zero = inr (omega arith)
+nat_split zero (suc b) = inl (omega arith)
+nat_split (suc a) zero = inr (omega arith)
+nat_split (suc a) (suc b) = elim (nat_split a b) [ inl h ↦ inl (omega (arith, h)) | inr h ↦ inr (omega (arith, h)) ]
+
+pub nat_same : (a b : ℕ) → (a ≡ b) ⊎ (a ≢ b)
+nat_same zero zero = inl refl
+nat_same zero (suc b) = inr (omega arith)
+nat_same (suc a) zero = inr (omega arith)
+nat_same (suc a) (suc b) = elim (nat_same a b) [ inl h ↦ inl (omega (arith, h)) | inr h ↦ inr (λ e. h (omega (arith, e))) ]
 
 -- what stands at a place of a list made by f
 pub map_at : {A B : Type 0} (f : A → B) (xs : List A) (i : ℕ) (d : B) (x : A) → i < length xs → x ≡ get_or xs i x → get_or (map f xs) i d ≡ f x
