@@ -1,16 +1,17 @@
 -- The leads of rows, by place.
-use Rattle.std.proofs.Common.{◌≡◌, ◌≢◌, ◌≤◌, ◌<◌, ◌+◌, ◌-◌, ◌++◌, ℕ, zero, suc, List, [], ◌∷◌, length, get_or, drop, cond, nat_eq, Bool, true, false, Option, Some, None, refl, ap, sym, ◌∙◌, arith, ◌⊎◌, inl, inr, get_or-set_other, get_or-set_same, add-one}
+use Rattle.std.proofs.Common.{◌≡◌, ◌≢◌, ◌≤◌, ◌<◌, ◌+◌, ◌-◌, ◌++◌, ℕ, zero, suc, List, [], ◌∷◌, length, get_or, drop, cond, nat_eq, Bool, true, false, Option, Some, None, refl, ap, sym, ◌∙◌, arith, ◌⊎◌, inl, inr, get_or-set_other, get_or-set_same, add-one, length-append, map}
 use Rattle.std.proofs.Math.ListN.{set, length-set}
 use Rattle.std.proofs.Math.Seq.{drop-cons}
 use Rattle.std.proofs.lemmas.Bool.Decides.{nat_tests}
 use Rattle.std.specs.Prelude.{unwrap_or, slice_get}
 use Rattle.fpl_numbers.specs.declared.number.Num.{Num}
+use Rattle.fpl_numbers.specs.declared.number.Kind.{Kind}
 use Rattle.fpl_numbers.specs.Numbers.{is_nought, residue}
 use Rattle.fpl_rows.specs.Positions as positions
 use Rattle.fpl_rows.specs.Meaning.{pivot_of}
-use Rattle.fpl_table.specs.Push.{lead_place, lead_below, row_with_lead, is_lead, free_in}
-use Rattle.fpl_table.specs.Leads.{row_by, AreLeads}
-use Rattle.fpl_table.proofs.Lists.{nat_same}
+use Rattle.fpl_table.specs.Push.{lead_place, lead_below, row_with_lead, is_lead, free_in, solved}
+use Rattle.fpl_table.specs.Leads.{row_by, AreLeads, number_solved}
+use Rattle.fpl_table.proofs.Lists.{nat_same, all_push}
 
 lead_below_is : (row : List Num) (n : ℕ) → lead_below row n ≡ unwrap_or (positions.lead_below row n) 1 - 1
 lead_below_is row zero = refl
@@ -93,3 +94,30 @@ module _ (rows : List (List Num)) (n : ℕ) (leads : List ℕ) (are : AreLeads r
       let same : get_or leads s 0 ≡ suc k = omega (arith, ne) in
       let yes : is_lead rows s ≡ true = lead_lost rows s (get_or rows k []) (sym (are.rows_are s lt) ∙ ap (row_by rows) same) in
       rw (add-one, yes) refl
+
+-- each free place is below the end, and there are no more than places
+pub free_below : (rows : List (List Num)) (m i d : ℕ) → i < length (free_in rows m) → get_or (free_in rows m) i d < m
+unfolding free_in
+free_below rows zero i d lt = absurd (omega (arith, lt))
+free_below rows (suc m) i d lt = go (is_lead rows m) (λ j e below. free_below rows m j e below) lt
+  where
+    go : (b : Bool) → ((j e : ℕ) → j < length (free_in rows m) → get_or (free_in rows m) j e < m) → i < length (cond b (free_in rows m) (free_in rows m ++ m ∷ [])) → get_or (cond b (free_in rows m) (free_in rows m ++ m ∷ [])) i d < suc m
+    go true h below = let k : get_or (free_in rows m) i d < m = h i d below in omega arith
+    go false h below = all_push (λ t. t < suc m) (free_in rows m) m (λ j e within. let k : get_or (free_in rows m) j e < m = h j e within in omega arith) (omega arith) i d below
+
+pub free_few : (rows : List (List Num)) (m : ℕ) → length (free_in rows m) ≤ m
+unfolding free_in
+free_few rows zero = omega arith
+free_few rows (suc m) = go (is_lead rows m) (free_few rows m)
+  where
+    go : (b : Bool) → length (free_in rows m) ≤ m → length (cond b (free_in rows m) (free_in rows m ++ m ∷ [])) ≤ suc m
+    go true h = omega arith
+    go false h = rw length-append (omega arith)
+
+-- a row by its number
+pub row_by_some : (rows : List (List Num)) (k : ℕ) → k ≢ 0 → row_by rows k ≡ Some (get_or rows (k - 1) [])
+row_by_some rows k ne = let same : k ≡ suc (k - 1) = omega arith in ap (row_by rows) same
+
+pub solved_is : (kind : Kind) (free : List ℕ) (s : ℕ) (row : Option (List Num)) → solved kind free s row ≡ map (number_solved kind s row) free
+solved_is kind free s None = refl
+solved_is kind free s (Some row) = refl

@@ -6,3 +6,4 @@ pub mod Cells
 pub mod Light
 pub mod Padded
 pub mod Leads
+pub mod Places

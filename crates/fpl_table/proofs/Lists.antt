@@ -1,5 +1,5 @@
 -- Elements of lists.
-use Rattle.std.proofs.Common.{◌≡◌, ◌≢◌, ◌<◌, ◌≤◌, ◌+◌, ◌++◌, ◌⊎◌, inl, inr, ℕ, zero, suc, List, [], ◌∷◌, length, map, get_or, All, refl, ap, sym, arith}
+use Rattle.std.proofs.Common.{◌≡◌, ◌≢◌, ◌<◌, ◌≤◌, ◌+◌, ◌++◌, ◌⊎◌, inl, inr, ℕ, zero, suc, List, [], ◌∷◌, length, map, get_or, All, take, Option, Some, None, Result, Ok, Err, IfOk, slice_get, refl, ap, sym, subst, arith}
 use Rattle.std.proofs.lemmas.List.{length-map}
 
 pub nat_split : (a b : ℕ) → (a < b) ⊎ (b ≤ a)
@@ -35,3 +35,22 @@ all_push P [] x h p zero d lt = p
 all_push P [] x h p (suc k) d lt = absurd (omega (arith, lt))
 all_push P (y ∷ ys) x h p zero d lt = h zero d (omega arith)
 all_push P (y ∷ ys) x h p (suc k) d lt = all_push P ys x (λ i e below. h (suc i) e (omega (arith, below))) p k d (omega (arith, lt))
+
+pub all_get : {A : Type 0} (P : A → Type 0) (xs : List A) (k : ℕ) (x : A) → All P xs → slice_get xs k ≡ Some x → P x
+all_get P [] k x h e = absurd cc
+all_get P (y ∷ ys) zero x h e = let same : y ≡ x = cc in subst P same (h zero y (omega arith))
+all_get P (y ∷ ys) (suc k) x h e = all_get P ys k x (λ i d lt. h (suc i) d (omega (arith, lt))) e
+
+pub at_middle : {A : Type 0} (xs : List A) (x : A) (ys : List A) (d : A) → get_or (xs ++ x ∷ ys) (length xs) d ≡ x
+at_middle [] x ys d = refl
+at_middle (z ∷ zs) x ys d = at_middle zs x ys d
+
+pub ok_more : {A E : Type 0} (P Q : A → Type 0) (r : Result A E) → ((x : A) → P x → Q x) → IfOk r P → IfOk r Q
+ok_more P Q (Ok x) f h = f x h
+ok_more P Q (Err e) f h = tt
+
+pub take_all : {A : Type 0} (xs : List A) (i : ℕ) → length xs ≤ i → take i xs ≡ xs
+take_all [] zero le = refl
+take_all [] (suc i) le = refl
+take_all (x ∷ xs) zero le = absurd (omega (arith, le))
+take_all (x ∷ xs) (suc i) le = ap (λ l. x ∷ l) (take_all xs i (omega (arith, le)))

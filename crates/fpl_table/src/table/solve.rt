@@ -22,6 +22,7 @@ impl<F: Field> Table<F> {
     fn number_solved(&self, rows: &Rows<F>, lead: usize, s: u32, t: u32) -> F::Elem
         requires rows { AreRows self.now.kind (length (symbols_in self.now)) rows.now }
         requires place { t < length (symbols_in self.now) }
+        requires few { length (symbols_in self.now) ≤ 2000000 }
         requires lead { lead ≤ length rows.now }
         ensures value { F.number result ≡ number_solved self.now.kind s (row_by rows.now lead) t }
         ensures element { IsElement self.now.kind (F.number result) }
