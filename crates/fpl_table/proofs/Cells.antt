@@ -65,25 +65,32 @@ module _ (T : PlainTable) (shape : HasShape T) (w i : ℕ) (lti : i < length T.b
   cell_other : (j : ℕ) → (plain_basis T i).weight + (plain_basis T j).weight ≢ w → pair_cell T w i j ≡ []
   cell_other j not = grind (arith, nat_tests)
 
-  pub cell_before : (j : ℕ) → j < length T.basis → j < partner_from T i w → pair_cell T w i j ≡ []
-  cell_before j ltj below =
+  pub before_other : (j : ℕ) → j < length T.basis → j < partner_from T i w → (j < first_partner T i) ⊎ ((plain_basis T i).weight + (plain_basis T j).weight ≢ w)
+  before_other j ltj below =
       elim (nat_split j (first_partner T i)) [
-        inl small ↦ cell_irregular j small
-      | inr large ↦ cell_other j (λ is. let h : (plain_basis T j).weight ≤ w - (plain_basis T i).weight - 1 = through_below T shape (w - (plain_basis T i).weight - 1) j (omega arith) in omega arith)
+        inl small ↦ inl small
+      | inr large ↦ inr (λ is. let h : (plain_basis T j).weight ≤ w - (plain_basis T i).weight - 1 = through_below T shape (w - (plain_basis T i).weight - 1) j (omega arith) in omega arith)
       ]
 
-  pub cell_after : (j : ℕ) → j < length T.basis → through T (w - (plain_basis T i).weight) ≤ j → pair_cell T w i j ≡ []
-  cell_after j ltj from =
-      cell_other j (λ is. let h : j < through T (w - (plain_basis T i).weight) = through_above T shape (w - (plain_basis T i).weight) j ltj (omega arith) in omega arith)
+  pub after_other : (j : ℕ) → j < length T.basis → through T (w - (plain_basis T i).weight) ≤ j → (plain_basis T i).weight + (plain_basis T j).weight ≢ w
+  after_other j ltj from is = let h : j < through T (w - (plain_basis T i).weight) = through_above T shape (w - (plain_basis T i).weight) j ltj (omega arith) in omega arith
 
-  pub cell_within : (j : ℕ) → partner_from T i w ≤ j → j < through T (w - (plain_basis T i).weight) → pair_cell T w i j ≡ of_pair i j ∷ []
-  cell_within j from below =
+  pub within_is : (j : ℕ) → partner_from T i w ≤ j → j < through T (w - (plain_basis T i).weight) → (plain_basis T i).weight + (plain_basis T j).weight ≡ w
+  within_is j from below =
       let in_all : through T (w - (plain_basis T i).weight) ≤ length T.basis = through_within T shape (w - (plain_basis T i).weight) in
       let light : (plain_basis T j).weight ≤ w - (plain_basis T i).weight = through_below T shape (w - (plain_basis T i).weight) j below in
       let heavy : (plain_basis T j).weight ≤ w - (plain_basis T i).weight - 1 → j < through T (w - (plain_basis T i).weight - 1) =
           through_above T shape (w - (plain_basis T i).weight - 1) j (omega arith) in
-      let is : (plain_basis T i).weight + (plain_basis T j).weight ≡ w = grind arith in
-      cell_regular j is (omega arith)
+      grind arith
+
+  cell_before : (j : ℕ) → j < length T.basis → j < partner_from T i w → pair_cell T w i j ≡ []
+  cell_before j ltj below = elim (before_other j ltj below) [ inl small ↦ cell_irregular j small | inr not ↦ cell_other j not ]
+
+  cell_after : (j : ℕ) → j < length T.basis → through T (w - (plain_basis T i).weight) ≤ j → pair_cell T w i j ≡ []
+  cell_after j ltj from = cell_other j (after_other j ltj from)
+
+  pub cell_within : (j : ℕ) → partner_from T i w ≤ j → j < through T (w - (plain_basis T i).weight) → pair_cell T w i j ≡ of_pair i j ∷ []
+  cell_within j from below = cell_regular j (within_is j from below) (omega arith)
 
   pub from_within : partner_from T i w ≤ length T.basis
   from_within =

@@ -7,3 +7,4 @@ pub mod Light
 pub mod Padded
 pub mod Leads
 pub mod Places
+pub mod NewRows

@@ -1,5 +1,5 @@
 -- Elements of lists.
-use Rattle.std.proofs.Common.{◌≡◌, ◌≢◌, ◌<◌, ◌≤◌, ◌+◌, ◌++◌, ◌⊎◌, inl, inr, ℕ, zero, suc, List, [], ◌∷◌, length, map, get_or, All, take, Option, Some, None, Result, Ok, Err, IfOk, slice_get, refl, ap, sym, subst, arith}
+use Rattle.std.proofs.Common.{◌≡◌, ◌≢◌, ◌<◌, ◌≤◌, ◌+◌, ◌++◌, ◌⊎◌, inl, inr, ℕ, zero, suc, List, [], ◌∷◌, length, map, get_or, All, take, drop, Option, Some, None, Result, Ok, Err, IfOk, slice_get, refl, ap, sym, subst, arith}
 use Rattle.std.proofs.lemmas.List.{length-map}
 
 pub nat_split : (a b : ℕ) → (a < b) ⊎ (b ≤ a)
@@ -54,3 +54,9 @@ take_all [] zero le = refl
 take_all [] (suc i) le = refl
 take_all (x ∷ xs) zero le = absurd (omega (arith, le))
 take_all (x ∷ xs) (suc i) le = ap (λ l. x ∷ l) (take_all xs i (omega (arith, le)))
+
+pub drop_all : {A : Type 0} (xs : List A) (i : ℕ) → length xs ≤ i → drop i xs ≡ []
+drop_all [] zero le = refl
+drop_all [] (suc i) le = refl
+drop_all (x ∷ xs) zero le = absurd (omega (arith, le))
+drop_all (x ∷ xs) (suc i) le = drop_all xs i (omega (arith, le))

@@ -1,15 +1,15 @@
-ghost use Rattle.std.specs.Prelude.{◌≡◌, ◌≤◌, ◌<◌, ◌+◌, ◌-◌, ◌*◌, length, map, get_or, replicate, IfOk, vec_len};
+ghost use Rattle.std.specs.Prelude.{◌≡◌, ◌≤◌, ◌<◌, ◌+◌, ◌-◌, ◌*◌, suc, nat_eq, cond, [], length, map, get_or, IfOk};
 ghost use Rattle.fpl_numbers.specs.Numbers.{IsElement, residue};
 ghost use Rattle.fpl_rows.specs.Meaning.{AreRows};
 ghost use Rattle.fpl_scalar.specs.Vectors.{AreElements};
-ghost use Rattle.fpl_algebra.specs.Table.{of_generator, of_pair};
+ghost use Rattle.fpl_algebra.specs.Symbols.{joined};
+ghost use Rattle.fpl_algebra.specs.Table.{of_generator};
 ghost use Rattle.fpl_table.specs.Plain.{symbols_in, plain_basis, generator_at};
-ghost use Rattle.fpl_table.specs.Cells.{generator_cells};
+ghost use Rattle.fpl_table.specs.Cells.{generator_cell, generator_cells, pair_cells, pairs_to};
 ghost use Rattle.fpl_table.specs.Shape.{HasShape, IsRowUpTo};
 ghost use Rattle.fpl_table.specs.Value.{zero_row};
 ghost use Rattle.fpl_table.specs.Push.{symbol_row, row_of_symbol, new_images, new_partners, new_entries};
 ghost use Rattle.fpl_table.specs.Leads.{IsSolved, row_by, number_solved};
-ghost use Rattle.fpl_table.specs.Cells.{pairs_to};
 
 use super::Table;
 use fpl_rows::{Row, Rows};
@@ -71,6 +71,38 @@ impl<F: Field> Table<F> {
         Ok(Row::from_vec(self.field(), numbers))
     }
 
+    /// Whether the generator at place `g` is of the next weight.
+    fn is_next(&self, g: usize) -> bool
+        requires { g < length self.now.generators }
+        ensures value { result ≡ nat_eq (generator_at self.now g).weight (suc self.now.weight) }
+        ensures shape { HasShape self.now }
+    {
+        self.shapes[g].weight == self.levels.len() as u32 + 1
+    }
+
+    /// The image of the generator at place `g`, if it is of the next weight: its symbol stands
+    /// at `place`. Else an empty row.
+    fn new_image(
+        &self,
+        alloc: Global,
+        rows: &Rows<F>,
+        leads: &[usize],
+        free: &[u32],
+        g: usize,
+        place: usize,
+    ) -> Result<Row<F>, AllocError>
+        requires solved { IsSolved self.now rows.now leads.now free.now }
+        requires number { g < length self.now.generators }
+        requires place { place ≡ length (joined g (generator_cell self.now (self.now.weight + 1))) }
+        ensures { IfOk result (λ row. row ≡ cond (nat_eq (generator_at self.now g).weight (suc self.now.weight)) (row_of_symbol self.now rows.now (of_generator g)) []) }
+    {
+        if self.is_next(g) {
+            self.symbol_row(alloc, rows, leads, free, place)
+        } else {
+            Ok(Row::from_vec(self.field(), Vec::new(alloc)))
+        }
+    }
+
     /// The images of the generators of the next weight, and empty rows for the others.
     pub(super) fn new_images(
         &self,
@@ -79,17 +111,16 @@ impl<F: Field> Table<F> {
         leads: &[usize],
         free: &[u32],
     ) -> Result<Vec<Row<F>>, AllocError>
-        requires solved { IsSolved self.now rows.now leads.now free.now }
-        ensures value { IfOk result (λ images. images.items ≡ new_images self.now rows.now 0 self.now.generators) }
+        requires { IsSolved self.now rows.now leads.now free.now }
+        ensures { IfOk result (λ images. images.items ≡ new_images self.now rows.now 0 self.now.generators) }
     {
         let mut images = Vec::new(alloc);
         let mut place = 0;
         for g in 0..self.shapes.len() {
-            if self.shapes[g].weight == self.weight() + 1 {
-                images.push(self.symbol_row(alloc, rows, leads, free, place)?)?;
+            let image = self.new_image(alloc, rows, leads, free, g, place)?;
+            images.push(image)?;
+            if self.is_next(g) {
                 place += 1;
-            } else {
-                images.push(Row::from_vec(self.field(), Vec::new(alloc)))?;
             }
         }
         Ok(images)
@@ -110,6 +141,7 @@ impl<F: Field> Table<F> {
         requires number { (1 ≤ i) × (i ≤ length self.now.basis) }
         requires start { start ≡ length (generator_cells self.now (self.now.weight + 1)) + length (pairs_to self.now (self.now.weight + 1) (i - 1)) }
         ensures value { IfOk result (λ partners. partners.items ≡ new_partners self.now rows.now (i - 1) 0 self.now.basis) }
+        ensures count { IfOk result (λ partners. length partners.items ≡ length (pair_cells self.now (self.now.weight + 1) (i - 1))) }
     {
         let (from, to) = self.partners(i, self.weight() + 1);
         let mut partners = Vec::new(alloc);
@@ -128,8 +160,8 @@ impl<F: Field> Table<F> {
         leads: &[usize],
         free: &[u32],
     ) -> Result<Vec<Vec<Row<F>>>, AllocError>
-        requires solved { IsSolved self.now rows.now leads.now free.now }
-        ensures value { IfOk result (λ entries. map (λ v. v.items) entries.items ≡ new_entries self.now rows.now 0 self.now.basis) }
+        requires { IsSolved self.now rows.now leads.now free.now }
+        ensures { IfOk result (λ entries. map (λ v. v.items) entries.items ≡ new_entries self.now rows.now 0 self.now.basis) }
     {
         let mut entries = Vec::new(alloc);
         let mut place = self.generator_count(self.weight() + 1) as usize;
