@@ -5,15 +5,17 @@
 --   number_solved kind s row t the number at place t of the symbol at place s: itself, where it leads no row, else minus its row's
 --   IsSolved T rows leads free the rows, their leads by place, and the places that lead none
 --   numbers_solved T rows s free  the numbers of the symbol at place s at some places
+--   basis_of T x               the basis element of the next weight that stands for a symbol
 --   trees_of T free            the bracket trees of the symbols at some places
 use Rattle.std.specs.Prelude.{ℕ, zero, suc, ◌≡◌, ◌<◌, ◌≤◌, List, [], length, map, get_or, cond, nat_eq, Option, Some, None}
 use Rattle.fpl_numbers.specs.declared.number.Num.{Num}
 use Rattle.fpl_numbers.specs.declared.number.Kind.{Kind}
 use Rattle.fpl_numbers.specs.Numbers.{residue, negative_of}
 use Rattle.fpl_algebra.specs.Tree.{Tree}
-use Rattle.fpl_algebra.specs.Symbols.{no_symbol}
+use Rattle.fpl_algebra.specs.Symbols.{no_symbol, symbol_parity}
+use Rattle.fpl_algebra.specs.Table.{Symbol, Basis}
 use Rattle.fpl_rows.specs.Meaning.{AreRows}
-use Rattle.fpl_table.specs.Plain.{PlainTable, symbols_in}
+use Rattle.fpl_table.specs.Plain.{PlainTable, symbols_in, table_in, shell_in}
 use Rattle.fpl_table.specs.Shape.{basis_trees, symbol_tree_in}
 use Rattle.fpl_table.specs.Push.{row_with_lead, free_of}
 
@@ -29,6 +31,10 @@ pub record AreLeads (rows : List (List Num)) (n : ℕ) (leads : List ℕ) : Type
 abbrev pub number_solved : Kind → ℕ → Option (List Num) → ℕ → Num
 number_solved kind s None t = cond (nat_eq t s) (residue 1) (residue 0)
 number_solved kind s (Some row) t = negative_of kind (get_or row t (residue 0))
+
+-- the basis element that stands for a symbol of the next weight
+abbrev pub basis_of : PlainTable → Symbol → Basis
+basis_of T x = record { weight = suc T.weight; parity = symbol_parity (shell_in T.kind T) (table_in T.kind T) x; symbol = x }
 
 abbrev pub trees_of : PlainTable → List ℕ → List (Tree Num)
 trees_of T free = map (λ s. symbol_tree_in (basis_trees T) (get_or (symbols_in T) s no_symbol)) free

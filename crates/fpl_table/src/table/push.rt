@@ -7,7 +7,7 @@ ghost use Rattle.fpl_table.specs.Plain.{basis_in, symbol_in, symbols_in, table_i
 ghost use Rattle.fpl_table.specs.Shape.{HasShape, IsNumbered, IsOfTable, basis_trees, symbol_tree_in};
 ghost use Rattle.fpl_table.specs.Standard.{count_of};
 ghost use Rattle.fpl_table.specs.Push.{free_of, new_basis, new_images, new_entries, push_of};
-ghost use Rattle.fpl_table.specs.Leads.{trees_of};
+ghost use Rattle.fpl_table.specs.Leads.{trees_of, basis_of};
 
 use super::leads::{free_places, leads_of};
 use super::{Element, Level, Table};
@@ -47,6 +47,25 @@ impl<F: Field> Table<F> {
         }
     }
 
+    /// The basis element that stands for a symbol of the next weight.
+    fn new_element(&self, alloc: Global, symbol: Symbol) -> Result<Element, AllocError>
+        requires symbol { IsOfTable self.now (symbol_in symbol) × IsNumbered symbol }
+        requires below { self.now.weight < 1000 }
+        ensures basis { IfOk result (λ e. basis_in e.basis ≡ basis_of self.now (symbol_in symbol)) }
+        ensures tree { IfOk result (λ e. plain (expr_of e.tree.value) ≡ symbol_tree_in (basis_trees self.now) (symbol_in symbol)) }
+        ensures symbol { IfOk result (λ e. e.basis.symbol ≡ symbol) }
+    {
+        let basis = Basis {
+            weight: self.weight() + 1,
+            parity: self.symbol_parity(symbol),
+            symbol,
+        };
+        Ok(Element {
+            basis,
+            tree: self.symbol_tree(alloc, symbol)?,
+        })
+    }
+
     /// The basis elements that stand for the symbols at some places.
     fn new_elements(
         &self,
@@ -62,19 +81,10 @@ impl<F: Field> Table<F> {
         ensures trees { IfOk result (λ v. map (λ e. plain (expr_of e.tree.value)) v.items ≡ trees_of self.now free.now) }
         ensures numbered { IfOk result (λ v. All IsNumbered (map (λ e. e.basis.symbol) v.items)) }
     {
-        let weight = self.weight() + 1;
         let mut elements = Vec::new(alloc);
         for t in free {
-            let symbol = symbols[*t as usize];
-            let basis = Basis {
-                weight,
-                parity: self.symbol_parity(symbol),
-                symbol,
-            };
-            elements.push(Element {
-                basis,
-                tree: self.symbol_tree(alloc, symbol)?,
-            })?;
+            let element = self.new_element(alloc, symbols[*t as usize])?;
+            elements.push(element)?;
         }
         Ok(elements)
     }
