@@ -2,10 +2,10 @@
 use Rattle.std.proofs.Common.{◌≡◌, ◌≤◌, ◌<◌, ◌+◌, ◌-◌, ◌++◌, ◌⊎◌, inl, inr, nat_eq, nat_lt, cond, ℕ, zero, suc, List, [], ◌∷◌, length, get_or, refl, ap, sym, ◌∙◌, arith, append_assoc, append-nil, length-append}
 use Rattle.fpl_numbers.specs.Kinds.{field_of}
 use Rattle.fpl_algebra.specs.Table.{Symbol, of_generator, of_pair}
-use Rattle.fpl_algebra.specs.Symbols.{joined, symbols, pairs_of, place_of, no_symbol}
-use Rattle.fpl_tables.proofs.SymbolLists.{place_number}
+use Rattle.fpl_algebra.specs.Symbols.{joined, symbols, pairs_of, place_of, no_symbol, IsSymbol, is_generator, is_pair}
+use Rattle.fpl_tables.proofs.SymbolLists.{place_number, place_symbol}
 use Rattle.fpl_table.specs.Plain.{PlainTable, plain_basis, generator_at, through, partner_from, table_in, shell_in, symbols_in}
-use Rattle.fpl_table.specs.Shape.{HasShape}
+use Rattle.fpl_table.specs.Shape.{HasShape, IsOfTable}
 use Rattle.fpl_table.specs.Cells.{generator_cell, generator_cells, pair_cell, pair_cells, pairs_to}
 use Rattle.fpl_table.proofs.Lists.{at_middle, nat_split}
 use Rattle.fpl_table.proofs.Cells.{joined_ones, row_before, from_within, cell_within}
@@ -94,3 +94,10 @@ module _ (T : PlainTable) (shape : HasShape T) (i : ℕ) (lti : i < length T.bas
 
     pub pair_place : place_of (of_pair i j) (symbols_in T) ≡ length (generator_cells T (suc T.weight)) + length (pairs_to T (suc T.weight) i) + (j - partner_from T i (suc T.weight))
     pair_place = place_here T _ _ pair_stands ∙ length_before
+
+of_table : (T : PlainTable) (x : Symbol) → IsSymbol (shell_in T.kind T) (table_in T.kind T) x → IsOfTable T x
+of_table T _ (is_generator g lt e) = lt
+of_table T _ (is_pair i j lti ltj e r) = (lti, ltj)
+
+pub symbol_of_table : (T : PlainTable) (s : ℕ) → s < length (symbols_in T) → IsOfTable T (get_or (symbols_in T) s no_symbol)
+symbol_of_table T s lt = of_table T _ (place_symbol (field_of T.kind) (shell_in T.kind T) (table_in T.kind T) s lt)

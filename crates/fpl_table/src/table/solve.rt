@@ -1,4 +1,4 @@
-ghost use Rattle.std.specs.Prelude.{◌≡◌, ◌≤◌, ◌<◌, ◌+◌, ◌-◌, ◌*◌, suc, nat_eq, cond, [], length, map, get_or, IfOk};
+ghost use Rattle.std.specs.Prelude.{◌≡◌, ◌≤◌, ◌<◌, ◌+◌, ◌-◌, ◌*◌, suc, nat_eq, cond, [], length, map, get_or, All, IfOk};
 ghost use Rattle.fpl_numbers.specs.Numbers.{IsElement, residue};
 ghost use Rattle.fpl_rows.specs.Meaning.{AreRows};
 ghost use Rattle.fpl_scalar.specs.Vectors.{AreElements};
@@ -94,7 +94,8 @@ impl<F: Field> Table<F> {
         requires solved { IsSolved self.now rows.now leads.now free.now }
         requires number { g < length self.now.generators }
         requires place { place ≡ length (joined g (generator_cell self.now (self.now.weight + 1))) }
-        ensures { IfOk result (λ row. row ≡ cond (nat_eq (generator_at self.now g).weight (suc self.now.weight)) (row_of_symbol self.now rows.now (of_generator g)) []) }
+        ensures value { IfOk result (λ row. row ≡ cond (nat_eq (generator_at self.now g).weight (suc self.now.weight)) (row_of_symbol self.now rows.now (of_generator g)) []) }
+        ensures whole { IfOk result (λ row. IsRowUpTo self.now.kind (length self.now.basis + length free.now) row) }
     {
         if self.is_next(g) {
             self.symbol_row(alloc, rows, leads, free, place)
@@ -112,7 +113,8 @@ impl<F: Field> Table<F> {
         free: &[u32],
     ) -> Result<Vec<Row<F>>, AllocError>
         requires { IsSolved self.now rows.now leads.now free.now }
-        ensures { IfOk result (λ images. images.items ≡ new_images self.now rows.now 0 self.now.generators) }
+        ensures value { IfOk result (λ images. images.items ≡ new_images self.now rows.now 0 self.now.generators) }
+        ensures whole { IfOk result (λ images. All (IsRowUpTo self.now.kind (length self.now.basis + length free.now)) images.items) }
     {
         let mut images = Vec::new(alloc);
         let mut place = 0;
@@ -141,6 +143,7 @@ impl<F: Field> Table<F> {
         requires number { (1 ≤ i) × (i ≤ length self.now.basis) }
         requires start { start ≡ length (generator_cells self.now (self.now.weight + 1)) + length (pairs_to self.now (self.now.weight + 1) (i - 1)) }
         ensures value { IfOk result (λ partners. partners.items ≡ new_partners self.now rows.now (i - 1) 0 self.now.basis) }
+        ensures whole { IfOk result (λ partners. All (IsRowUpTo self.now.kind (length self.now.basis + length free.now)) partners.items) }
         ensures count { IfOk result (λ partners. length partners.items ≡ length (pair_cells self.now (self.now.weight + 1) (i - 1))) }
     {
         let (from, to) = self.partners(i, self.weight() + 1);
@@ -161,7 +164,8 @@ impl<F: Field> Table<F> {
         free: &[u32],
     ) -> Result<Vec<Vec<Row<F>>>, AllocError>
         requires { IsSolved self.now rows.now leads.now free.now }
-        ensures { IfOk result (λ entries. map (λ v. v.items) entries.items ≡ new_entries self.now rows.now 0 self.now.basis) }
+        ensures value { IfOk result (λ entries. map (λ v. v.items) entries.items ≡ new_entries self.now rows.now 0 self.now.basis) }
+        ensures whole { IfOk result (λ entries. All (λ partners. All (IsRowUpTo self.now.kind (length self.now.basis + length free.now)) partners) (map (λ v. v.items) entries.items)) }
     {
         let mut entries = Vec::new(alloc);
         let mut place = self.generator_count(self.weight() + 1) as usize;

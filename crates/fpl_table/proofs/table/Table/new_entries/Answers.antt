@@ -1,9 +1,10 @@
-use Rattle.std.proofs.Common.{◌≡◌, ◌<◌, ◌≤◌, ◌*◌, map, ◌+◌, ◌++◌, ◌-◌, suc, length, ap, sym, refl, ◌∙◌, arith, add-one, append_assoc, append-nil, length-append}
+use Rattle.std.proofs.Common.{◌≡◌, ◌<◌, ◌≤◌, ◌*◌, map, All, ◌+◌, ◌++◌, ◌-◌, suc, length, ap, sym, refl, ◌∙◌, arith, add-one, append_assoc, append-nil, length-append}
 use Rattle.fpl_table.proofs.Cells.{pairs_first, pairs_more, row_length}
 use Rattle.fpl_table.proofs.Weights.{through_within}
 use Rattle.fpl_table.specs.Plain.{plain_basis}
 use Rattle.fpl_table.specs.Push.{new_partners}
-use Rattle.fpl_table.specs.Shape.{HasShape}
+use Rattle.fpl_table.specs.Shape.{HasShape, IsRowUpTo}
+use Rattle.fpl_table.proofs.Lists.{all_push}
 use Rattle.std.proofs.lemmas.List.{map-append}
 use Rattle.fpl_table.proofs.NewRows.{entries_step, entries_end}
 use Rattle.fpl_table.proofs.table.Table.new_entries.Goals as goal
@@ -16,6 +17,7 @@ loop-i-init g c =
       few = omega arith;
       place = omega (arith, none, gens);
       left = rw c.new-entries.ensures.items refl;
+      whole = rw c.new-entries.ensures.items (λ k d lt. absurd (omega (arith, lt)));
     }
 
 pub overflow_add-place : goal.overflow_add-place
@@ -44,9 +46,10 @@ loop-i-preserved g c =
       few = omega (arith, row, most, count, c.loop-i.invariant.few, shape.small, shape.weight);
       place = omega (arith, count, more, c.loop-i.invariant.place);
       left = rw (c.in_ok-push.ensures.items, map-append, append_assoc, partners, ← step) c.loop-i.invariant.left;
+      whole = rw (c.in_ok-push.ensures.items, map-append) (all_push (λ partners. All (IsRowUpTo c.args.self.now.kind (length c.args.self.now.basis + length c.args.free.now)) partners) _ _ c.loop-i.invariant.whole c.in_ok-partners.ensures.whole);
     }
 
-pub returns : goal.returns
-returns g c =
+pub returns-clause-value : goal.returns-clause-value
+returns-clause-value g c =
     let none = entries_end c.args.self.now c.args.rows.now c.loop-i.i (omega arith) in
     sym (append-nil (map (λ v. v.items) c.loop-i.entries.items)) ∙ rw none at c.loop-i.invariant.left

@@ -11,8 +11,8 @@ symbol_row-requires-clause-place g c =
     let is : (generator_at c.args.self.now c.args.g).weight ≡ suc c.args.self.now.weight = grind (arith, nat_tests) in
     rw (c.requires.place, add-one) (generator_within c.args.self.now c.args.g c.requires.number is)
 
-pub returns-then-is_next : goal.returns-then-is_next
-returns-then-is_next g c =
+pub returns-then-is_next-clause-value : goal.returns-then-is_next-clause-value
+returns-then-is_next-clause-value g c =
     let is : (generator_at c.args.self.now c.args.g).weight ≡ suc c.args.self.now.weight = grind (arith, nat_tests) in
     let yes = sym c.is_next.ensures.value ∙ c.if-is_next.true in
     let place = rw add-one at c.requires.place in

@@ -1,6 +1,7 @@
 use Rattle.std.proofs.Common.{◌≡◌, ◌<◌, ◌≤◌, ◌+◌, ◌++◌, ◌-◌, suc, length, ap, sym, refl, ◌∙◌, arith, add-one, append_assoc, append-nil, length-append}
 use Rattle.fpl_algebra.specs.Table.{of_pair}
-use Rattle.fpl_table.specs.Shape.{HasShape}
+use Rattle.fpl_table.specs.Shape.{HasShape, IsRowUpTo}
+use Rattle.fpl_table.proofs.Lists.{all_push}
 use Rattle.fpl_table.specs.Push.{row_of_symbol, symbol_row}
 use Rattle.fpl_table.specs.Plain.{plain_basis, partner_from, through}
 use Rattle.fpl_table.proofs.Cells.{from_within, row_length}
@@ -23,6 +24,7 @@ loop-j-init g c =
       stop = omega arith;
       count = omega (arith, ap length c.new-partners.ensures.items);
       left = rw (c.new-partners.ensures.items, from) (sym first);
+      whole = rw c.new-partners.ensures.items (λ k d lt. absurd (omega (arith, lt)));
     }
 
 pub symbol_row-requires-clause-place : goal.symbol_row-requires-clause-place
@@ -67,6 +69,7 @@ loop-j-preserved g c =
       stop = omega arith;
       count = omega (arith, count, c.loop-j.invariant.count);
       left = rw (c.in_ok-push.ensures.items, append_assoc, ← same, ← more) c.loop-j.invariant.left;
+      whole = rw c.in_ok-push.ensures.items (all_push (IsRowUpTo c.args.self.now.kind (length c.args.self.now.basis + length c.args.free.now)) _ _ c.loop-j.invariant.whole c.in_ok-symbol_row.ensures.whole);
     }
 
 pub returns-clause-value : goal.returns-clause-value

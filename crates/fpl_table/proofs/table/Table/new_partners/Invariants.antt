@@ -1,4 +1,5 @@
-use Rattle.std.proofs.Common.{◌≡◌, ◌-◌, ◌≤◌, ◌++◌, max, length, drop}
+use Rattle.std.proofs.Common.{◌≡◌, All, ◌+◌, ◌-◌, ◌≤◌, ◌++◌, max, length, drop}
+use Rattle.fpl_table.specs.Shape.{IsRowUpTo}
 use Rattle.fpl_table.specs.Push.{new_partners}
 use Rattle.fpl_table.proofs.table.Table.new_partners.Given as goal
 
@@ -8,4 +9,5 @@ invariant-loop-j g l = record {
   stop : l.j ≤ max l.from l.to;
   count : length l.partners.items ≡ l.j - l.from;
   left : l.partners.items ++ new_partners l.self l.rows (l.i - 1) l.j (drop l.j l.self.basis) ≡ new_partners l.self l.rows (l.i - 1) 0 l.self.basis;
+  whole : All (IsRowUpTo l.self.kind (length l.self.basis + length l.free)) l.partners.items;
 }
