@@ -8,3 +8,4 @@ pub mod Padded
 pub mod Leads
 pub mod Places
 pub mod NewRows
+pub mod Pushed

@@ -6,8 +6,9 @@
 --   IsSolved T rows leads free the rows, their leads by place, and the places that lead none
 --   numbers_solved T rows s free  the numbers of the symbol at place s at some places
 --   basis_of T x               the basis element of the next weight that stands for a symbol
+--   IsNext T rows free ..      what the next weight adds
 --   trees_of T free            the bracket trees of the symbols at some places
-use Rattle.std.specs.Prelude.{ℕ, zero, suc, ◌≡◌, ◌<◌, ◌≤◌, List, [], length, map, get_or, cond, nat_eq, Option, Some, None}
+use Rattle.std.specs.Prelude.{ℕ, zero, suc, ◌≡◌, ◌<◌, ◌≤◌, List, [], length, map, get_or, All, ◌+◌, cond, nat_eq, Option, Some, None}
 use Rattle.fpl_numbers.specs.declared.number.Num.{Num}
 use Rattle.fpl_numbers.specs.declared.number.Kind.{Kind}
 use Rattle.fpl_numbers.specs.Numbers.{residue, negative_of}
@@ -16,8 +17,9 @@ use Rattle.fpl_algebra.specs.Symbols.{no_symbol, symbol_parity}
 use Rattle.fpl_algebra.specs.Table.{Symbol, Basis}
 use Rattle.fpl_rows.specs.Meaning.{AreRows}
 use Rattle.fpl_table.specs.Plain.{PlainTable, symbols_in, table_in, shell_in}
-use Rattle.fpl_table.specs.Shape.{basis_trees, symbol_tree_in}
-use Rattle.fpl_table.specs.Push.{row_with_lead, free_of}
+use Rattle.fpl_table.specs.Shape.{IsRowUpTo, IsNumbered, basis_trees, symbol_tree_in}
+use Rattle.fpl_table.specs.Push.{row_with_lead, free_of, new_basis, new_images, new_entries}
+use Rattle.fpl_table.specs.declared.symbol.Symbol as code
 
 abbrev pub row_by : List (List Num) → ℕ → Option (List Num)
 row_by rows zero = None
@@ -50,3 +52,15 @@ pub record IsSolved (T : PlainTable) (rows : List (List Num)) (leads free : List
 -- the numbers of a symbol over the new basis elements
 abbrev pub numbers_solved : PlainTable → List (List Num) → ℕ → List ℕ → List Num
 numbers_solved T rows s free = map (number_solved T.kind s (row_with_lead rows s)) free
+
+-- what the next weight adds: its basis elements with their bracket trees and symbols, how many basis elements there are then, images and entries
+pub record IsNext (T : PlainTable) (rows : List (List Num)) (free : List ℕ) (basis : List Basis) (trees : List (Tree Num)) (codes : List code.Symbol)
+    (count : ℕ) (images : List (List Num)) (entries : List (List (List Num))) : Type 0 where
+  pub basis_is : basis ≡ map (new_basis T) free
+  pub trees_are : trees ≡ trees_of T free
+  pub numbered : All IsNumbered codes
+  pub count_is : count ≡ length T.basis + length free
+  pub images_are : images ≡ new_images T rows 0 T.generators
+  pub images_whole : All (IsRowUpTo T.kind (length T.basis + length free)) images
+  pub entries_are : entries ≡ new_entries T rows 0 T.basis
+  pub entries_whole : All (λ partners. All (IsRowUpTo T.kind (length T.basis + length free)) partners) entries

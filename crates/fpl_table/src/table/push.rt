@@ -6,8 +6,8 @@ ghost use Rattle.fpl_model.specs.Mono.{expr_of};
 ghost use Rattle.fpl_table.specs.Plain.{basis_in, symbol_in, symbols_in, table_in, shell_in};
 ghost use Rattle.fpl_table.specs.Shape.{HasShape, IsNumbered, IsOfTable, basis_trees, symbol_tree_in};
 ghost use Rattle.fpl_table.specs.Standard.{count_of};
-ghost use Rattle.fpl_table.specs.Push.{free_of, new_basis, new_images, new_entries, push_of};
-ghost use Rattle.fpl_table.specs.Leads.{trees_of, basis_of};
+ghost use Rattle.fpl_table.specs.Push.{free_of, new_basis, push_of};
+ghost use Rattle.fpl_table.specs.Leads.{IsSolved, IsNext, trees_of, basis_of};
 
 use super::leads::{free_places, leads_of};
 use super::{Element, Level, Table};
@@ -89,32 +89,52 @@ impl<F: Field> Table<F> {
         Ok(elements)
     }
 
+    /// What the next weight adds, once the leads are known.
+    fn next_by(
+        &self,
+        alloc: Global,
+        rows: &Rows<F>,
+        symbols: &[Symbol],
+        leads: &[usize],
+        free: &[u32],
+    ) -> Result<Next<F>, AllocError>
+        requires solved { IsSolved self.now rows.now leads.now free.now }
+        requires symbols { map symbol_in symbols.now ≡ symbols_in self.now }
+        requires numbered { All IsNumbered symbols.now }
+        ensures { IfOk result (λ n. IsNext self.now rows.now free.now (map (λ e. basis_in e.basis) n.elements.items) (map (λ e. plain (expr_of e.tree.value)) n.elements.items) (map (λ e. e.basis.symbol) n.elements.items) n.level.through n.level.images.items (map (λ v. v.items) n.level.entries.items)) }
+    {
+        let images = self.new_images(alloc, rows, leads, free)?;
+        let entries = self.new_entries(alloc, rows, leads, free)?;
+        let elements = self.new_elements(alloc, symbols, free)?;
+        let through = self.basis_len() + free.len() as u32;
+        Ok(Next {
+            elements,
+            level: Level {
+                through,
+                images,
+                entries,
+            },
+        })
+    }
+
     /// What the next weight adds, by closed rows over its symbols.
     fn next(&self, alloc: Global, rows: &Rows<F>) -> Result<Next<F>, AllocError>
         requires below { self.now.weight < 1000 }
         requires few { count_of self.now (self.now.weight + 1) ≤ 2000000 }
         requires rows { AreRows self.now.kind (count_of self.now (self.now.weight + 1)) rows.now }
-        ensures basis { IfOk result (λ n. map (λ e. basis_in e.basis) n.elements.items ≡ map (new_basis self.now) (free_of self.now rows.now)) }
-        ensures trees { IfOk result (λ n. map (λ e. plain (expr_of e.tree.value)) n.elements.items ≡ trees_of self.now (free_of self.now rows.now)) }
-        ensures numbered { IfOk result (λ n. All IsNumbered (map (λ e. e.basis.symbol) n.elements.items)) }
-        ensures through { IfOk result (λ n. n.level.through ≡ length self.now.basis + length (free_of self.now rows.now)) }
-        ensures images { IfOk result (λ n. n.level.images.items ≡ new_images self.now rows.now 0 self.now.generators) }
-        ensures entries { IfOk result (λ n. map (λ v. v.items) n.level.entries.items ≡ new_entries self.now rows.now 0 self.now.basis) }
+        ensures next { IfOk result (λ n. IsNext self.now rows.now (free_of self.now rows.now) (map (λ e. basis_in e.basis) n.elements.items) (map (λ e. plain (expr_of e.tree.value)) n.elements.items) (map (λ e. e.basis.symbol) n.elements.items) n.level.through n.level.images.items (map (λ v. v.items) n.level.entries.items)) }
+        ensures shape { HasShape self.now }
     {
         let symbols = self.symbol_list(alloc, self.weight() + 1)?;
         let leads = leads_of(alloc, rows, symbols.len())?;
-        let free = free_places(alloc, rows, &leads)?;
-        let images = self.new_images(alloc, rows, &leads, &free)?;
-        let entries = self.new_entries(alloc, rows, &leads, &free)?;
-        let level = Level {
-            through: self.basis_len() + free.len() as u32,
-            images,
-            entries,
-        };
-        Ok(Next {
-            elements: self.new_elements(alloc, &symbols, &free)?,
-            level,
-        })
+        let free = free_places(alloc, rows, leads.as_slice())?;
+        self.next_by(
+            alloc,
+            rows,
+            symbols.as_slice(),
+            leads.as_slice(),
+            free.as_slice(),
+        )
     }
 
     /// Adds the next weight, by closed rows over its symbols, of which there are at most
