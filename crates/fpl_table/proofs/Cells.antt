@@ -1,8 +1,6 @@
 -- The symbols of a weight, cell by cell.
-use Rattle.std.proofs.Common.{◌≡◌, ◌≢◌, ◌≤◌, ◌<◌, ◌+◌, ◌-◌, ◌++◌, ◌⊎◌, inl, inr, ℕ, zero, suc, max, List, [], ◌∷◌, length, map, get_or, cond, nat_eq, nat_lt, Bool, true, false, refl, ap, sym, ◌∙◌, arith, append_assoc, append-nil, length-append, add-suc, add-one}
-use Rattle.std.proofs.lemmas.List.{length-map}
+use Rattle.std.proofs.Common.{◌≡◌, ◌≢◌, ◌≤◌, ◌<◌, ◌+◌, ◌-◌, ◌++◌, ◌⊎◌, inl, inr, ℕ, zero, suc, List, [], ◌∷◌, length, map, get_or, cond, Bool, true, false, refl, ap, sym, ◌∙◌, arith, append-nil, length-append, add-suc, add-one}
 use Rattle.std.proofs.lemmas.Bool.Decides.{nat_tests}
-use Rattle.fpl_algebra.specs.Tree.{Parity, even, odd}
 use Rattle.fpl_algebra.specs.Table.{Symbol, of_generator, of_pair}
 use Rattle.fpl_algebra.specs.Symbols.{joined, is_odd, symbols_of}
 use Rattle.fpl_algebra.specs.Tree.{no_generator}

@@ -7,3 +7,4 @@ pub mod Truncate
 pub mod Whole
 pub mod Cells
 pub mod Leads
+pub mod Numbering

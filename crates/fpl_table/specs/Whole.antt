@@ -5,7 +5,7 @@
 --   shape_in                      the weight and parity of a generator
 --   IsWhole T counts trees codes  T has its shape; counts are the numbers of basis elements through each weight from 1; trees and codes are the
 --                                 bracket trees and the symbols of its basis elements
-use Rattle.std.specs.Prelude.{ℕ, suc, ◌≡◌, ◌≤◌, ◌<◌, ◌-◌, List, length, get_or, All}
+use Rattle.std.specs.Prelude.{ℕ, suc, ◌≡◌, ◌≤◌, ◌<◌, ◌-◌, List, get_or, All}
 use Rattle.fpl_numbers.specs.declared.number.Num.{Num}
 use Rattle.fpl_algebra.specs.Tree.{Tree, Generator}
 use Rattle.fpl_model.specs.Meaning.{parity_in}

@@ -1,4 +1,4 @@
-use Rattle.std.proofs.Common.{◌≡◌, ◌≤◌, ◌++◌, length, drop, take}
+use Rattle.std.proofs.Common.{◌≡◌, ◌++◌, length, drop, take}
 use Rattle.fpl_numbers.specs.Results.{map_ok}
 use Rattle.fpl_scalar.specs.Vectors.{AreElements}
 use Rattle.fpl_table.specs.Value.{add_row}

@@ -1,5 +1,4 @@
-use Rattle.std.proofs.Common.{◌≡◌, ◌<◌, ◌-◌, ◌+◌, ap, sym, ◌∙◌, arith}
-use Rattle.fpl_table.specs.Plain.{plain_basis, partner_from}
+use Rattle.std.proofs.Common.{◌-◌, ap, arith}
 use Rattle.fpl_table.proofs.Entries.{partner_starts, left_within, partner_within, entry_found, entry_row_within}
 use Rattle.fpl_table.proofs.table.Table.entry.Goals as goal
 

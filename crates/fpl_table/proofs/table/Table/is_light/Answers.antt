@@ -1,4 +1,4 @@
-use Rattle.std.proofs.Common.{◌≡◌, refl, ap, sym, ◌∙◌}
+use Rattle.std.proofs.Common.{ap, sym, ◌∙◌}
 use Rattle.fpl_model.specs.Meaning.{plain}
 use Rattle.fpl_table.specs.Value.{is_weight_light}
 use Rattle.fpl_table.proofs.Light.{light_by}

@@ -1,4 +1,4 @@
-use Rattle.std.proofs.Common.{◌≡◌, ◌+◌, length, ap, refl, sym, ◌∙◌, arith}
+use Rattle.std.proofs.Common.{length, refl, arith}
 use Rattle.std.proofs.lemmas.List.{map-append}
 use Rattle.fpl_numbers.specs.Numbers.{IsElement}
 use Rattle.fpl_table.proofs.Lists.{all_push}

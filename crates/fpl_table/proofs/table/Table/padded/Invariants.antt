@@ -1,4 +1,4 @@
-use Rattle.std.proofs.Common.{◌≡◌, ◌≤◌, length, map, take, vec_len}
+use Rattle.std.proofs.Common.{◌≡◌, length, map, take}
 use Rattle.fpl_scalar.specs.Vectors.{AreElements}
 use Rattle.fpl_table.specs.Value.{padded}
 use Rattle.fpl_table.proofs.table.Table.padded.Given as goal
