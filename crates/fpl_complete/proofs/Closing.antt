@@ -1,5 +1,5 @@
 -- The parts of a weight's run make its whole.
-use Rattle.std.specs.Prelude.{ℕ, ◌≡◌, List, Result, Ok, Err}
+use Rattle.std.specs.Prelude.{ℕ, suc, ◌+◌, ◌≡◌, ◌≤◌, ◌<◌, List, length, Result, Ok, Err}
 use mathlib.Core.Path.{refl, sym, subst, ap, ◌∙◌}
 use Rattle.fpl_numbers.specs.declared.number.Num.{Num}
 use Rattle.fpl_numbers.specs.declared.number.Unfit.{Unfit}
@@ -11,7 +11,9 @@ use Rattle.fpl_log.specs.declared.step.Step.{Step}
 use Rattle.fpl_elimination.specs.Plain.{Elimination, Held, rows_of, close_of}
 use Rattle.fpl_echelon.specs.Outcomes.{ClosedParts, closed_as}
 use Rattle.fpl_model.specs.declared.presentation.Presentation.{Presentation}
-use Rattle.fpl_table.specs.Plain.{PlainTable}
+use Rattle.fpl_algebra.specs.Symbols.{symbols, symbols_of}
+use Rattle.fpl_table.specs.Plain.{PlainTable, symbols_in}
+use Rattle.fpl_table.specs.Standard.{count_of}
 use Rattle.fpl_rewrite.specs.Origins.{origins_of}
 use Rattle.fpl_faithful.proofs.Fits.{ok_same, first_fits, part_fits}
 use Rattle.fpl_faithful.proofs.Fitting.{Always}
@@ -22,7 +24,7 @@ use Rattle.fpl_complete.proofs.Runs.{again_same}
 abbrev pub parts : Held → ClosedParts
 parts h = closed_as (rows_of h.pivots) h.steps
 
-part_unfit : (r : Result Held Unfit) (u : Unfit) → map_ok parts r ≡ Err u → r ≡ Err u
+pub part_unfit : (r : Result Held Unfit) (u : Unfit) → map_ok parts r ≡ Err u → r ≡ Err u
 part_unfit (Ok h) u e = absurd (let k : ⊥ = cc in k)
 part_unfit (Err v) u e = unfit v u e
   where
@@ -78,3 +80,8 @@ module _ (T : PlainTable) (p : Presentation) where
       let fits = close_weight_fits T always p in
       let whole : checked r.0 ≡ Ok fits.0 = sym (with_closed e r.0 g r.1.0) ∙ fits.1 in
       ap (map_ok parts) (fits.1 ∙ sym (again_same T p (rows_of r.0.pivots) (origins_of T p) r.0 fits.0 whole)) ∙ ap Ok (sym r.1.1)
+
+-- the symbols that the plain run counts are those of the weight after the table's
+pub symbols_counted : (T : PlainTable) → length (symbols_in T) ≡ count_of T (suc T.weight)
+unfolding symbols symbols_of
+symbols_counted T = refl

@@ -87,7 +87,8 @@ impl<F: Field> State<F> {
     }
 
     pub fn weight(&self) -> u32
-        ensures { result ≡ self.now.table.weight }
+        ensures value { result ≡ self.now.table.weight }
+        ensures standard { IsTableOf self.now.presentation self.now.table.weight self.now.table }
     {
         self.table.weight()
     }
@@ -109,6 +110,7 @@ impl<F: Field> State<F> {
         ensures next { OnOk result (next_of self.old.table self.old.presentation ≡ Ok self.new.table) }
         ensures weight { OnOk result (self.new.table.weight ≡ self.old.table.weight + 1) }
         ensures within { OnOk result (count_through self.new.table self.new.table.weight ≤ entries) }
+        ensures counts { OnOk result ((v : ℕ) → v ≤ self.old.table.weight + 1 → count_through self.new.table v ≡ count_through self.old.table v) }
         ensures limit { (w c : ℕ) → IsErrOf result (RaiseFault.Limit w c) ↔ ((w ≡ self.old.table.weight + 1) × (c ≡ count_through self.old.table w) × (entries < c)) }
         ensures overflow { (w : ℕ) (op : Op) (a b : Num) → IsErrOf result (RaiseFault.Overflow w op a b) → (w ≡ self.old.table.weight + 1) × (next_of self.old.table self.old.presentation ≡ Err (unfit_of op a b)) }
         ensures fractions { (w : ℕ) (op : Op) (a b : Num) → IsErrOf result (RaiseFault.Overflow w op a b) → self.old.presentation.field ≡ Kind.Rational }
@@ -141,5 +143,35 @@ impl<F: Field> State<F> {
             }
             Err(_) => Err(RaiseFault::NoMemory),
         }
+    }
+    /// Adds weights up to `d`, if the table has not come so far.
+    ///
+    /// A refusal names the weight that was refused, and the table then has all weights below
+    /// it: `Limit` the least weight at which the symbols number more than `entries`, with their
+    /// number; `Overflow` the first operation that does not fit, over fractions alone.
+    pub fn raise<L: Ledger>(
+        &mut self,
+        d: u32,
+        entries: u64,
+        steps: &mut Steps<L>,
+    ) -> Result<(), RaiseFault>
+        requires weight { d ≤ 1000 }
+        requires entries { entries ≤ 2000000 }
+        ensures presentation { self.new.presentation ≡ self.old.presentation }
+        ensures weight { OnOk result (self.new.table.weight ≡ max self.old.table.weight d) }
+        ensures reached { (self.old.table.weight ≤ self.new.table.weight) × (self.new.table.weight ≤ max self.old.table.weight d) }
+        ensures within { (v : ℕ) → self.old.table.weight < v → v ≤ self.new.table.weight → count_through self.new.table v ≤ entries }
+        ensures limit { (w c : ℕ) → IsErrOf result (RaiseFault.Limit w c) → PassesAfter self.old.presentation self.old.table.weight d entries w c × (w ≡ self.new.table.weight + 1) }
+        ensures overflow { (w : ℕ) (op : Op) (a b : Num) → IsErrOf result (RaiseFault.Overflow w op a b) → (w ≡ self.new.table.weight + 1) × (w ≤ d) × (next_of self.new.table self.new.presentation ≡ Err (unfit_of op a b)) }
+        ensures fractions { (w : ℕ) (op : Op) (a b : Num) → IsErrOf result (RaiseFault.Overflow w op a b) → self.old.presentation.field ≡ Kind.Rational }
+        ensures steps { steps.old ≤ steps.new }
+    {
+        while self.weight() < d {
+            match self.next_weight(entries, steps) {
+                Ok(()) => {}
+                Err(fault) => return Err(fault),
+            }
+        }
+        Ok(())
     }
 }

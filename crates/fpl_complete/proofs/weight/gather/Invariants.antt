@@ -1,4 +1,4 @@
-use Rattle.std.proofs.Common.{◌≡◌, ◌+◌, length, Contains}
+use Rattle.std.proofs.Common.{◌≡◌, ◌+◌, ◌≤◌, length, Contains}
 use Rattle.fpl_log.specs.declared.step.Origin.{Origin}
 use Rattle.fpl_table.specs.Plain.{symbols_in}
 use Rattle.fpl_rewrite.specs.Origins.{origins_of}
@@ -13,6 +13,7 @@ invariant-origins g l = record {
   weight : l.origins.weight ≡ l.table.weight + 1;
   listed : (o : Origin) → Contains (to_come l.table l.p l.origins) o → Contains (origins_of l.table l.p) o;
   done : gather l.table l.p (to_come l.table l.p l.origins) l.echelon ≡ gather l.table l.p (origins_of l.table l.p) (begun l.table);
+  start : l.fn.steps ≤ l.steps;
   count : l.steps + length (to_come l.table l.p l.origins) ≡ l.fn.steps + length (origins_of l.table l.p)
 }
 
