@@ -14,3 +14,6 @@ mod tokens;
 
 pub use fault::{ReaderError, Reason};
 pub use reading::read;
+
+#[cfg(test)]
+mod tests;
