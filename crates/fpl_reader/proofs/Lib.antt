@@ -11,3 +11,5 @@ pub mod Readings
 pub mod Counting
 pub mod Allowed
 pub mod ClaimTerms
+pub mod Nesting
+pub mod Soundness

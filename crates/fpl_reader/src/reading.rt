@@ -5,7 +5,7 @@ ghost use Rattle.fpl_syntax.specs.Kinds.{is_listed};
 ghost use Rattle.fpl_reader.specs.Events.{fields_in, declared_in};
 ghost use Rattle.fpl_reader.specs.Stream.{IsLexable};
 ghost use Rattle.fpl_reader.specs.Texts.{text_tokens, text_events};
-ghost use Rattle.fpl_model.specs.Sound.{HaveWeights};
+ghost use Rattle.fpl_model.specs.Sound.{HaveWeights, IsSound};
 ghost use Rattle.fpl_syntax.specs.Sight.{sight};
 ghost use Rattle.fpl_reader.specs.Terms.{AreSidesTerms};
 ghost use Rattle.fpl_reader.specs.Answers.{IsLexicalRefusal, IsRefusal, bare_of};
@@ -175,8 +175,7 @@ fn read_sentence(alloc: Global, text: &[u8], p: Presentation) -> Result<Presenta
     }
 }
 
-/// The presentation that a text is. `Refused` comes exactly where it is none.
-pub fn read(alloc: Global, text: &[u8]) -> Result<Presentation, ReaderError>
+fn read_text(alloc: Global, text: &[u8]) -> Result<Presentation, ReaderError>
     requires { length text.now < 2 ^ 32 }
     ensures { Read text.now result }
 {
@@ -197,4 +196,13 @@ pub fn read(alloc: Global, text: &[u8]) -> Result<Presentation, ReaderError>
         text,
         bare(alloc, kind_of(fields.as_slice()), generators),
     )
+}
+
+/// The presentation that a text is, which is sound. `Refused` comes exactly where it is none.
+pub fn read(alloc: Global, text: &[u8]) -> Result<Presentation, ReaderError>
+    requires { length text.now < 2 ^ 32 }
+    ensures read { Read text.now result }
+    ensures sound { IfOk result (λ p. IsSound p) }
+{
+    read_text(alloc, text)
 }
