@@ -13,3 +13,4 @@ pub mod Allowed
 pub mod ClaimTerms
 pub mod Nesting
 pub mod Soundness
+pub mod OneAnswer

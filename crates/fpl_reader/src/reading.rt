@@ -1,5 +1,9 @@
 ghost use Rattle.std.specs.Prelude.{◌≡◌, ◌<◌, ◌≤◌, ◌^◌, None, Some, IfOk, length, map};
 ghost use Rattle.std.specs.Str.{IsUtf8};
+ghost use Rattle.std.specs.Prelude.{ℕ, List, ◌⊎◌};
+ghost use Rattle.fpl_model.specs.declared.presentation.Presentation.{Presentation as Presented};
+ghost use Rattle.fpl_reader.specs.declared.fault.Reason.{Reason as Refusal};
+ghost use Rattle.fpl_reader.specs.Reading.{HasPresentation, IsRefused};
 ghost use Rattle.std.specs.Prelude.{IsTrue, All};
 ghost use Rattle.fpl_syntax.specs.Kinds.{is_listed};
 ghost use Rattle.fpl_reader.specs.Events.{fields_in, declared_in};
@@ -206,3 +210,11 @@ pub fn read(alloc: Global, text: &[u8]) -> Result<Presentation, ReaderError>
 {
     read_text(alloc, text)
 }
+
+/// A text is one presentation, or has one refusal, and not both.
+pub fn one_answer()
+    ensures presentation { (text : List ℕ) (p q : Presented) → HasPresentation text p → HasPresentation text q → p ≡ q }
+    ensures refusal { (text : List ℕ) (a b : ℕ) (v w : Refusal) → IsRefused text a v → IsRefused text b w → (a ≡ b) × (v ≡ w) }
+    ensures apart { (text : List ℕ) (p : Presented) (place : ℕ) (why : Refusal) → HasPresentation text p → IsRefused text place why → ⊥ }
+    ensures some { (text : List ℕ) → ((p : Presented) × HasPresentation text p) ⊎ ((place : ℕ) × (why : Refusal) × IsRefused text place why) }
+{}
