@@ -1,4 +1,5 @@
 -- The text of a table. Basis elements and generators count from 0 here, and from 1 in the text.
+--   names_of: the names of a presentation's generators, in order of declaration
 --   text_of n line: the texts of 0, .., n - 1, one after the other
 --   basis_name, pair_name: bI and [bI,bJ]
 --   monomial_text: the bracket tree in generators of what a symbol stands for, from those of the basis elements before
@@ -11,14 +12,18 @@
 --   brackets_of: the regular pairs through the table's weight whose entry isn't 0, by weight, then in lexicographic order
 --   bracket_line: [bI,bJ] = COMBINATION
 --   table_text: the field and the weight; the basis; the images, by declaration; the brackets
-use Rattle.std.specs.Prelude.{ℕ, zero, suc, ◌+◌, List, [], ◌∷◌, ◌++◌, length, get_or, filter, count_by, Bool, true, false, not, nat_le, if◌then◌else◌, codes, decimal}
+use Rattle.std.specs.Prelude.{ℕ, zero, suc, ◌+◌, List, [], ◌∷◌, ◌++◌, length, get_or, map, filter, count_by, Bool, true, false, not, nat_le, if◌then◌else◌, codes, decimal}
 use Rattle.std.specs.List.{list_all}
 use Rattle.fpl_numbers.specs.Numbers.{is_nought}
 use Rattle.fpl_algebra.specs.Tree.{Generator, no_generator}
 use Rattle.fpl_algebra.specs.Table.{Symbol, of_generator, of_pair}
 use Rattle.fpl_algebra.specs.Symbols.{symbols_of}
+use Rattle.fpl_model.specs.declared.presentation.Presentation.{Presentation}
 use Rattle.fpl_table.specs.Plain.{PlainTable, plain_basis, image_row, entry_row, table_in, shell_in}
 use Rattle.fpl_print.specs.Combinations.{field_text, parity_text, combination_text}
+
+abbrev pub names_of : Presentation → List (List ℕ)
+names_of p = map (λ g. g.name) p.generators
 
 abbrev pub text_of : ℕ → (ℕ → List ℕ) → List ℕ
 text_of zero line = []

@@ -3,6 +3,8 @@
 
 ghost use Rattle.std.specs.Prelude.{◌≡◌, ◌<◌};
 
+mod line;
+mod outcome;
 mod run;
 mod spelling;
 mod status;

@@ -1,0 +1,7 @@
+use Rattle.fplsa.proofs.Replies.{replied, says}
+use Rattle.fplsa.proofs.run.run.Goals as goal
+
+pub returns-clause-reply : goal.returns-clause-reply
+returns-clause-reply g c =
+    rw c.status.ensures (replied _ _ _ _ _ _ _ _ _ _ c.answer.ensures.reply c.write_text-outcome.ensures.same c.write_text-outcome.ensures.whole
+    (says c.put_line.result _ _ _ _ _ c.put_line.ensures.whole c.put_line.ensures.part c.put_line.ensures.fault))
