@@ -30,8 +30,8 @@ pub trait Field: Copy + Drop {
         ensures element { IsElement (kind_of self.now) (number result) }
         ensures value { number result ≡ residue 1 };
 
+    /// Needs no element: any value of the type is tested.
     fn is_zero(&self, a: Self::Elem) -> bool
-        requires { IsElement (kind_of self.now) (number a) }
         ensures { result ≡ is_nought (number a) };
 
     fn same(&self, a: Self::Elem, b: Self::Elem) -> bool
@@ -119,9 +119,8 @@ pub trait Field: Copy + Drop {
         Ok(())
     }
 
-    /// The least place, from 0, whose number is not 0.
+    /// The least place, from 0, whose number is not 0. Needs no elements, as `is_zero`.
     fn first(&self, row: &[Self::Elem]) -> Option<usize>
-        requires { AreElements (kind_of self.now) (map number row.now) }
         ensures { result ≡ first_of (map number row.now) }
     {
         for i in 0..row.len() {

@@ -1,0 +1,5 @@
+pub mod Lists
+pub mod Shapes
+pub mod Weights
+pub mod Entries
+pub mod Cells

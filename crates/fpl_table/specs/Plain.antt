@@ -1,9 +1,13 @@
 -- Tables in plain numbers, as contracts see them, and what they stand for.
 --
 --   symbol_in, basis_in   a symbol and a basis element of code, with numbers from 0
---   PlainTable            a table: its kind of field, the generators' weights and parities, its weight, its basis, the image of each generator,
---                         and the entries of each basis element with those that follow it
+--   PlainTable            a table: its kind of field, the generators' weights and parities, its weight, its basis; for each weight, from 1,
+--                         the images of the generators of that weight (for the others an empty row), and for each basis element of a
+--                         lower weight its entries with the partners of the weight that is left
+--   plain_basis T i       a basis element
+--   through T w           how many basis elements, from the first, weigh at most w
 --   first_partner T i     the least j for which (i, j) is regular: i where b_i is odd, else i + 1
+--   partner_from T i w    the least j for which (i, j) is regular and may be of weight w
 --   image_row T g         the image of a generator
 --   entry_row T i j       the entry of a regular pair
 --   vector_in k row       the vector of a row over the field of kind k
@@ -15,14 +19,14 @@
 --
 -- Numbers of generators, basis elements, symbols and positions count from 0 here, and from 1 in code and texts.
 -- A row is a list of numbers; positions past its length count as 0.
-use Rattle.std.specs.Prelude.{ℕ, suc, ◌-◌, ◌+◌, List, [], ◌∷◌, get_or, cond, nat_lt}
+use Rattle.std.specs.Prelude.{ℕ, suc, ◌-◌, ◌+◌, List, [], ◌∷◌, get_or, max, cond, nat_lt, nat_le}
 use Rattle.fpl_fields.specs.Field.{Field}
 use Rattle.fpl_linear.specs.Vector.{Vector}
 use Rattle.fpl_linear.specs.Lists.{vector_of}
 use Rattle.fpl_numbers.specs.declared.number.Num.{Num}
 use Rattle.fpl_numbers.specs.declared.number.Kind.{Kind}
 use Rattle.fpl_numbers.specs.Kinds.{Number, field_of, number_of}
-use Rattle.fpl_algebra.specs.Tree.{Parity, even, odd, Generator, Presentation}
+use Rattle.fpl_algebra.specs.Tree.{Parity, even, odd, Generator, no_generator, Presentation}
 use Rattle.fpl_algebra.specs.Table.{Symbol, of_generator, of_pair, Basis, no_basis, Table}
 use Rattle.fpl_algebra.specs.Symbols.{symbols, is_odd}
 use Rattle.fpl_model.specs.Meaning.{parity_in}
@@ -42,20 +46,35 @@ pub record PlainTable : Type 0 where
   pub generators : List Generator
   pub weight : ℕ
   pub basis : List Basis
-  pub images : List (List Num)
-  pub entries : List (List (List Num))
+  pub images : List (List (List Num))
+  pub entries : List (List (List (List Num)))
 
 abbrev pub plain_basis : PlainTable → ℕ → Basis
 plain_basis T i = get_or T.basis i no_basis
 
+unfoldable pub leading : List Basis → ℕ → ℕ
+leading [] w = 0
+leading (b ∷ bs) w = cond (nat_le b.weight w) (suc (leading bs w)) 0
+
+abbrev pub through : PlainTable → ℕ → ℕ
+through T w = leading T.basis w
+
 abbrev pub first_partner : PlainTable → ℕ → ℕ
 first_partner T i = cond (is_odd (plain_basis T i).parity) i (i + 1)
 
+abbrev pub partner_from : PlainTable → ℕ → ℕ → ℕ
+partner_from T i w = max (first_partner T i) (through T (w - (plain_basis T i).weight - 1))
+
+abbrev pub generator_at : PlainTable → ℕ → Generator
+generator_at T g = get_or T.generators g no_generator
+
 abbrev pub image_row : PlainTable → ℕ → List Num
-image_row T g = get_or T.images g []
+image_row T g = get_or (get_or T.images ((generator_at T g).weight - 1) []) g []
 
 abbrev pub entry_row : PlainTable → ℕ → ℕ → List Num
-entry_row T i j = get_or (get_or T.entries i []) (j - first_partner T i) []
+entry_row T i j =
+    let w = (plain_basis T i).weight + (plain_basis T j).weight in
+    get_or (get_or (get_or T.entries (w - 1) []) i []) (j - partner_from T i w) []
 
 abbrev pub vector_in : (k : Kind) → List Num → Vector (field_of k)
 vector_in k row = vector_of (field_of k) (number_of k) row

@@ -58,23 +58,22 @@ new_basis T s =
 abbrev pub row_of_symbol : PlainTable → List (List Num) → Symbol → List Num
 row_of_symbol T rows x = symbol_row T rows (place_of x (symbols_in T))
 
--- the images, the first that of generator g: those of the new weight are what their symbols are
-abbrev pub pushed_images : PlainTable → List (List Num) → ℕ → List Generator → List (List Num) → List (List Num)
-pushed_images T rows g [] images = []
-pushed_images T rows g (x ∷ xs) [] = []
-pushed_images T rows g (x ∷ xs) (image ∷ images) =
-    cond (nat_eq x.weight (suc T.weight)) (row_of_symbol T rows (of_generator g)) image ∷ pushed_images T rows (g + 1) xs images
+-- the images of the new weight, the first that of generator g
+abbrev pub new_images : PlainTable → List (List Num) → ℕ → List Generator → List (List Num)
+new_images T rows g [] = []
+new_images T rows g (x ∷ xs) = cond (nat_eq x.weight (suc T.weight)) (row_of_symbol T rows (of_generator g)) [] ∷ new_images T rows (g + 1) xs
 
 -- the new entries of b_i: those of the pairs (i, j) of the new weight, for j from the first partner on
-abbrev pub new_entries : PlainTable → List (List Num) → ℕ → ℕ → List Basis → List (List Num)
-new_entries T rows i j [] = []
-new_entries T rows i j (b ∷ bs) =
+abbrev pub new_partners : PlainTable → List (List Num) → ℕ → ℕ → List Basis → List (List Num)
+new_partners T rows i j [] = []
+new_partners T rows i j (b ∷ bs) =
     cond (nat_eq ((plain_basis T i).weight + b.weight) (suc T.weight)) (cond (nat_lt j (first_partner T i)) [] (row_of_symbol T rows (of_pair i j) ∷ [])) []
-    ++ new_entries T rows i (j + 1) bs
+    ++ new_partners T rows i (j + 1) bs
 
-abbrev pub pushed_entries : PlainTable → List (List Num) → ℕ → List (List (List Num)) → List (List (List Num))
-pushed_entries T rows i [] = []
-pushed_entries T rows i (old ∷ olds) = (old ++ new_entries T rows i 0 T.basis) ∷ pushed_entries T rows (i + 1) olds
+-- the new entries, the first those of b_i
+abbrev pub new_entries : PlainTable → List (List Num) → ℕ → List Basis → List (List (List Num))
+new_entries T rows i [] = []
+new_entries T rows i (b ∷ bs) = new_partners T rows i 0 T.basis ∷ new_entries T rows (i + 1) bs
 
 abbrev pub push_of : PlainTable → List (List Num) → PlainTable
 push_of T rows = record {
@@ -82,6 +81,6 @@ push_of T rows = record {
   generators = T.generators;
   weight = suc T.weight;
   basis = T.basis ++ map (new_basis T) (free_of T rows);
-  images = pushed_images T rows 0 T.generators T.images;
-  entries = pushed_entries T rows 0 T.entries ++ replicate (length (free_of T rows)) [];
+  images = T.images ++ new_images T rows 0 T.generators ∷ [];
+  entries = T.entries ++ new_entries T rows 0 T.basis ∷ [];
 }

@@ -19,7 +19,7 @@ use Rattle.fpl_model.specs.Meaning.{generators_in, presentation_in}
 use Rattle.fpl_table.specs.Plain.{PlainTable, table_in, shell_in}
 
 abbrev pub start_of : Presentation → PlainTable
-start_of p = record { kind = p.field; generators = generators_in p; weight = 0; basis = []; images = map (λ g. []) p.generators; entries = [] }
+start_of p = record { kind = p.field; generators = generators_in p; weight = 0; basis = []; images = []; entries = [] }
 
 abbrev pub count_of : PlainTable → ℕ → ℕ
 count_of T w = length (symbols_of (shell_in T.kind T) (table_in T.kind T) w)
@@ -32,8 +32,8 @@ pub record IsTableOf (p : Presentation) (d : ℕ) (T : PlainTable) : Type 0 wher
   pub kind : T.kind ≡ p.field
   pub weight : T.weight ≡ d
   pub generators : T.generators ≡ generators_in p
-  pub images : All (AreElements T.kind) T.images
-  pub entries : All (λ rows. All (AreElements T.kind) rows) T.entries
+  pub images : All (λ rows. All (AreElements T.kind) rows) T.images
+  pub entries : All (λ level. All (λ rows. All (AreElements T.kind) rows) level) T.entries
   pub tree : ℕ → Tree (Number p.field)
   pub standard : IsStandard (field_of p.field) (presentation_in p) (table_in p.field T) tree
   pub values : (e f : Tree (Number p.field)) → IsOver (presentation_in p) e → IsOver (presentation_in p) f → top (presentation_in p) e ≤ d → top (presentation_in p) f ≤ d →

@@ -1,6 +1,9 @@
 //! Tables of finitely presented Lie superalgebras: the basis, the generators' images and the brackets, through a weight.
 #![tactic(auto)]
 
+mod shape;
 mod symbol;
+mod table;
 
 pub use symbol::{Basis, PairSign, Symbol};
+pub use table::Table;

@@ -1,10 +1,7 @@
 use Rattle.std.proofs.Common.{arith, ◌∙◌, sym, ◌≡◌, false, true}
 use Rattle.fpl_numbers.specs.Numbers.{is_nought}
-use Rattle.fpl_scalar.proofs.AtPlaces.{element_at, first_here, first_later}
+use Rattle.fpl_scalar.proofs.AtPlaces.{first_here, first_later}
 use Rattle.fpl_scalar.proofs.field.Field.first.Goals as goal
-
-pub is_zero-requires : goal.is_zero-requires
-is_zero-requires g c = element_at (g.Self.Field.kind_of c.args.self.now) _ _ _ _ c.requires (omega arith) c.index-row-i.is
 
 pub returns-then-not-is_zero : goal.returns-then-not-is_zero
 returns-then-not-is_zero g c =

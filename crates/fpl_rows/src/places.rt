@@ -1,0 +1,86 @@
+ghost use Rattle.std.specs.Prelude.{◌≡◌, ◌≤◌, ◌<◌, ◌+◌, ◌-◌, length, map, IfSome};
+ghost use Rattle.fpl_numbers.specs.Numbers.{IsElement};
+ghost use Rattle.fpl_numbers.specs.Results.{Answers};
+ghost use Rattle.fpl_scalar.specs.Vectors.{AreElements, axpy_of, scale_of};
+ghost use Rattle.fpl_rows.specs.Positions.{lead_of, next_of, added_at};
+
+use fpl_scalar::{Field, Unfit};
+
+/// The greatest position whose number is not 0, counted from 1.
+pub fn lead<F: Field>(field: &F, row: &[F::Elem]) -> Option<usize>
+    ensures value { result ≡ lead_of (map F.number row.now) }
+    ensures within { IfSome result (λ s. s ≤ length row.now) }
+{
+    let mut s = row.len();
+    while s > 0 {
+        if !field.is_zero(row[s - 1]) {
+            return Some(s);
+        }
+        s -= 1;
+    }
+    None
+}
+
+/// The least position above `after` whose number is not 0, counted from 1.
+pub fn next<F: Field>(field: &F, row: &[F::Elem], after: usize) -> Option<usize>
+    ensures value { result ≡ next_of (map F.number row.now) after }
+    ensures within { IfSome result (λ s. s ≤ length row.now) }
+{
+    if after >= row.len() {
+        return None;
+    }
+    match field.first(&row[after..]) {
+        Some(place) => Some(after + place + 1),
+        None => None,
+    }
+}
+
+/// Adds `c` at a place.
+pub fn add_at<F: Field>(
+    field: &F,
+    row: &mut [F::Elem],
+    place: usize,
+    c: F::Elem,
+) -> Result<(), Unfit>
+    requires place { place < length row.old }
+    requires row { AreElements (F.kind_of field.now) (map F.number row.old) }
+    requires added { IsElement (F.kind_of field.now) (F.number c) }
+    ensures elements { AreElements (F.kind_of field.now) (map F.number row.new) }
+    ensures value { Answers (λ _. map F.number row.new) result (added_at (F.kind_of field.now) (map F.number row.old) place (F.number c)) }
+{
+    match field.add(row[place], c) {
+        Ok(sum) => {
+            row[place] = sum;
+            Ok(())
+        }
+        Err(u) => Err(u),
+    }
+}
+
+/// Adds `c` times `other` to the places at the front.
+pub fn axpy<F: Field>(
+    field: &F,
+    row: &mut [F::Elem],
+    c: F::Elem,
+    other: &[F::Elem],
+) -> Result<(), Unfit>
+    requires at_most { length other.now ≤ length row.old }
+    requires row { AreElements (F.kind_of field.now) (map F.number row.old) }
+    requires factor { IsElement (F.kind_of field.now) (F.number c) }
+    requires other { AreElements (F.kind_of field.now) (map F.number other.now) }
+    ensures elements { AreElements (F.kind_of field.now) (map F.number row.new) }
+    ensures value { Answers (λ _. map F.number row.new) result (axpy_of (F.kind_of field.now) (map F.number row.old) (F.number c) (map F.number other.now)) }
+{
+    let count = other.len();
+    field.axpy(&mut row[..count], c, other)
+}
+
+/// Multiplies each place by `c`.
+pub fn scale<F: Field>(field: &F, row: &mut [F::Elem], c: F::Elem) -> Result<(), Unfit>
+    requires row { AreElements (F.kind_of field.now) (map F.number row.old) }
+    requires factor { IsElement (F.kind_of field.now) (F.number c) }
+    ensures elements { AreElements (F.kind_of field.now) (map F.number row.new) }
+    ensures value { Answers (λ _. map F.number row.new) result (scale_of (F.kind_of field.now) (F.number c) (map F.number row.old)) }
+{
+    field.scale(row, c)
+}

@@ -1,0 +1,157 @@
+ghost use Rattle.std.specs.Prelude.{◌≡◌, ◌≤◌, ◌<◌, ◌+◌, ◌-◌, ◌^◌, List, length, IfOk, IfErr, OnOk, IsTrue, ◌↔◌, None, slice_index_or, replicate, map, vec_len};
+ghost use Rattle.fpl_numbers.specs.Numbers.{IsElement, residue};
+ghost use Rattle.fpl_numbers.specs.Results.{Gives};
+ghost use Rattle.fpl_scalar.specs.Vectors.{AreElements, axpy_of, scale_of};
+ghost use Rattle.fpl_rows.specs.Positions.{lead_of, next_of, added_at};
+
+use crate::places;
+use fpl_scalar::{Fault, Field};
+use std::alloc::{AllocError, Global};
+use std::marker::Model;
+
+/// A vector, as its number at each position. Positions count from 1.
+///
+/// After a `Fault` a row has its length and no promised numbers.
+#[derive(Drop)]
+pub struct Row<F: Field> {
+    // tells which element is 0
+    field: F,
+    numbers: Vec<F::Elem>,
+}
+
+impl<F: Field> Model for Row<F> {
+    ghost use Rattle.std.specs.Prelude.{List, map, vec_len, ◌<◌, ◌^◌};
+    ghost use Rattle.fpl_numbers.specs.declared.number.Num.{Num};
+
+    ghost Value = { List Num };
+
+    ghost view = { λ r. map F.number r.numbers.items };
+
+    ghost invariant = { λ r. vec_len r.numbers < 2 ^ 32 };
+}
+
+impl<F: Field> Row<F> {
+    /// 0 at each of `n` positions.
+    pub fn zero(alloc: Global, field: &F, n: u32) -> Result<Row<F>, AllocError>
+        ensures value { IfOk result (λ r. r ≡ replicate n (residue 0)) }
+        ensures elements { IfOk result (λ r. AreElements (F.kind_of field.now) r) }
+    {
+        let mut numbers = Vec::with_capacity(alloc, n as usize)?;
+        for _ in 0..n {
+            numbers.push(field.zero())?;
+        }
+        Ok(Row {
+            field: *field,
+            numbers,
+        })
+    }
+
+    /// The row with these numbers, the first at position 1.
+    pub fn from_vec(field: &F, numbers: Vec<F::Elem>) -> Row<F>
+        requires { vec_len numbers < 2 ^ 32 }
+        ensures { result ≡ map F.number numbers.items }
+    {
+        Row {
+            field: *field,
+            numbers,
+        }
+    }
+
+    pub fn copy(&self, alloc: Global) -> Result<Row<F>, AllocError>
+        ensures { IfOk result (λ r. r ≡ self.now) }
+    {
+        let mut numbers = Vec::new(alloc);
+        numbers.extend_from_slice(&self.numbers)?;
+        Ok(Row {
+            field: self.field,
+            numbers,
+        })
+    }
+
+    pub fn len(&self) -> u32
+        ensures value { result ≡ length self.now }
+        ensures range { length self.now < 2 ^ 32 }
+    {
+        self.numbers.len() as u32
+    }
+
+    /// The number at position `s`.
+    pub fn at(&self, s: u32) -> F::Elem
+        requires { (1 ≤ s) × (s ≤ length self.now) }
+        ensures { F.number result ≡ slice_index_or self.now (s - 1) (residue 0) }
+    {
+        self.numbers[s as usize - 1]
+    }
+
+    /// The greatest position whose number is not 0.
+    pub fn lead(&self) -> Option<u32>
+        ensures { result ≡ lead_of self.now }
+    {
+        match places::lead(&self.field, &self.numbers) {
+            Some(s) => Some(s as u32),
+            None => None,
+        }
+    }
+
+    /// The least position above `after` whose number is not 0.
+    pub fn next(&self, after: u32) -> Option<u32>
+        ensures { result ≡ next_of self.now after }
+    {
+        match places::next(&self.field, &self.numbers, after as usize) {
+            Some(s) => Some(s as u32),
+            None => None,
+        }
+    }
+
+    pub fn is_zero(&self) -> bool
+        ensures { IsTrue result ↔ (lead_of self.now ≡ None) }
+    {
+        self.lead().is_none()
+    }
+
+    /// Adds `c` at position `s`.
+    pub fn add_at(&mut self, field: &F, s: u32, c: F::Elem) -> Result<(), Fault>
+        requires place { (1 ≤ s) × (s ≤ length self.old) }
+        requires row { AreElements (F.kind_of field.now) self.old }
+        requires added { IsElement (F.kind_of field.now) (F.number c) }
+        ensures value { Gives result self.new (added_at (F.kind_of field.now) self.old (s - 1) (F.number c)) }
+        ensures elements { OnOk result (AreElements (F.kind_of field.now) self.new) }
+        ensures length { length self.new ≡ length self.old }
+    {
+        match places::add_at(field, &mut self.numbers, s as usize - 1, c) {
+            Ok(()) => Ok(()),
+            Err(u) => Err(Fault::Unfit(u)),
+        }
+    }
+
+    /// Adds `c` times `other`, by ascending position, product before sum.
+    /// Positions past the end of `other` count as 0.
+    pub fn axpy(&mut self, field: &F, c: F::Elem, other: &Row<F>) -> Result<(), Fault>
+        requires at_most { length other.now ≤ length self.old }
+        requires row { AreElements (F.kind_of field.now) self.old }
+        requires factor { IsElement (F.kind_of field.now) (F.number c) }
+        requires other { AreElements (F.kind_of field.now) other.now }
+        ensures value { Gives result self.new (axpy_of (F.kind_of field.now) self.old (F.number c) other.now) }
+        ensures elements { OnOk result (AreElements (F.kind_of field.now) self.new) }
+        ensures length { length self.new ≡ length self.old }
+    {
+        match places::axpy(field, &mut self.numbers, c, &other.numbers) {
+            Ok(()) => Ok(()),
+            Err(u) => Err(Fault::Unfit(u)),
+        }
+    }
+
+    /// Multiplies the number at each position by `c`, by ascending position.
+    pub fn scale(&mut self, field: &F, c: F::Elem) -> Result<(), Fault>
+        requires row { AreElements (F.kind_of field.now) self.old }
+        requires factor { IsElement (F.kind_of field.now) (F.number c) }
+        ensures value { Gives result self.new (scale_of (F.kind_of field.now) (F.number c) self.old) }
+        ensures elements { OnOk result (AreElements (F.kind_of field.now) self.new) }
+        ensures length { length self.new ≡ length self.old }
+    {
+        match places::scale(field, &mut self.numbers, c) {
+            Ok(()) => Ok(()),
+            Err(u) => Err(Fault::Unfit(u)),
+        }
+    }
+}

@@ -1,0 +1,21 @@
+-- The symbols of a weight, part by part.
+--
+--   generator_cells T w   the generators of weight w, ascending
+--   pair_cells T w i      the regular pairs (i, j) of weight w, by ascending j
+use Rattle.std.specs.Prelude.{ℕ, List, [], ◌∷◌, ◌+◌, length, cond, Bool, true, false, nat_eq, nat_lt}
+use Rattle.fpl_algebra.specs.Table.{Symbol, of_generator, of_pair}
+use Rattle.fpl_algebra.specs.Symbols.{joined, is_odd}
+use Rattle.fpl_table.specs.Plain.{PlainTable, plain_basis, generator_at}
+
+abbrev pub generator_cell : PlainTable → ℕ → ℕ → List Symbol
+generator_cell T w g = cond (nat_eq (generator_at T g).weight w) (of_generator g ∷ []) []
+
+abbrev pub generator_cells : PlainTable → ℕ → List Symbol
+generator_cells T w = joined (length T.generators) (generator_cell T w)
+
+abbrev pub pair_cell : PlainTable → ℕ → ℕ → ℕ → List Symbol
+pair_cell T w i j =
+    cond (cond (nat_eq ((plain_basis T i).weight + (plain_basis T j).weight) w) (cond (nat_lt i j) true (cond (nat_eq i j) (is_odd (plain_basis T i).parity) false)) false) (of_pair i j ∷ []) []
+
+abbrev pub pair_cells : PlainTable → ℕ → ℕ → List Symbol
+pair_cells T w i = joined (length T.basis) (pair_cell T w i)
