@@ -72,7 +72,7 @@ impl<F: Field> Table<F> {
     }
 
     /// The symbols of weight `w`, in their order.
-    pub(super) fn symbol_list(&self, alloc: Global, w: u32) -> Result<Vec<Symbol>, AllocError>
+    pub fn symbol_list(&self, alloc: Global, w: u32) -> Result<Vec<Symbol>, AllocError>
         requires { w ≤ self.now.weight + 1 }
         ensures value { IfOk result (λ list. map symbol_in list.items ≡ symbols_of (shell_in self.now.kind self.now) (table_in self.now.kind self.now) w) }
         ensures numbered { IfOk result (λ list. All IsNumbered list.items) }
