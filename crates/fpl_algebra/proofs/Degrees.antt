@@ -97,7 +97,7 @@ module _ {N : Type 0} (P : Presentation N) where
   equation_weight e f h k n = both_weights (weight_of P e) (weight_of P f) e f (weight_means h) (weight_means k) n
 
   -- parities
-  abbrev ParityMeans : Degree Parity → Tree N → Type 0
+  abbrev pub ParityMeans : Degree Parity → Tree N → Type 0
   ParityMeans any e = IsVoid e
   ParityMeans (exact s) e = HasParity P e s
   ParityMeans mixed e = Unit {0}

@@ -132,12 +132,17 @@ module _ {N : Type 0} (P : Presentation N) where
       go (exact d) h k = absurd h
       go mixed h k = absurd h
 
+  -- the sides of an equation without a weight are void
+  pub equation_any : (e f : Tree N) → IsOver P e → IsOver P f → weight_of_both P e f ≡ any → IsVoid e × IsVoid f
+  equation_any e f o q p =
+      let r = both_any (weight_of P e) (weight_of P f) (subst IsAny (sym p) tt) in (void_any (weight_of P e) e r.0 refl o, void_any (weight_of P f) f r.1 refl q)
+
   -- an equation whose two sides have weight w has w as written, or both sides are void
   pub equation_is : (e f : Tree N) (w : ℕ) → IsOver P e → IsOver P f → weight_of_both P e f ≢ mixed → WeightIs P e w → WeightIs P f w → (IsVoid e × IsVoid f) ⊎ (weight_of_both P e f ≡ exact w)
   equation_is e f w o q n h k = go (weight_of_both P e f) refl (fits_both w (weight_of P e) (weight_of P f) (weight_fits h) (weight_fits k))
     where
       go : (a : Degree ℕ) → weight_of_both P e f ≡ a → Fits w a → (IsVoid e × IsVoid f) ⊎ (weight_of_both P e f ≡ exact w)
-      go any p t = let r = both_any (weight_of P e) (weight_of P f) (subst IsAny (sym p) tt) in inl (void_any (weight_of P e) e r.0 refl o, void_any (weight_of P f) f r.1 refl q)
+      go any p t = inl (equation_any e f o q p)
       go (exact c) p t = inr (p ∙ ap exact t)
       go mixed p t = absurd (n p)
 

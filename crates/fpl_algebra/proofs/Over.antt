@@ -1,10 +1,10 @@
 -- Both sides of a derivation are over P.
 use Rattle.std.specs.Prelude.{ℕ, List, [], ◌∷◌, map, ◌++◌, length, ◌<◌}
 use Rattle.fpl_fields.specs.Field.{Field}
-use Rattle.fpl_algebra.specs.Tree.{Trees, sum_of, multiple, bracket_of, end, more, trees, Presentation, left, right, IsOver, AreOver}
+use Rattle.fpl_algebra.specs.Tree.{Trees, sum_of, multiple, bracket_of, trees, Presentation, left, right, IsOver, AreOver}
 use Rattle.fpl_algebra.specs.Tree.IsOver.{over_none, over_sum, over_multiple, over_bracket}
 use Rattle.fpl_algebra.specs.Tree.AreOver.{over_end, over_more}
-use Rattle.fpl_algebra.specs.Derives.{Derives, Expression, sum_all}
+use Rattle.fpl_algebra.specs.Derives.{Derives, Expression}
 use Rattle.fpl_algebra.specs.Derives.Derives.{same, back, then, in_sum, in_multiple, in_left, in_right, sum_swap, sum_rest, sum_flat, sum_none, sum_empty, sum_one, multiple_multiple, multiple_unit, multiple_nought, multiple_plus, multiple_sum, left_sum, right_sum, left_multiple, right_multiple, exchange, jacobi, relation, cube}
 
 module _ (K : Field) (P : Presentation K.Carrier) (over : (k : ℕ) → k < length P.relations → IsOver P (left P k) × IsOver P (right P k)) where

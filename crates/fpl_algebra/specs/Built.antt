@@ -1,16 +1,18 @@
 -- Tables that are built weight by weight by closed rows of the source rows.
--- AreThose: the count places slot 0 < slot 1 < .. below m are those of the kind S.
--- slot_of: the symbol that basis element k stands for, where it is one of the count new ones after the old ones.
--- at_slot, relabel: a vector over symbols, read at the new basis elements.
--- meaning_of: what a vector over symbols means in the next table: it is swept by the closed rows, and what is left stands at symbols of the basis.
--- AddsBasis: T' has the basis of T, and then the symbols of the next weight at the places that slot names, with their weight and parity.
--- Keeps: images of weights up to the old one and entries of pairs of such weights stay, and images past the new weight are 0.
--- IsNext: T' is T with one weight more, by closed rows that span exactly the source rows: the symbols that are no pivot are the new basis, and
--- images and entries of the new weight are what their symbols mean.
--- IsEmpty: the table of weight 0.
--- Built: the tables that are built for P, from the empty one.
--- Agree: two tables that agree wherever a table says something.
--- IsLower: S is the part of T through its weight.
+--
+--   AreThose           the count places slot 0 < slot 1 < .. below m are those of the kind S
+--   slot_of            the symbol that basis element k stands for, where it is one of the count new ones after the old ones
+--   at_slot, relabel   a vector over symbols, read at the new basis elements
+--   meaning_of         what a vector over symbols means in the next table: it is swept by the closed rows, and what is left stands at symbols of the
+--                      basis
+--   AddsBasis          T' has the basis of T, and then the symbols of the next weight at the places that slot names, with their weight and parity
+--   Keeps              images of weights up to the old one and entries of pairs of such weights stay, and images past the new weight are 0
+--   IsNext             T' is T with one weight more, by closed rows that span exactly the source rows: the symbols that are no pivot are the new
+--                      basis, and images and entries of the new weight are what their symbols mean
+--   IsEmpty            the table of weight 0
+--   Built              the tables that are built for P, from the empty one
+--   Agree              two tables that agree wherever a table says something
+--   IsLower            S is the part of T through its weight
 use Rattle.std.specs.Prelude.{ℕ, suc, ◌≡◌, ◌≢◌, ◌+◌, ◌-◌, ◌<◌, ◌≤◌, length, cond, nat_lt, Option, Some, None}
 use Rattle.fpl_fields.specs.Field.{Field}
 use Rattle.fpl_linear.specs.Vector.{Vector, vzero, place}

@@ -1,15 +1,16 @@
 -- Weights and parities of expressions as written, whatever their numbers are.
--- IsVoid, AreVoid: a void expression: 0, a sum of void members, a multiple of a void one, or a bracket with a void member.
--- is_void, are_void: the test for it.
--- top, tops: the greatest written weight, and 0 for a void expression.
--- HasParity, HaveParity: the parities that an expression has; a void one has both.
--- Degree: none, exactly one, or two that differ.
--- of_both: that of a sum, from those of two parts.
--- of_bracket: that of a bracket, from those of its members.
--- weight_of, weights_of: the weight of an expression.
--- parity_of, parities_of: the parity of an expression.
--- weight_of_both, parity_of_both: those of an equation, its two sides taken as one sum.
--- IsSoundPresentation: weights are at least 1, relations are over P, and each is homogeneous in weight and in parity.
+--
+--   IsVoid, AreVoid                  a void expression: 0, a sum of void members, a multiple of a void one, or a bracket with a void member
+--   is_void, are_void                the test for it
+--   top, tops                        the greatest written weight, and 0 for a void expression
+--   HasParity, HaveParity            the parities that an expression has; a void one has both
+--   Degree                           none, exactly one, or two that differ
+--   of_both                          that of a sum, from those of two parts
+--   of_bracket                       that of a bracket, from those of its members
+--   weight_of, weights_of            the weight of an expression
+--   parity_of, parities_of           the parity of an expression
+--   weight_of_both, parity_of_both   those of an equation, its two sides taken as one sum
+--   IsSoundPresentation              weights are at least 1, relations are over P, and each is homogeneous in weight and in parity
 use Rattle.std.specs.Prelude.{ℕ, ◌≢◌, ◌+◌, ◌<◌, length, max, Bool, true, false, cond, nat_eq, ◌&&◌, ◌||◌}
 use Rattle.fpl_algebra.specs.Tree.{Tree, Trees, gen, none, sum_of, multiple, bracket_of, end, more, Parity, even, odd, parity_sum, Presentation, generator, left, right, IsOver}
 

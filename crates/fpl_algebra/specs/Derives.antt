@@ -1,11 +1,12 @@
 -- Derivability: the equations between expressions over P that follow from the super axioms and the relations of P. No weight limits a derivation.
--- Expression: an expression with numbers of the field.
--- sum_all: the sum of a list.
--- sign: (-1)^(st), for parities s and t.
--- three: 1 + 1 + 1, which is 0 modulo 3 alone.
--- Derives: the least relation on expressions over P that is an equivalence and goes through sums, multiples and brackets; that has the laws of a
--- vector space (sums permuted and flattened, 0 left out, and multiples); in which the bracket is linear in each member; that has super
--- anticommutativity, the Jacobi identity and the relations of P; and, where three is 0, [a, [a, a]] = 0 for odd a.
+--
+--   Expression   an expression with numbers of the field
+--   sum_all      the sum of a list
+--   sign         (-1)^(st), for parities s and t
+--   three        1 + 1 + 1, which is 0 modulo 3 alone
+--   Derives      the least relation on expressions over P that is an equivalence and goes through sums, multiples and brackets; that has the laws of
+--                a vector space (sums permuted and flattened, 0 left out, and multiples); in which the bracket is linear in each member; that has
+--                super anticommutativity, the Jacobi identity and the relations of P; and, where three is 0, [a, [a, a]] = 0 for odd a
 use Rattle.std.specs.Prelude.{ℕ, List, [], ◌∷◌, ◌≡◌, map, ◌++◌, length, ◌<◌}
 use Rattle.fpl_fields.specs.Field.{Field}
 use Rattle.fpl_algebra.specs.Tree.{Tree, none, sum_of, multiple, bracket_of, trees, Parity, even, odd, Presentation, left, right, IsOver, AreOver}

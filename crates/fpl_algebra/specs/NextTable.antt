@@ -1,9 +1,10 @@
 -- The next table as a function of the closed rows.
--- is_pivot: whether a place is one of the first n pivots.
--- free_places: the places below m that are no pivot, ascending.
--- new_basis: the basis element of the symbol at a place.
--- free_list, means_next: the places of the new basis elements, and what a vector over symbols means.
--- next_table: the table with one weight more.
+--
+--   is_pivot                whether a place is one of the first n pivots
+--   free_places             the places below m that are no pivot, ascending
+--   new_basis               the basis element of the symbol at a place
+--   free_list, means_next   the places of the new basis elements, and what a vector over symbols means
+--   next_table              the table with one weight more
 use Rattle.std.specs.Prelude.{ℕ, zero, suc, List, [], ◌∷◌, ◌++◌, map, ◌+◌, length, get_or, Bool, true, false, cond, nat_le, nat_eq}
 use Rattle.fpl_fields.specs.Field.{Field}
 use Rattle.fpl_linear.specs.Vector.{Vector, vzero, place}

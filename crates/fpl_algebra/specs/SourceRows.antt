@@ -1,11 +1,15 @@
 -- Source rows of the weight after a table's, as vectors over the symbols of that weight.
--- outer_place: an outermost bracket of two basis elements whose weights sum to the next weight: 1 at its pair's place, with the sign of the pair.
--- outer: an outermost bracket of two vectors.
--- row_of, rows_of_all: an expression of the next weight: inner brackets have their values in the table, outermost ones stand at their pairs' places.
--- jacobi_row: the row of a triple.
--- relation_row: the row of a relation, its left side minus its right side.
--- cube_row: the row [b_i, [b_i, b_i]] of an element.
--- IsSource: the source rows: the relations of the next weight, the triples i <= j <= k of that total weight, and modulo 3 the cubes of odd elements.
+--
+--   outer_place           an outermost bracket of two basis elements whose weights sum to the next weight: 1 at its pair's place, with the sign of
+--                         the pair
+--   outer                 an outermost bracket of two vectors
+--   row_of, rows_of_all   an expression of the next weight: inner brackets have their values in the table, outermost ones stand at their pairs'
+--                         places
+--   jacobi_row            the row of a triple
+--   relation_row          the row of a relation, its left side minus its right side
+--   cube_row              the row [b_i, [b_i, b_i]] of an element
+--   IsSource              the source rows: the relations of the next weight, the triples i <= j <= k of that total weight, and modulo 3 the cubes of
+--                         odd elements
 use Rattle.std.specs.Prelude.{ℕ, suc, ◌≡◌, ◌+◌, length, ◌<◌, ◌≤◌, cond, nat_eq}
 use Rattle.fpl_fields.specs.Field.{Field}
 use Rattle.fpl_linear.specs.Vector.{Vector, vzero, vplus, scale, place, bilinear}

@@ -1,9 +1,10 @@
 -- The standard table, without elimination and without rows.
--- combined: the sum of v i times the expression i, for i below n.
--- IsCombination: the symbol at place s is derivably equal to a combination of smaller symbols of its weight.
--- IsStandardNext: T' adds to T the symbols of the next weight that are not such combinations, and its images and entries of that weight are what
--- their symbols are derivably equal to; tree and tree' are the expressions of the basis elements.
--- IsStandard: the standard table of P through its weight, with the expressions of its basis elements.
+--
+--   combined         the sum of v i times the expression i, for i below n
+--   IsCombination    the symbol at place s is derivably equal to a combination of smaller symbols of its weight
+--   IsStandardNext   T' adds to T the symbols of the next weight that are not such combinations, and its images and entries of that weight are what
+--                    their symbols are derivably equal to; tree and tree' are the expressions of the basis elements
+--   IsStandard       the standard table of P through its weight, with the expressions of its basis elements
 use Rattle.std.specs.Prelude.{ℕ, zero, suc, [], ◌∷◌, ◌≡◌, ◌+◌, ◌<◌, length}
 use Rattle.fpl_fields.specs.Field.{Field}
 use Rattle.fpl_linear.specs.Vector.{Vector}

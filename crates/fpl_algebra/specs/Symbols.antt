@@ -1,15 +1,16 @@
 -- The symbols of a weight, in their order, and the place of each, counted from 0.
--- joined: the lists f 0, .., f (n - 1), one after the other.
--- is_odd, is_regular: the test for an odd element, and for a pair that is a symbol of the weight after the table's.
--- generators_of, pairs_of: the generators of the next weight in their order, and the regular pairs of it in lexicographic order.
--- symbols: the symbols of the next weight, generators first.
--- symbols_of: the symbols of any weight.
--- symbol_at: the symbol at a place.
--- same_symbol, place_of: the first place of a symbol in a list.
--- pair_number, generator_number: the places of a pair and of a generator among the symbols of the next weight.
--- symbol_parity: the parity of a symbol.
--- symbol_tree: the expression that a symbol stands for, from those of the basis elements.
--- IsSymbol: what the symbols of the next weight are.
+--
+--   joined                          the lists f 0, .., f (n - 1), one after the other
+--   is_odd, is_regular              the test for an odd element, and for a pair that is a symbol of the weight after the table's
+--   generators_of, pairs_of         the generators of the next weight in their order, and the regular pairs of it in lexicographic order
+--   symbols                         the symbols of the next weight, generators first
+--   symbols_of                      the symbols of any weight
+--   symbol_at                       the symbol at a place
+--   same_symbol, place_of           the first place of a symbol in a list
+--   pair_number, generator_number   the places of a pair and of a generator among the symbols of the next weight
+--   symbol_parity                   the parity of a symbol
+--   symbol_tree                     the expression that a symbol stands for, from those of the basis elements
+--   IsSymbol                        what the symbols of the next weight are
 use Rattle.std.specs.Prelude.{ℕ, zero, suc, List, [], ◌∷◌, ◌++◌, ◌≡◌, ◌+◌, ◌<◌, length, get_or, Bool, true, false, cond, nat_lt, nat_eq, ◌&&◌}
 use Rattle.fpl_fields.specs.Field.{Field}
 use Rattle.fpl_algebra.specs.Tree.{Tree, gen, bracket_of, Parity, even, odd, parity_sum, Presentation, generator}

@@ -1,17 +1,19 @@
 -- Tables: what they hold, their bracket, values in them, and their law. Basis elements count from 0.
--- Symbol: a generator, or the bracket of a pair of basis elements.
--- Basis: a basis element: its weight, its parity, and the symbol that it stands for.
--- Table: a weight, the basis, the image of each generator, and the entry of each regular pair; what stands at other pairs says nothing.
--- basis_at, weight_at, parity_at: a basis element by number, its weight and its parity.
--- IsRegular: a pair (i, j) with i < j, or i = j and b_i odd.
--- with_itself, signed: [b_i, b_j] from the entries of the regular pairs.
--- product: [b_i, b_j] in the table: 0 where the weights sum to more than the table's.
--- bracket: the bracket of two vectors.
--- val, vals: the value of an expression.
--- IsIn, IsOf: a vector that is 0 but at basis elements of a parity, and of a weight.
--- HasJacobi: the Jacobi identity at three basis elements.
--- IsGraded: products lie in the sums of their parities.
--- ObeysLaw: super anticommutativity, Jacobi, cubes modulo 3, parities and weights of images and products, and the relations.
+--
+--   Symbol                           a generator, or the bracket of a pair of basis elements
+--   Basis                            a basis element: its weight, its parity, and the symbol that it stands for
+--   Table                            a weight, the basis, the image of each generator, and the entry of each regular pair; what stands at other pairs
+--                                    says nothing
+--   basis_at, weight_at, parity_at   a basis element by number, its weight and its parity
+--   IsRegular                        a pair (i, j) with i < j, or i = j and b_i odd
+--   with_itself, signed              [b_i, b_j] from the entries of the regular pairs
+--   product                          [b_i, b_j] in the table: 0 where the weights sum to more than the table's
+--   bracket                          the bracket of two vectors
+--   val, vals                        the value of an expression
+--   IsIn, IsOf                       a vector that is 0 but at basis elements of a parity, and of a weight
+--   HasJacobi                        the Jacobi identity at three basis elements
+--   IsGraded                         products lie in the sums of their parities
+--   ObeysLaw                         super anticommutativity, Jacobi, cubes modulo 3, parities and weights of images and products, and the relations
 use Rattle.std.specs.Prelude.{ℕ, List, ◌≡◌, ◌⊎◌, ◌+◌, length, get_or, ◌<◌, cond, nat_lt, nat_le}
 use Rattle.fpl_fields.specs.Field.{Field}
 use Rattle.fpl_linear.specs.Vector.{Vector, vzero, vplus, scale, place, bilinear}

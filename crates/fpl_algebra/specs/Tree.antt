@@ -1,11 +1,12 @@
 -- Bracket expressions and presentations, over numbers of any type N. Generators and relations count from 0.
--- Tree, Trees: an expression: a generator, 0, a sum of expressions, a multiple, or a bracket.
--- trees: the expressions of a list, in order.
--- Parity, parity_sum: even or odd, and the sum of two parities.
--- Generator: the weight and the parity of a generator.
--- Presentation: generators and relations; a relation is the pair of its two sides.
--- generator, left, right: a generator, and the sides of a relation, by number.
--- IsOver, AreOver: an expression over P: each of its generators is one of P's.
+--
+--   Tree, Trees              an expression: a generator, 0, a sum of expressions, a multiple, or a bracket
+--   trees                    the expressions of a list, in order
+--   Parity, parity_sum       even or odd, and the sum of two parities
+--   Generator                the weight and the parity of a generator
+--   Presentation             generators and relations; a relation is the pair of its two sides
+--   generator, left, right   a generator, and the sides of a relation, by number
+--   IsOver, AreOver          an expression over P: each of its generators is one of P's
 use Rattle.std.specs.Prelude.{ℕ, List, [], ◌∷◌, ◌<◌, length, get_or}
 
 mutual

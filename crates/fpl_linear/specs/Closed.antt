@@ -1,6 +1,7 @@
 -- Closed lists of rows, as n, the rows below n and their pivots.
--- IsClosed: each row has 1 at its greatest nonzero place, its pivot; the pivots ascend; no row is nonzero at another's pivot.
--- swept: what is left of a vector when each row is taken off as often as the vector has its pivot.
+--
+--   IsClosed   each row has 1 at its greatest nonzero place, its pivot; the pivots ascend; no row is nonzero at another's pivot
+--   swept      what is left of a vector when each row is taken off as often as the vector has its pivot
 use Rattle.std.specs.Prelude.{ℕ, ◌≡◌, ◌≢◌, ◌<◌}
 use Rattle.fpl_fields.specs.Field.{Field}
 use Rattle.fpl_linear.specs.Vector.{Vector, vplus, scale}

@@ -1,15 +1,16 @@
 -- Echelons: rows by place, at most one row at each place.
--- Pivots: the row that stands at each place.
--- IsRow: one of the rows.
--- HasLead: 1 at a place, and 0 above it.
--- IsEchelon: each row has its lead at its place, and stands below n.
--- IsReduced: an echelon in which each row is 0 at the places of the others.
--- take_off: the row of a place taken off a vector as often as the vector has that place.
--- reduce: what is left of a vector when the rows below n are taken off, from the greatest place down.
--- put: a row more.
--- empty: no row.
--- close_at: the closed rows below a place, and the closed row of that place.
--- close: the rows below n, each less the closed rows below it.
+--
+--   Pivots      the row that stands at each place
+--   IsRow       one of the rows
+--   HasLead     1 at a place, and 0 above it
+--   IsEchelon   each row has its lead at its place, and stands below n
+--   IsReduced   an echelon in which each row is 0 at the places of the others
+--   take_off    the row of a place taken off a vector as often as the vector has that place
+--   reduce      what is left of a vector when the rows below n are taken off, from the greatest place down
+--   put         a row more
+--   empty       no row
+--   close_at    the closed rows below a place, and the closed row of that place
+--   close       the rows below n, each less the closed rows below it
 use Rattle.std.specs.Prelude.{ℕ, zero, suc, ◌≡◌, ◌≢◌, ◌<◌, Option, Some, None, cond, nat_eq}
 use Rattle.fpl_fields.specs.Field.{Field}
 use Rattle.fpl_linear.specs.Vector.{Vector, vplus, scale}

@@ -1,9 +1,10 @@
 -- Kernels: the vectors whose product sum with each row is 0.
--- product_sum: the sum of u i times x i, for i below n.
--- IsSolution: a vector that is 0 from n on and whose product sum with each vector of S is 0.
--- free_at: what the solution of the free place f has at a place with a row, and at one without.
--- free_row: the solution of a free place f: 1 at f, 0 at the other free places, and at each pivot minus what its row has at f.
--- IsFree: the solution of some place below n that has no row.
+--
+--   product_sum   the sum of u i times x i, for i below n
+--   IsSolution    a vector that is 0 from n on and whose product sum with each vector of S is 0
+--   free_at       what the solution of the free place f has at a place with a row, and at one without
+--   free_row      the solution of a free place f: 1 at f, 0 at the other free places, and at each pivot minus what its row has at f
+--   IsFree        the solution of some place below n that has no row
 use Rattle.std.specs.Prelude.{ℕ, zero, suc, ◌≡◌, ◌<◌, ◌≤◌, Option, Some, None}
 use Rattle.fpl_fields.specs.Field.{Field}
 use Rattle.fpl_linear.specs.Vector.{Vector, place}

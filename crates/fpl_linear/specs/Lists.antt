@@ -1,7 +1,7 @@
 -- Vectors of lists.
 --
 --   vector_of K value xs   the vector with the value of each number of xs at its place, counted from 0, and 0 past them
-use Rattle.std.specs.Prelude.{ℕ, zero, suc, List, [], ◌∷◌}
+use Rattle.std.specs.Prelude.{zero, suc, List, [], ◌∷◌}
 use Rattle.fpl_fields.specs.Field.{Field}
 use Rattle.fpl_linear.specs.Vector.{Vector}
 

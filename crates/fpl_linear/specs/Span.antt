@@ -1,9 +1,10 @@
 -- Spans of vectors.
--- Spanned: the span of the vectors of which S holds, as the least space that holds them.
--- combination: the sum of c i times row i, for the rows below n.
--- InSpan: the span of the n rows row 0, .., row (n - 1), as their combinations.
--- IsRowOf: one of these n rows.
--- SpansKind: the n rows span what the vectors of a kind span.
+--
+--   Spanned       the span of the vectors of which S holds, as the least space that holds them
+--   combination   the sum of c i times row i, for the rows below n
+--   InSpan        the span of the n rows row 0, .., row (n - 1), as their combinations
+--   IsRowOf       one of these n rows
+--   SpansKind     the n rows span what the vectors of a kind span
 use Rattle.std.specs.Prelude.{ℕ, ◌≡◌, ◌<◌}
 use Rattle.fpl_fields.specs.Field.{Field}
 use Rattle.fpl_linear.specs.Vector.{Vector, vzero, vplus, scale, total}

@@ -1,11 +1,12 @@
 -- Vectors over a field: a number at each place, where places count from 0.
--- Vector: the vectors over K.
--- vzero: the vector 0.
--- vplus: the sum of two vectors.
--- scale: a multiple of a vector.
--- place: 1 at a place, and 0 elsewhere.
--- total: the sum of n vectors.
--- bilinear: a bilinear function, from its values at pairs of places below n.
+--
+--   Vector     the vectors over K
+--   vzero      the vector 0
+--   vplus      the sum of two vectors
+--   scale      a multiple of a vector
+--   place      1 at a place, and 0 elsewhere
+--   total      the sum of n vectors
+--   bilinear   a bilinear function, from its values at pairs of places below n
 use Rattle.std.specs.Prelude.{ℕ, zero, suc, cond, nat_eq}
 use Rattle.fpl_fields.specs.Field.{Field}
 

@@ -2,7 +2,7 @@
 -- each numerator and the other denominator are first divided by their greatest common divisor.
 use Rattle.std.specs.Prelude.{ℕ, ◌≡◌, ◌<◌, ◌+◌, ◌*◌, ◌/◌, ℤ, pos, ◌*ℤ◌, unsigned_abs}
 use Rattle.std.specs.Int.{IsGcd}
-use mathlib.Core.Path.{sym, ap, ap₂, ◌∙◌, subst, subst₂}
+use mathlib.Core.Path.{sym, ap, ap₂, ◌∙◌, subst}
 use native.Mathlib.Omega.{arith}
 use native.Mathlib.Nat.{div-mul_cancel, dvd-mul_right, eq_of_mul-eq-mul_right, eq_of_mul-eq-mul_left, mul-pos, pos_of_dvd_of_pos}
 use Prim.Native.Nat.{◌∣◌}

@@ -18,11 +18,11 @@ use Rattle.fpl_numbers.proofs.FractionReads.{fraction_reads}
 use Rattle.fpl_numbers.proofs.Inverses.{inverse-times}
 use Rattle.fpl_numbers.proofs.ResidueReads.{residue_reads}
 
-abbrev is_accepted : (p : ℕ) → Known p → Bool
+abbrev pub is_accepted : (p : ℕ) → Known p → Bool
 is_accepted p (accepted h l) = true
 is_accepted p unknown = false
 
-listed_known : (p : ℕ) → IsListed p → is_accepted p (known p) ≡ true
+pub listed_known : (p : ℕ) → IsListed p → is_accepted p (known p) ≡ true
 unfolding ℕ_discrete
 listed_known p h =
     All-contains (λ q. is_accepted q (known q) ≡ true) PRIMES p

@@ -8,3 +8,4 @@ pub mod ResidueReads
 pub mod Fitting
 pub mod KindReads
 pub mod FractionProducts
+pub mod WholeNumbers

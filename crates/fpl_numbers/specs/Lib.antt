@@ -2,3 +2,4 @@ pub mod Numbers
 pub mod Results
 pub mod Kinds
 pub mod Reads
+pub mod Quotients

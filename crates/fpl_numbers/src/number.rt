@@ -1,3 +1,4 @@
+use std::alloc::AllocError;
 use thiserror::Error;
 
 /// A number. Over a prime it is a residue from 0 to the prime less 1, over 1.
@@ -37,6 +38,17 @@ pub enum Fault {
     Unfit(Unfit),
     #[error("no memory")]
     NoMemory,
+}
+
+impl From<AllocError> for Fault {
+    ghost use Rattle.std.specs.Prelude.{◌≡◌};
+    ghost use Rattle.fpl_numbers.specs.declared.number.Fault.TheVariants.{NoMemory};
+
+    ghost from_gives = { λ error e. e ≡ NoMemory };
+
+    fn from(_error: AllocError) -> Fault {
+        Fault::NoMemory
+    }
 }
 
 /// The accepted primes, ascending.

@@ -3,9 +3,10 @@ use Rattle.std.specs.Prelude.{ℕ, zero, suc, ◌≡◌, ◌≢◌, ◌<◌, ◌
 use Rattle.std.specs.Int.{IsGcd}
 use mathlib.Core.Path.{refl, sym, ap, ◌∙◌, subst}
 use mathlib.Core.Logic.{inl, inr}
+use Prim.Native.Nat.{◌∣◌}
 use native.Mathlib.Omega.{arith}
 use native.Mathlib.Decide.{ℕ_discrete}
-use native.Mathlib.Nat.{div-add-mod, mod-lt, mul-le-mul, mul-pos}
+use native.Mathlib.Nat.{div-add-mod, mod-lt, mul-le-mul, mul-pos, pos_of_dvd_of_pos, le_of_dvd}
 use Rattle.std.proofs.Common.{add-one}
 use Rattle.std.proofs.Math.Nat.{pow-suc}
 use Rattle.std.proofs.lemmas.Nat.{mul-lt}
@@ -69,3 +70,9 @@ last_turn a b x y h = go 257 y (omega arith) (ℕ_discrete y 0) h.halved h.order
 
 pub found : (a b x y t : ℕ) → y ≡ 0 → AfterTurns a b x y t → x ≡ gcd a b
 found a b x y t e h = same_from_IsGcd a b x (gcd a b) (h.same x (IsGcd-from_zero x y e)) (gcd_is a b)
+
+pub gcd_positive : (a b x : ℕ) → x ≡ gcd a b → 0 < b → 0 < x
+gcd_positive a b x e some = pos_of_dvd_of_pos (subst (λ w. w ∣ b) (sym e) (gcd_is a b).1) some
+
+pub gcd_within_right : (a b x : ℕ) → x ≡ gcd a b → 0 < b → x ≤ b
+gcd_within_right a b x e some = le_of_dvd some (subst (λ w. w ∣ b) (sym e) (gcd_is a b).1)

@@ -1,4 +1,4 @@
-ghost use Rattle.std.specs.Prelude.{◌≡◌};
+ghost use Rattle.std.specs.Prelude.{◌≡◌, ◌<◌, ◌≤◌};
 ghost use Rattle.fpl_numbers.specs.Numbers.{gcd};
 
 /// The turns that Euclid's algorithm takes at most on numbers of 128 bits: each turn but the
@@ -7,13 +7,15 @@ const TURNS: u32 = 257;
 
 /// The greatest common divisor, by Euclid's algorithm.
 pub fn gcd(a: u128, b: u128) -> u128
-    ensures { result ≡ gcd a b }
+    ensures value { result ≡ gcd a b }
+    ensures positive { 0 < b → 0 < result }
+    ensures within { 0 < b → result ≤ b }
 {
     let mut x = a;
     let mut y = b;
     for _turn in 0..TURNS {
         if y == 0 {
-            return x;
+            break;
         }
         let rest = x % y;
         x = y;

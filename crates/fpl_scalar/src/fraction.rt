@@ -1,4 +1,4 @@
-ghost use Rattle.std.specs.Prelude.{◌≡◌, ◌≤◌, ◌<◌, ◌+ℤ◌, ◌*ℤ◌, unsigned_abs, if◌then◌else◌};
+ghost use Rattle.std.specs.Prelude.{◌≡◌, ◌≤◌, ◌<◌, ◌*◌, ◌+ℤ◌, ◌*ℤ◌, pos, nat_le, unsigned_abs, if◌then◌else◌};
 ghost use Rattle.fpl_numbers.specs.declared.number.Kind.TheVariants.{Rational};
 ghost use Rattle.fpl_numbers.specs.declared.number.Op.TheVariants.{Add, Mul};
 ghost use Rattle.fpl_numbers.specs.Numbers.{IsElement, bound, divided, fraction_fits, fraction_product, fraction_sum, is_within};
@@ -11,7 +11,7 @@ use fpl_numbers::{Kind, Num, Op, Unfit};
 #[derive(Clone, Copy, Debug)]
 pub struct Fraction;
 
-/// The product, where it is within the bound.
+/// The product of two whole numbers, where it is within the bound.
 fn times(a: i128, b: i128) -> Option<i128>
     ensures { result ≡ (if is_within (a *ℤ b) then Some (a *ℤ b) else None) }
 {
@@ -21,7 +21,7 @@ fn times(a: i128, b: i128) -> Option<i128>
     }
 }
 
-/// The sum, where it is within the bound.
+/// The sum of two whole numbers, where it is within the bound.
 fn plus(a: i128, b: i128) -> Option<i128>
     ensures { result ≡ (if is_within (a +ℤ b) then Some (a +ℤ b) else None) }
 {
@@ -31,11 +31,175 @@ fn plus(a: i128, b: i128) -> Option<i128>
     }
 }
 
+/// The product of a whole number and a magnitude, where it is within the bound.
+fn multiple(a: i128, b: u128) -> Option<i128>
+    requires { b ≤ bound }
+    ensures { result ≡ (if is_within (a *ℤ pos b) then Some (a *ℤ pos b) else None) }
+{
+    times(a, b as i128)
+}
+
+/// The product of two denominators, where it is within the bound.
+fn joined(a: u128, b: u128) -> Option<i128>
+    ensures { result ≡ (if nat_le (a * b) bound then Some (pos (a * b)) else None) }
+{
+    match a.checked_mul(b) {
+        Some(product) if product <= i128::MAX as u128 => Some(product as i128),
+        _ => None,
+    }
+}
+
 /// `n` divided by `d`, towards 0.
-fn quotient_towards_zero(n: i128, d: u128) -> i128
+pub fn reduced_by(n: i128, d: u128) -> i128
     requires positive { 0 < d }
     requires fits { d ≤ bound }
     ensures { result ≡ divided n d }
 {
     n / d as i128
+}
+
+/// The denominator.
+fn below(a: Num) -> u128
+    requires { IsElement Rational a }
+    ensures value { result ≡ unsigned_abs a.denominator }
+    ensures positive { 0 < result }
+    ensures fits { result ≤ bound }
+{
+    a.denominator.unsigned_abs()
+}
+
+/// The exact sum, where it fits: over the least common denominator, then reduced.
+fn sum(a: Num, b: Num) -> Option<Num>
+    requires left { IsElement Rational a }
+    requires right { IsElement Rational b }
+    ensures { result ≡ (if fraction_fits Add a b then Some (fraction_sum a b) else None) }
+{
+    let a_below = below(a);
+    let b_below = below(b);
+    let common = gcd(a_below, b_below);
+    let Some(left) = multiple(a.numerator, b_below / common) else {
+        return None;
+    };
+    let Some(right) = multiple(b.numerator, a_below / common) else {
+        return None;
+    };
+    let Some(total) = plus(left, right) else {
+        return None;
+    };
+    let shared = gcd(total.unsigned_abs(), common);
+    let Some(denominator) = joined(a_below / common, b_below / shared) else {
+        return None;
+    };
+    Some(Num {
+        numerator: reduced_by(total, shared),
+        denominator,
+    })
+}
+
+/// The exact product, where it fits. Each numerator and the other denominator are first divided
+/// by their greatest common divisor, so that no part is greater than that of the product.
+fn product(a: Num, b: Num) -> Option<Num>
+    requires left { IsElement Rational a }
+    requires right { IsElement Rational b }
+    ensures { result ≡ (if fraction_fits Mul a b then Some (fraction_product a b) else None) }
+{
+    let a_below = below(a);
+    let b_below = below(b);
+    let left = gcd(a.numerator.unsigned_abs(), b_below);
+    let right = gcd(b.numerator.unsigned_abs(), a_below);
+    let above = times(
+        reduced_by(a.numerator, left),
+        reduced_by(b.numerator, right),
+    );
+    let Some(numerator) = above else {
+        return None;
+    };
+    let Some(denominator) = joined(a_below / right, b_below / left) else {
+        return None;
+    };
+    Some(Num {
+        numerator,
+        denominator,
+    })
+}
+
+impl Field for Fraction {
+    type Elem = Num;
+
+    ghost kind_of = { λ f. Rational };
+
+    ghost number = { λ a. a };
+
+    ghost is_field = { λ f. tt };
+
+    ghost same_number = { λ f a b is_a is_b e. e };
+
+    fn kind(&self) -> Kind {
+        Kind::Rational
+    }
+
+    fn zero(&self) -> Num {
+        Num {
+            numerator: 0,
+            denominator: 1,
+        }
+    }
+
+    fn one(&self) -> Num {
+        Num {
+            numerator: 1,
+            denominator: 1,
+        }
+    }
+
+    fn is_zero(&self, a: Num) -> bool {
+        a.numerator == 0
+    }
+
+    fn same(&self, a: Num, b: Num) -> bool {
+        a == b
+    }
+
+    fn add(&self, a: Num, b: Num) -> Result<Num, Unfit> {
+        match sum(a, b) {
+            Some(c) => Ok(c),
+            None => Err(Unfit { op: Op::Add, a, b }),
+        }
+    }
+
+    fn mul(&self, a: Num, b: Num) -> Result<Num, Unfit> {
+        match product(a, b) {
+            Some(c) => Ok(c),
+            None => Err(Unfit { op: Op::Mul, a, b }),
+        }
+    }
+
+    fn neg(&self, a: Num) -> Num {
+        Num {
+            numerator: -a.numerator,
+            denominator: a.denominator,
+        }
+    }
+
+    fn inverse(&self, a: Num) -> Num {
+        if a.numerator < 0 {
+            Num {
+                numerator: -a.denominator,
+                denominator: -a.numerator,
+            }
+        } else {
+            Num {
+                numerator: a.denominator,
+                denominator: a.numerator,
+            }
+        }
+    }
+
+    fn of(&self, n: &Num) -> Num {
+        *n
+    }
+
+    fn num(&self, a: Num) -> Num {
+        a
+    }
 }

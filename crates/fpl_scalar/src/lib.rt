@@ -4,9 +4,13 @@
 mod divisor;
 mod field;
 mod fraction;
+mod quotients;
 mod residue;
+#[cfg(test)]
+mod tests;
 
 pub use field::Field;
-pub use fraction::Fraction;
 pub use fpl_numbers::{Fault, Kind, Num, Op, PRIMES, Unfit};
+pub use fraction::Fraction;
+pub use quotients::quotient;
 pub use residue::Residue;

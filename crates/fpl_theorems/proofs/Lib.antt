@@ -1,3 +1,5 @@
 pub mod LinearLaws
 pub mod ValueLaws
 pub mod StandardLaws
+pub mod ExampleLaws
+pub mod Three

@@ -1,10 +1,15 @@
 -- Proofs of the theorems on derivability and values.
+use mathlib.Core.Path.{subst}
 use Rattle.fpl_fields.specs.Field.{Field}
 use Rattle.fpl_algebra.proofs.Within.{within_derives}
 use Rattle.fpl_algebra.proofs.Over.{derives_over as over_of}
+use Rattle.fpl_algebra.specs.Degrees.HasParity.{parity_void}
+use Rattle.fpl_algebra.proofs.Degrees.{is_top, void_top, parity_means, ParityMeans}
+use Rattle.fpl_algebra.proofs.Equations.{equation_has, equation_any}
+use Rattle.fpl_tables.proofs.Facts.{weight_top}
 use Rattle.fpl_values.proofs.Parts.{at_triple}
 use Rattle.fpl_values.proofs.Sound.{sound}
-use Rattle.fpl_theorems.specs.Values.{DerivesOverP, ValuesRespectDerivation, OrderedTriplesSuffice}
+use Rattle.fpl_theorems.specs.Values.{WeightBoundsTop, ParityAsWritten, DerivesOverP, ValuesRespectDerivation, OrderedTriplesSuffice}
 
 module _ (K : Field) where
   pub derives_over : DerivesOverP K
@@ -15,3 +20,15 @@ module _ (K : Field) where
 
   pub triples_suffice : OrderedTriplesSuffice K
   triples_suffice T graded ordered = at_triple K T graded ordered
+
+  pub weight_bounds_top : WeightBoundsTop K
+  weight_bounds_top P e f o q = (
+    (λ w h. let r = equation_has P e f w o q h in (is_top P (weight_top r.0), is_top P (weight_top r.1))),
+    (λ h. let r = equation_any P e f o q h in (void_top P r.0, void_top P r.1)),
+  )
+
+  pub parity_as_written : ParityAsWritten K
+  parity_as_written P e o = (
+    (λ s h. subst (λ a. ParityMeans P a e) h (parity_means P o)),
+    (λ h s. parity_void s (subst (λ a. ParityMeans P a e) h (parity_means P o))),
+  )

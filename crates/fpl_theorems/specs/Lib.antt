@@ -1,3 +1,4 @@
 pub mod Linear
 pub mod Values
 pub mod Standard
+pub mod Examples

@@ -6,7 +6,8 @@
 --   StandardIsBuilt       and the other way
 --   SomeStandard          there is a standard table through each weight
 --   OneStandard           there is one: two standard tables through one weight agree, and so do the expressions of their basis elements
---   IsSoundTable          what a table says is derivable: each image and each entry, and each expression with the combination of its value and no other
+--   IsSoundTable          what a table says is derivable: each image and each entry, and each expression with the combination of its value and no
+--                         other
 --   StandardIsSound       the standard table is such a one
 --   ImagesPastAreZero     images of generators past the table's weight are 0
 --   RowsAreZero           over the symbols of the next weight, what is derivably 0 is exactly what the source rows span

@@ -4,7 +4,8 @@
 ghost use Rattle.fpl_numbers.specs.declared.number.Kind.{Kind};
 ghost use Rattle.fpl_numbers.specs.Kinds.{field_of};
 ghost use Rattle.fpl_theorems.specs.Linear.{ClosesReduced, FreeRowsSolve, KernelOfRows, OneClosedList, OneReduced, PutSpansMore, ReducedIsClosed, ReducesToZero, SomeClosedList, SpansAreOne, SweepsInSpan, SweepsPivots, SweepsToZero};
-ghost use Rattle.fpl_theorems.specs.Values.{DerivesOverP, OrderedTriplesSuffice, ValuesRespectDerivation};
+ghost use Rattle.fpl_theorems.specs.Values.{CubesModuloThree, DerivesOverP, OrderedTriplesSuffice, ParityAsWritten, ValuesRespectDerivation, WeightBoundsTop};
+ghost use Rattle.fpl_theorems.specs.Examples.{EvenSquareIsZero, OddCubeIsZero, OddCubeIsZeroByCube, OddSquareIsFree, PairIsFree, ZeroBracketsFail};
 ghost use Rattle.fpl_theorems.specs.Standard.{AgreeingIsBuilt, BuiltIsStandard, BuiltObeys, ClosedRowsAreZero, ClosedRowsBuild, Headline, ImagesPastAreZero, LowerIsBuilt, OneStandard, RowsAreZero, SomeStandard, StandardIsBuilt, StandardIsSound};
 
 /// Closed lists: what finitely many rows span has exactly one, and sweeping by it leaves 0 exactly in the span.
@@ -37,6 +38,13 @@ pub fn values()
     ensures over { (k : Kind) → DerivesOverP (field_of k) }
     ensures one_value { (k : Kind) → ValuesRespectDerivation (field_of k) }
     ensures triples { (k : Kind) → OrderedTriplesSuffice (field_of k) }
+    ensures cubes { (k : Kind) → CubesModuloThree k }
+{}
+
+/// Weights and parities as written: they bound the greatest written weight, and are parities that the expression has.
+pub fn degrees()
+    ensures weight { (k : Kind) → WeightBoundsTop (field_of k) }
+    ensures parity { (k : Kind) → ParityAsWritten (field_of k) }
 {}
 
 /// Built tables: they obey the law, and give equal values exactly where derivably equal.
@@ -62,4 +70,15 @@ pub fn standard_table()
 pub fn rows()
     ensures sources { (k : Kind) → RowsAreZero (field_of k) }
     ensures closed { (k : Kind) → ClosedRowsAreZero (field_of k) }
+{}
+
+/// Small presentations, whose answers show that the definitions mean something: of two even generators the bracket isn't 0 and the square is; of an odd
+/// generator the square isn't 0 and the cube is, modulo 3 by the cube rule; and a table with every bracket 0 isn't the standard one.
+pub fn small_presentations()
+    ensures pair { (k : Kind) → PairIsFree (field_of k) }
+    ensures even_square { (k : Kind) → EvenSquareIsZero (field_of k) }
+    ensures odd_square { (k : Kind) → OddSquareIsFree (field_of k) }
+    ensures odd_cube { (k : Kind) → OddCubeIsZero (field_of k) }
+    ensures cube_rule { (k : Kind) → OddCubeIsZeroByCube (field_of k) }
+    ensures zero_table { (k : Kind) → ZeroBracketsFail (field_of k) }
 {}

@@ -1,0 +1,4 @@
+pub mod Gathered
+pub mod Closed
+pub mod Sources
+pub mod Fitting

@@ -1,0 +1,68 @@
+ghost use Rattle.std.specs.Prelude.{◌≡◌, ◌<◌, ◌≤◌, ◌+◌, ◌^◌, [], length, All, OnOk};
+ghost use Rattle.fpl_numbers.specs.Results.{Gives, GivesBy};
+ghost use Rattle.fpl_elimination.specs.Plain.{IsPivotRow, close_at, close_to};
+
+use crate::pivots::{Pivot, Pivots};
+use crate::sweeping::sweep_below;
+use fpl_log::{Step, StepList, Terms};
+use fpl_rows::Rows;
+use fpl_scalar::{Fault, Field};
+use std::alloc::Global;
+
+/// Closed rows by ascending pivot, and all steps that made them.
+#[derive(Drop)]
+pub struct Closed<F: Field> {
+    pub steps: StepList,
+    pub rows: Rows<F>,
+}
+
+/// Sweeps the pivot row at position `s + 1` by the closed rows below, and adds it to these.
+pub fn close_place<F: Field>(
+    alloc: Global,
+    field: &F,
+    pivots: &Pivots<F>,
+    size: u32,
+    s: u32,
+    closed: &mut Pivots<F>,
+    steps: &mut StepList,
+) -> Result<(), Fault>
+    requires place { s < size }
+    requires pivots { All (IsPivotRow (F.kind_of field.now) size) pivots.now }
+    requires closed { All (IsPivotRow (F.kind_of field.now) size) closed.old }
+    ensures value { Gives result (record { pivots = closed.new; steps = steps.new }) (close_at (F.kind_of field.now) pivots.now s (record { pivots = closed.old; steps = steps.old })) }
+{
+    match pivots.find(s + 1) {
+        None => Ok(()),
+        Some(pivot) => {
+            let mut row = pivot.row().copy(alloc)?;
+            let mut terms = Terms::new(alloc);
+            sweep_below(field, closed, s, &mut row, &mut terms)?;
+            let step = steps.len() as u64 + 1;
+            closed.push(Pivot::of(s + 1, step, row))?;
+            let of = pivot.step();
+            steps.push(Step::Close { of, terms })?;
+            Ok(())
+        }
+    }
+}
+
+/// Closes the pivot rows at the first `size` positions.
+pub fn close_all<F: Field>(
+    alloc: Global,
+    field: &F,
+    pivots: &Pivots<F>,
+    size: u32,
+    steps: &mut StepList,
+) -> Result<Pivots<F>, Fault>
+    requires pivots { All (IsPivotRow (F.kind_of field.now) size) pivots.now }
+    ensures value { GivesBy (λ closed. record { pivots = closed; steps = steps.new }) result (close_to (F.kind_of field.now) pivots.now size (record { pivots = []; steps = steps.old })) }
+{
+    let mut closed = Pivots::new(alloc);
+    for s in 0..size {
+        match close_place(alloc, field, pivots, size, s, &mut closed, steps) {
+            Ok(()) => {}
+            Err(fault) => return Err(fault),
+        }
+    }
+    Ok(closed)
+}

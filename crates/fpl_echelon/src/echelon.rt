@@ -1,0 +1,137 @@
+ghost use Rattle.std.specs.Prelude.{◌≡◌, ◌<◌, ◌≤◌, ◌+◌, [], length, IfOk, OnErr};
+ghost use Rattle.fpl_numbers.specs.Numbers.{IsField};
+ghost use Rattle.fpl_numbers.specs.Results.{GivesBy, map_ok};
+ghost use Rattle.fpl_scalar.specs.Vectors.{AreElements};
+ghost use Rattle.fpl_elimination.specs.Plain.{inserted_as, insert_of, close_of, rows_of};
+ghost use Rattle.fpl_elimination.specs.Spans.{SpansWith, ClosesTo};
+ghost use Rattle.fpl_echelon.specs.Outcomes.{lead_in, closed_as};
+
+use crate::close::{Closed, close_all};
+use crate::keep::keep;
+use crate::outcome::Outcome;
+use crate::pivots::Pivots;
+use crate::sweeping::sweep_below;
+use fpl_log::{Origin, Step, StepList, Terms};
+use fpl_rows::Row;
+use fpl_scalar::{Fault, Field, Num};
+use fpl_steps::Steps;
+use std::alloc::{AllocError, Global};
+use std::marker::Model;
+use std::sync::ledger::Ledger;
+
+/// Rows in echelon form over a number of positions, and the steps that made them.
+#[derive(Drop)]
+pub struct Echelon<F: Field> {
+    alloc: Global,
+    field: F,
+    size: u32,
+    pivots: Pivots<F>,
+    steps: StepList,
+}
+
+impl<F: Field> Model for Echelon<F> {
+    ghost use Rattle.std.specs.Prelude.{All};
+    ghost use Rattle.fpl_elimination.specs.Plain.{Elimination, IsPivotRow};
+
+    ghost Value = { Elimination };
+
+    ghost view = { λ e. record { kind = F.kind_of e.field; size = e.size; held = record { pivots = e.pivots; steps = e.steps } } };
+
+    ghost invariant = { λ e. All (IsPivotRow (F.kind_of e.field) e.size) e.pivots };
+}
+
+impl<F: Field> Echelon<F> {
+    /// No rows, over `n` positions.
+    pub fn start(alloc: Global, field: F, n: u32) -> Result<Echelon<F>, AllocError>
+        ensures { IfOk result (λ e. e ≡ record { kind = F.kind_of field; size = n; held = record { pivots = []; steps = [] } }) }
+    {
+        Ok(Echelon {
+            alloc,
+            field,
+            size: n,
+            pivots: Pivots::new(alloc),
+            steps: StepList::new(alloc),
+        })
+    }
+
+    /// Sweeps the row by the pivot rows present, scales the rest to lead 1 and keeps it, or
+    /// finds it dependent; records one Insert step, with scale 0 where it is dependent.
+    /// After a `Fault` the echelon is unchanged and the row is gone.
+    pub fn insert<L: Ledger>(
+        &mut self,
+        row: Row<F>,
+        origin: Origin,
+        steps: &mut Steps<L>,
+    ) -> Result<Outcome, Fault>
+        requires size { length row ≡ self.old.size }
+        requires elements { AreElements self.old.kind row }
+        ensures value { GivesBy (λ outcome. inserted_as (lead_in outcome) self.new.held) result (insert_of self.old row origin) }
+        ensures kind { self.new.kind ≡ self.old.kind }
+        ensures size { self.new.size ≡ self.old.size }
+        ensures unchanged { OnErr result (self.new ≡ self.old) }
+        ensures spans { IfOk result (λ outcome. SpansWith self.old row self.new.held.pivots (lead_in outcome)) }
+        ensures step { steps.new ≡ steps.old + 1 }
+    {
+        steps.tick();
+        self.put_in(row, origin)
+    }
+
+    fn put_in(&mut self, mut row: Row<F>, origin: Origin) -> Result<Outcome, Fault>
+        requires size { length row ≡ self.old.size }
+        requires elements { AreElements self.old.kind row }
+        ensures value { GivesBy (λ outcome. inserted_as (lead_in outcome) self.new.held) result (insert_of self.old row origin) }
+        ensures kind { self.new.kind ≡ self.old.kind }
+        ensures size { self.new.size ≡ self.old.size }
+        ensures unchanged { OnErr result (self.new ≡ self.old) }
+        ensures spans { IfOk result (λ outcome. SpansWith self.old row self.new.held.pivots (lead_in outcome)) }
+    {
+        let mut terms = Terms::new(self.alloc);
+        sweep_below(&self.field, &self.pivots, self.size, &mut row, &mut terms)?;
+        match row.lead() {
+            None => {
+                let scale = Num {
+                    numerator: 0,
+                    denominator: 1,
+                };
+                self.steps.push(Step::Insert {
+                    origin,
+                    terms,
+                    scale,
+                })?;
+                Ok(Outcome::Dependent)
+            }
+            Some(lead) => {
+                keep(
+                    &self.field,
+                    &mut self.pivots,
+                    &mut self.steps,
+                    lead,
+                    row,
+                    origin,
+                    terms,
+                )?;
+                Ok(Outcome::Pivot(lead))
+            }
+        }
+    }
+
+    /// The closed rows of the same span by ascending pivot, and all steps: the Inserts first,
+    /// then one Close step for each pivot.
+    pub fn close(mut self) -> Result<Closed<F>, Fault>
+        ensures value { GivesBy (λ closed. closed_as closed.rows closed.steps) result (map_ok (λ h. closed_as (rows_of h.pivots) h.steps) (close_of self)) }
+        ensures form { IfOk result (λ closed. ClosesTo self closed.rows) }
+    {
+        let pivots = close_all(
+            self.alloc,
+            &self.field,
+            &self.pivots,
+            self.size,
+            &mut self.steps,
+        )?;
+        let rows = pivots.into_rows(self.alloc)?;
+        Ok(Closed {
+            steps: self.steps,
+            rows,
+        })
+    }
+}

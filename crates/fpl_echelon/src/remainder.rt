@@ -1,0 +1,55 @@
+ghost use Rattle.std.specs.Prelude.{◌≡◌, ◌<◌, ◌≤◌, ◌+◌, length, IfOk};
+ghost use Rattle.fpl_numbers.specs.Results.{GivesBy};
+ghost use Rattle.fpl_scalar.specs.Vectors.{AreElements};
+ghost use Rattle.fpl_rows.specs.Meaning.{IsRowOf, IsClosedList};
+ghost use Rattle.fpl_elimination.specs.Plain.{take_row, sweep_rows};
+ghost use Rattle.fpl_elimination.specs.Spans.{SweepsTo};
+
+use fpl_rows::{Row, Rows};
+use fpl_scalar::{Fault, Field};
+use std::alloc::Global;
+
+/// Takes `other` off as often as the row has its lead.
+fn take<F: Field>(field: &F, other: &Row<F>, mut row: Row<F>) -> Result<Row<F>, Fault>
+    requires other { IsRowOf (F.kind_of field.now) (length row) other.now }
+    requires elements { AreElements (F.kind_of field.now) row }
+    ensures value { GivesBy (λ left. left) result (take_row (F.kind_of field.now) other.now row) }
+    ensures elements { IfOk result (λ left. IsRowOf (F.kind_of field.now) (length row) left) }
+{
+    match other.lead() {
+        None => Ok(row),
+        Some(lead) => {
+            let factor = row.at(lead);
+            if field.is_zero(factor) {
+                return Ok(row);
+            }
+            row.axpy(field, field.neg(factor), other)?;
+            Ok(row)
+        }
+    }
+}
+
+/// What is left of a row when closed rows are taken off, from the greatest pivot down: 0 exactly
+/// where the row is in their span.
+pub fn sweep<F: Field>(
+    _alloc: Global,
+    field: &F,
+    rows: &Rows<F>,
+    row: Row<F>,
+) -> Result<Row<F>, Fault>
+    requires closed { IsClosedList (F.kind_of field.now) (length row) rows.now }
+    requires elements { AreElements (F.kind_of field.now) row }
+    ensures value { GivesBy (λ left. left) result (sweep_rows (F.kind_of field.now) rows.now row) }
+    ensures left { IfOk result (λ left. IsRowOf (F.kind_of field.now) (length row) left) }
+    ensures means { IfOk result (λ left. SweepsTo (F.kind_of field.now) rows.now row left) }
+{
+    let mut left = row;
+    let mut k = rows.len();
+    while k > 0 {
+        k -= 1;
+        if let Some(other) = rows.get(k) {
+            left = take(field, other, left)?;
+        }
+    }
+    Ok(left)
+}

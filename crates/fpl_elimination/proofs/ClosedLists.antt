@@ -1,0 +1,128 @@
+-- Ascending reduced pivot rows are a closed list of the same span.
+use Rattle.std.specs.Prelude.{◌≡◌, ◌≢◌, ℕ, zero, suc, ◌+◌, ◌-◌, ◌<◌, ◌≤◌, ◌↔◌, List, [], ◌∷◌, length, get_or, map, All, Option, Some, None, option_map, unwrap_or, Bool, true, false, cond}
+use Rattle.std.specs.List.{find}
+use mathlib.Core.Path.{sym, refl, ap, ap₂, ◌∙◌, subst}
+use native.Mathlib.Omega.{arith}
+use native.Mathlib.Decide.{dec_lt}
+use Rattle.std.proofs.lemmas.List.{get_or-map, length-map}
+use Rattle.fpl_fields.specs.Field.{Field}
+use Rattle.fpl_linear.specs.Vector.{Vector}
+use Rattle.fpl_linear.specs.Lists.{vector_of}
+use Rattle.fpl_linear.specs.Span.{Spanned, InSpan, SpansKind}
+use Rattle.fpl_linear.specs.Closed.{IsClosed}
+use Rattle.fpl_linear.specs.Echelon.{Pivots, IsRow, HasLead, IsReduced}
+use Rattle.fpl_linear.proofs.Span.{spanned_one, in_span, kind_span_iff}
+use Rattle.fpl_numbers.specs.declared.number.Num.{Num}
+use Rattle.fpl_numbers.specs.declared.number.Kind.{Kind}
+use Rattle.fpl_numbers.specs.Numbers.{IsField, is_nought, residue}
+use Rattle.fpl_numbers.specs.Reads.{Reads}
+use Rattle.fpl_rows.specs.Positions.{lead_of}
+use Rattle.fpl_rows.specs.Meaning.{pivot_of}
+use Rattle.fpl_rows.proofs.Fits.{some_same, none_some, all_found}
+use Rattle.fpl_rows.proofs.Leads.{lead_found}
+use Rattle.fpl_elimination.specs.Plain.{PivotRow, IsPivotRow, stands_at, rows_of}
+use Rattle.fpl_elimination.specs.Spans.{table_of, InSpanAt}
+use Rattle.fpl_elimination.proofs.PivotRows.{found_lead}
+use Rattle.fpl_elimination.proofs.Ascending.{AscendsFrom, not_below, found_first, found_later}
+
+no_row : PivotRow
+no_row = record { lead = 0; step = 0; row = [] }
+
+-- in an ascending list each row is found by its lead, and leads ascend
+pub ascends_found : (m n : ℕ) (ps : List PivotRow) (d : PivotRow) (i : ℕ) → AscendsFrom m n ps → i < length ps → (m < (get_or ps i d).lead) × (find (stands_at (get_or ps i d).lead) ps ≡ Some (get_or ps i d))
+ascends_found m n [] d i h l = absurd (omega arith)
+ascends_found m n (p ∷ ps) d zero h l = (h.0, found_first p ps)
+ascends_found m n (p ∷ ps) d (suc i) h l =
+    let k = ascends_found p.lead n ps d i h.1 (omega arith) in
+    let below : p.lead < (get_or ps i d).lead = k.0 in
+    ((let a = h.0 in omega arith), found_later p ps (get_or ps i d).lead below ∙ k.1)
+
+pub leads_ascend : (m n : ℕ) (ps : List PivotRow) (d : PivotRow) (i j : ℕ) → AscendsFrom m n ps → i < j → j < length ps → (get_or ps i d).lead < (get_or ps j d).lead
+leads_ascend m n [] d i j h l k = absurd (omega arith)
+leads_ascend m n (p ∷ ps) d i zero h l k = absurd (omega arith)
+leads_ascend m n (p ∷ ps) d zero (suc j) h l k = (ascends_found p.lead n ps d j h.1 (omega arith)).0
+leads_ascend m n (p ∷ ps) d (suc i) (suc j) h l k = leads_ascend p.lead n ps d i j h.1 (omega arith) (omega arith)
+
+-- what is found stands somewhere
+pub found_at : (s : ℕ) (ps : List PivotRow) (p d : PivotRow) → find (stands_at s) ps ≡ Some p → (i : ℕ) × ((i < length ps) × (get_or ps i d ≡ p))
+found_at s [] p d e = absurd (none_some e)
+found_at s (q ∷ ps) p d e = go (stands_at s q) (found_at s ps p d) e
+  where
+    go : (b : Bool) → (find (stands_at s) ps ≡ Some p → (i : ℕ) × ((i < length ps) × (get_or ps i d ≡ p))) → cond b (Some q) (find (stands_at s) ps) ≡ Some p → (i : ℕ) × ((i < suc (length ps)) × (get_or (q ∷ ps) i d ≡ p))
+    go true k f = (0, (omega arith, some_same f))
+    go false k f = (let r = k f in (suc r.0, ((let l = r.1.0 in omega arith), r.1.1)))
+
+-- the rows of a table of pivots, in the order of their places
+record AreRowsOf (K : Field) (at : Pivots K) (count : ℕ) (row : ℕ → Vector K) (pivot : ℕ → ℕ) : Type 0 where
+  there : (i : ℕ) → i < count → at (pivot i) ≡ Some (row i)
+  ascend : (i j : ℕ) → i < j → j < count → pivot i < pivot j
+  all : (s : ℕ) (u : Vector K) → at s ≡ Some u → (i : ℕ) × ((i < count) × (pivot i ≡ s))
+
+rows_of_pivots : (K : Field) (at : Pivots K) (count : ℕ) (row : ℕ → Vector K) (pivot : ℕ → ℕ) → AreRowsOf K at count row pivot → SpansKind K (IsRow K at) count row
+rows_of_pivots K at count row pivot h = record {
+  each = λ u r. let f = h.all r.0 u r.1 in subst (InSpan K count row) (some_same (sym (h.there f.0 f.1.0) ∙ ap at f.1.1 ∙ r.1)) (in_span K count row f.0 f.1.0);
+  from = λ i l. spanned_one K (IsRow K at) (row i) (pivot i, h.there i l)
+}
+
+reduced_is_closed : (K : Field) (n : ℕ) (at : Pivots K) → IsReduced K n at → (count : ℕ) (row : ℕ → Vector K) (pivot : ℕ → ℕ) → AreRowsOf K at count row pivot →
+    IsClosed K count row pivot × ((v : Vector K) → InSpan K count row v ↔ Spanned K (IsRow K at) v)
+reduced_is_closed K n at r count row pivot h = (
+  record {
+    leads = λ i l. (r.echelon.has_lead (pivot i) (row i) (h.there i l)).leads;
+    above = λ i s l k. (r.echelon.has_lead (pivot i) (row i) (h.there i l)).above s k;
+    ascend = h.ascend;
+    apart = λ i j l k d. r.apart (pivot i) (pivot j) (row i) (row j) (h.there i l) (h.there j k) (apart i j l k d (dec_lt i j))
+  },
+  λ v. let s = kind_span_iff K (IsRow K at) count row (rows_of_pivots K at count row pivot h) v in (s.1, s.0)
+)
+  where
+    apart : (i j : ℕ) → i < count → j < count → i ≢ j → Dec (i < j) → pivot i ≢ pivot j
+    apart i j l k d (yes o) e = absurd (omega (arith, h.ascend i j o k, e))
+    apart i j l k d (no o) e = let p : j < i = omega (arith, o, d) in absurd (omega (arith, h.ascend j i p l, e))
+
+module _ (kind : Kind) (K : Field) (value : Num → K.Carrier) (reads : Reads kind K value) (listed : IsField kind) (n : ℕ) (ps : List PivotRow) (rows : All (IsPivotRow kind n) ps) (ascends : AscendsFrom 0 n ps) where
+  abbrev pub row_at : ℕ → Vector K
+  row_at i = vector_of K value (get_or (rows_of ps) i [])
+
+  abbrev pub pivot_at : ℕ → ℕ
+  pivot_at i = pivot_of (get_or (rows_of ps) i [])
+
+  row_is : (i : ℕ) → i < length ps → get_or (rows_of ps) i [] ≡ (get_or ps i no_row).row
+  row_is i l = get_or-map (λ p. p.row) ps i no_row [] l
+
+  pivot_is : (i : ℕ) → i < length ps → pivot_at i ≡ (get_or ps i no_row).lead - 1
+  pivot_is i l =
+      let h = rows i no_row l in
+      ap pivot_of (row_is i l) ∙ ap (λ o. unwrap_or o 1 - 1) (lead_found (get_or ps i no_row).row (get_or ps i no_row).lead h.from_one (let a = h.to_end in let b = h.length_is in omega arith) (ap is_nought h.leads) (λ t m k. h.above t m (let b = h.length_is in omega arith)))
+
+  there : (i : ℕ) → i < length ps → table_of K value ps (pivot_at i) ≡ Some (row_at i)
+  there i l =
+      let h = rows i no_row l in
+      ap (λ s. option_map (λ p. vector_of K value p.row) (find (stands_at s) ps)) (let a = pivot_is i l in let b = h.from_one in let e : pivot_at i + 1 ≡ (get_or ps i no_row).lead = omega arith in e)
+      ∙ ap (option_map (λ p. vector_of K value p.row)) (ascends_found 0 n ps no_row i ascends l).1 ∙ ap (λ w. Some (vector_of K value w)) (sym (row_is i l))
+
+  are_rows : AreRowsOf K (table_of K value ps) (length (rows_of ps)) row_at pivot_at
+  are_rows = record {
+    there = λ i l. there i (let m = length-map ps (λ p. p.row) in omega arith);
+    ascend = λ i j l k.
+        let m = length-map ps (λ p. p.row) in
+        let a = pivot_is i (omega arith) in
+        let b = pivot_is j (omega arith) in
+        let c = leads_ascend 0 n ps no_row i j ascends l (omega arith) in
+        let d = (rows i no_row (omega arith)).from_one in
+        omega arith;
+    all = λ s u e. found s u (find (stands_at (s + 1)) ps) refl e
+  }
+    where
+      found : (s : ℕ) (u : Vector K) (o : Option PivotRow) → find (stands_at (s + 1)) ps ≡ o → option_map (λ p. vector_of K value p.row) o ≡ Some u → (i : ℕ) × ((i < length (rows_of ps)) × (pivot_at i ≡ s))
+      found s u None f e = absurd (none_some e)
+      found s u (Some p) f e =
+          let m = length-map ps (λ p. p.row) in
+          let r = found_at (s + 1) ps p no_row f in
+          let q = found_lead (s + 1) ps p (sym f) in
+          let a = pivot_is r.0 r.1.0 in
+          let b : (get_or ps r.0 no_row).lead ≡ p.lead = ap (λ w. w.lead) r.1.1 in
+          (r.0, ((let l = r.1.0 in omega arith), omega arith))
+
+  pub closed_list : IsReduced K n (table_of K value ps) → IsClosed K (length (rows_of ps)) row_at pivot_at × ((v : Vector K) → InSpan K (length (rows_of ps)) row_at v ↔ InSpanAt K value ps v)
+  closed_list r = reduced_is_closed K n (table_of K value ps) r (length (rows_of ps)) row_at pivot_at are_rows

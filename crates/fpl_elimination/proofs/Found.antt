@@ -1,0 +1,117 @@
+-- What the code of an elimination asks of pivot rows: the row that is found, the rows that are kept, the operation at which closing stops.
+use Rattle.std.specs.Prelude.{◌≡◌, ◌≢◌, ℕ, zero, suc, ◌+◌, ◌-◌, ◌<◌, ◌≤◌, List, [], ◌∷◌, ◌++◌, length, get_or, All, Option, Some, None, Result, Ok, Err}
+use Rattle.std.specs.List.{find}
+use mathlib.Core.Path.{sym, refl, ap, ◌∙◌, subst}
+use native.Mathlib.Omega.{arith}
+use native.Mathlib.Decide.{ℕ_discrete}
+use Rattle.fpl_fields.specs.Field.{Field}
+use Rattle.fpl_linear.specs.Vector.{Vector, scale}
+use Rattle.fpl_linear.specs.Lists.{vector_of}
+use Rattle.fpl_linear.specs.Echelon.{HasLead}
+use Rattle.fpl_linear.proofs.Numbers.{times-nought}
+use Rattle.fpl_numbers.specs.declared.number.Num.{Num}
+use Rattle.fpl_numbers.specs.declared.number.Kind.{Kind}
+use Rattle.fpl_numbers.specs.declared.number.Unfit.{Unfit}
+use Rattle.fpl_numbers.specs.declared.number.Fault.{Fault}
+use Rattle.fpl_numbers.specs.declared.number.Fault.TheVariants.{NoMemory}
+use Rattle.fpl_numbers.specs.declared.number.Fault.TheVariants.{Unfit as Unfits}
+use Rattle.fpl_numbers.specs.Numbers.{IsField, IsElement, residue, inverse_of}
+use Rattle.fpl_numbers.specs.Results.{Gives, IsFault, and_then}
+use Rattle.fpl_numbers.specs.Kinds.{field_of, number_of}
+use Rattle.fpl_numbers.specs.Reads.{Reads}
+use Rattle.fpl_numbers.proofs.KindReads.{kind_reads}
+use Rattle.fpl_scalar.specs.Vectors.{AreElements, scale_of}
+use Rattle.fpl_rows.specs.Positions.{lead_of}
+use Rattle.fpl_rows.proofs.Fits.{all_found, all_more, part_fits}
+use Rattle.fpl_rows.proofs.Leads.{lead_is}
+use Rattle.fpl_rows.proofs.Readings.{at_place, nought_past, scale_reads}
+use Rattle.fpl_log.specs.declared.step.Origin.{Origin}
+use Rattle.fpl_elimination.specs.Plain.{PivotRow, IsPivotRow, stands_at, Swept, Held, Elimination, Inserted, keep_of, insert_of, close_at, close_to, close_of, rows_of}
+use Rattle.fpl_elimination.specs.Spans.{SpansWith, ClosesTo}
+use Rattle.fpl_elimination.proofs.PivotRows.{pivot_row}
+use Rattle.fpl_elimination.proofs.Spans.{standing, insert_reads, close_reads, close_form}
+use Rattle.fpl_elimination.proofs.Ascending.{close_ascends}
+use Rattle.fpl_elimination.proofs.ClosedLists.{closed_list}
+use Rattle.fpl_rows.specs.Meaning.{IsRowOf, AreRows}
+
+pub found_length : (kind : Kind) (n s : ℕ) (pivots : List PivotRow) (p : PivotRow) → All (IsPivotRow kind n) pivots → Some p ≡ find (stands_at s) pivots → n ≡ length p.row
+found_length kind n s pivots p h e = sym (all_found (IsPivotRow kind n) (stands_at s) pivots p h e).length_is
+
+pub found_elements : (kind : Kind) (n s : ℕ) (pivots : List PivotRow) (p : PivotRow) → All (IsPivotRow kind n) pivots → Some p ≡ find (stands_at s) pivots → AreElements kind p.row
+found_elements kind n s pivots p h e = (all_found (IsPivotRow kind n) (stands_at s) pivots p h e).elements
+
+pub found_fits : (kind : Kind) (n s : ℕ) (pivots : List PivotRow) (p : PivotRow) → s < n → All (IsPivotRow kind n) pivots → Some p ≡ find (stands_at (s + 1)) pivots → s ≤ length p.row
+found_fits kind n s pivots p l h e = let f = found_length kind n (s + 1) pivots p h e in omega arith
+
+pub close_stops : (kind : Kind) (pivots : List PivotRow) (n s : ℕ) (h g : Held) (u : Unfit) → s < n → close_to kind pivots s h ≡ Ok g → close_at kind pivots s g ≡ Err u → close_to kind pivots n h ≡ Err u
+close_stops kind pivots zero s h g u l e f = absurd (omega arith)
+close_stops kind pivots (suc n) s h g u l e f = go (ℕ_discrete s n) (λ k. close_stops kind pivots n s h g u k e f)
+  where
+    go : Dec (s ≡ n) → (s < n → close_to kind pivots n h ≡ Err u) → and_then (λ g. close_at kind pivots n g) (close_to kind pivots n h) ≡ Err u
+    go (yes d) k = subst (λ n. and_then (λ g. close_at kind pivots n g) (close_to kind pivots n h) ≡ Err u) d (ap (and_then (λ g. close_at kind pivots s g)) e ∙ f)
+    go (no d) k = ap (and_then (λ g. close_at kind pivots n g)) (k (omega arith))
+
+pub close_fault : (U : Type 0) (kind : Kind) (pivots : List PivotRow) (n s : ℕ) (h g now : Held) (e : Fault) → s < n → close_to kind pivots s h ≡ Ok g →
+    Gives {U = U} (Err e) now (close_at kind pivots s g) → IsFault e (close_to kind pivots n h)
+close_fault U kind pivots n s h g now (Unfits u) l d k = close_stops kind pivots n s h g u l d k
+close_fault U kind pivots n s h g now NoMemory l d k = tt
+
+scaled_lead : (K : Field) (c : K.Carrier) (u : Vector K) (s : ℕ) → K.times c (u s) ≡ K.unit → ((t : ℕ) → s < t → u t ≡ K.nought) → HasLead K s (scale K c u)
+unfolding scale
+scaled_lead K c u s one past = record { leads = one; above = λ t l. ap (K.times c) (past t l) ∙ times-nought K c }
+
+module _ (kind : Kind) (K : Field) (value : Num → K.Carrier) (reads : Reads kind K value) (listed : IsField kind) (n : ℕ) where
+  -- a row scaled by the inverse of its lead is a pivot row
+  scaled_pivot : (row z : List Num) (s step : ℕ) → AreElements kind row → length row ≡ n → lead_of row ≡ Some s →
+    scale_of kind (inverse_of kind (get_or row (s - 1) (residue 0))) row ≡ Ok z → IsPivotRow kind n (record { lead = s; step = step; row = z })
+  scaled_pivot row z s step a len lead e =
+      let k = lead_is row (length row) s lead in
+      let one = k.from_one in
+      let end = k.to_end in
+      let c : Num = get_or row (s - 1) (residue 0) in
+      let c_in : IsElement kind c = a (s - 1) (residue 0) (omega arith) in
+      let i = reads.inverse c c_in k.leads in
+      let r = scale_reads kind K value reads row z (inverse_of kind c) a i.0 e in
+      pivot_row kind K value reads listed n (record { lead = s; step = step; row = z }) r.elements (r.length_is ∙ len) one (omega arith)
+        (subst (HasLead K (s - 1)) (sym r.vector)
+          (scaled_lead K (value (inverse_of kind c)) (vector_of K value row) (s - 1) (ap (K.times (value (inverse_of kind c))) (at_place kind K value reads row (s - 1) (residue 0) (omega arith)) ∙ i.1)
+            (λ t l. nought_past kind K value reads row s a k t (omega arith))))
+
+  keep_at : (h g : Held) (origin : Origin) (x : Swept) (s : ℕ) → All (IsPivotRow kind n) h.pivots → AreElements kind x.row → length x.row ≡ n → lead_of x.row ≡ Some s →
+    keep_of kind h origin x (Some s) ≡ Ok g → All (IsPivotRow kind n) g.pivots
+  keep_at h g origin x s all a len lead e =
+      let f = part_fits _ (scale_of kind (inverse_of kind (get_or x.row (s - 1) (residue 0))) x.row) g e in
+      subst (λ g. All (IsPivotRow kind n) g.pivots) (sym f.1.1) (all_more (IsPivotRow kind n) h.pivots _ all (scaled_pivot x.row f.0 s (length h.steps + 1) a len lead f.1.0))
+
+-- with a row kept, the pivot rows are pivot rows again
+pub keep_pivots : (kind : Kind) (n : ℕ) (h g : Held) (origin : Origin) (x : Swept) (s : ℕ) → IsField kind → All (IsPivotRow kind n) h.pivots → AreElements kind x.row → length x.row ≡ n → lead_of x.row ≡ Some s →
+    keep_of kind h origin x (Some s) ≡ Ok g → All (IsPivotRow kind n) g.pivots
+keep_pivots kind n h g origin x s listed = keep_at kind (field_of kind) (number_of kind) (kind_reads kind listed) listed n h g origin x s
+
+-- so are the closed rows
+pub close_pivots : (kind : Kind) (n m : ℕ) (pivots : List PivotRow) (h g : Held) → IsField kind → All (IsPivotRow kind n) pivots → m ≤ n → h.pivots ≡ [] → close_to kind pivots m h ≡ Ok g → All (IsPivotRow kind n) g.pivots
+close_pivots kind n m pivots h g listed all l none e =
+    (close_reads kind (field_of kind) (number_of kind) (kind_reads kind listed) listed n pivots m h g (standing kind (field_of kind) (number_of kind) (kind_reads kind listed) listed n pivots all) l none e).rows
+
+-- what inserting means
+pub insert_means : (e : Elimination) (row : List Num) (origin : Origin) (r : Inserted) → IsField e.kind → All (IsPivotRow e.kind e.size) e.held.pivots → length row ≡ e.size → AreElements e.kind row →
+    insert_of e row origin ≡ Ok r → SpansWith e row r.held.pivots r.lead
+insert_means e row origin r listed all len a is =
+    let reads = kind_reads e.kind listed in
+    (insert_reads e.kind (field_of e.kind) (number_of e.kind) reads listed e.size e.held row origin r (standing e.kind (field_of e.kind) (number_of e.kind) reads listed e.size e.held.pivots all) a len is).inserted
+
+rows_are : (kind : Kind) (n : ℕ) (ps : List PivotRow) → All (IsPivotRow kind n) ps → AreRows kind n (rows_of ps)
+rows_are kind n [] all i d l = absurd (omega arith)
+rows_are kind n (p ∷ ps) all zero d l = (let h = all 0 p (omega arith) in record { elements = h.elements; length_is = h.length_is })
+rows_are kind n (p ∷ ps) all (suc i) d l = rows_are kind n ps (λ j e m. all (suc j) e (omega arith)) i d (omega arith)
+
+-- what closing means
+pub close_means : (e : Elimination) (g : Held) → IsField e.kind → All (IsPivotRow e.kind e.size) e.held.pivots → close_of e ≡ Ok g → ClosesTo e (rows_of g.pivots)
+close_means e g listed all is =
+    let reads = kind_reads e.kind listed in
+    let f = close_form e.kind (field_of e.kind) (number_of e.kind) reads listed e.size e.held g (standing e.kind (field_of e.kind) (number_of e.kind) reads listed e.size e.held.pivots all) is in
+    let c = closed_list e.kind (field_of e.kind) (number_of e.kind) reads listed e.size g.pivots f.rows (close_ascends e.kind e.held.pivots e.size (record { pivots = []; steps = e.held.steps }) g refl is) f.reduced in
+    record {
+      closed = record { are_rows = rows_are e.kind e.size g.pivots f.rows; closed = c.0 };
+      span = λ v. ((λ k. (f.span v).0 ((c.1 v).0 k)), (λ k. (c.1 v).1 ((f.span v).1 k)))
+    }

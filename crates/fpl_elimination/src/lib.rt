@@ -1,0 +1,2 @@
+//! The plain run of an elimination, and what it means.
+#![tactic(auto)]

@@ -1,0 +1,13 @@
+pub mod Fits
+pub mod Rows
+pub mod Walks
+pub mod Units
+pub mod Pairs
+pub mod Products
+pub mod Values
+pub mod Forms
+pub mod Triples
+pub mod Listed
+pub mod Sources
+pub mod Fitting
+pub mod Laws

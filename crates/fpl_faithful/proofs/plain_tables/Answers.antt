@@ -1,0 +1,14 @@
+use Rattle.fpl_faithful.proofs.Laws.{sound_stands, weights_of_built, weights_of_table, symbols_stand}
+use Rattle.fpl_faithful.proofs.plain_tables.Goals as goal
+
+pub returns-clause-presentation : goal.returns-clause-presentation
+returns-clause-presentation c = sound_stands
+
+pub returns-clause-built : goal.returns-clause-built
+returns-clause-built c = λ p sound T kind generators built. weights_of_built p T kind generators sound built
+
+pub returns-clause-standard : goal.returns-clause-standard
+returns-clause-standard c = weights_of_table
+
+pub returns-clause-symbols : goal.returns-clause-symbols
+returns-clause-symbols c = symbols_stand

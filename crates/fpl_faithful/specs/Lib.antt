@@ -1,0 +1,4 @@
+pub mod Premises
+pub mod RowLaws
+pub mod TableLaws
+pub mod PrimeLaws

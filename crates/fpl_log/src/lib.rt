@@ -1,0 +1,12 @@
+//! Steps of an elimination, their conclusions, and the sections that keep them.
+#![tactic(auto)]
+
+mod closed;
+mod section;
+mod step;
+mod terms;
+
+pub use closed::{ClosedList, ClosedRow, Coefficient};
+pub use section::{Section, Sections};
+pub use step::{Origin, Step, StepList};
+pub use terms::{Term, Terms};

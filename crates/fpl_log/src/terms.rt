@@ -1,0 +1,69 @@
+ghost use Rattle.std.specs.Prelude.{◌≡◌, ◌<◌, ◌^◌, ◌++◌, ◌∷◌, [], IfOk, OnOk, OnErr, List, length, slice_get};
+ghost use Rattle.std.specs.Option.{option_copied};
+
+use fpl_scalar::Num;
+use std::alloc::{AllocError, Global};
+use std::marker::Model;
+
+/// A step, counted from 1, and how often its conclusion is taken off.
+#[derive(Clone, Copy, Debug, PartialEq, Eq)]
+pub struct Term {
+    pub step: u64,
+    pub factor: Num,
+}
+
+/// The terms of a step, in the order in which they are taken off.
+#[derive(Drop)]
+pub struct Terms {
+    items: Vec<Term>,
+}
+
+impl Model for Terms {
+    ghost use Rattle.std.specs.Prelude.{List};
+    ghost use Rattle.fpl_log.specs.declared.terms.Term.{Term};
+
+    ghost Value = { List Term };
+
+    ghost view = { λ l. l.items.items };
+}
+
+impl Terms {
+    pub fn new(alloc: Global) -> Self
+        ensures { result ≡ [] }
+    {
+        Terms {
+            items: Vec::new(alloc),
+        }
+    }
+
+    pub fn len(&self) -> usize
+        ensures value { result ≡ length self.now }
+        ensures range { length self.now < 2 ^ 63 }
+    {
+        self.items.len()
+    }
+
+    /// Term `n`, counted from 0.
+    pub fn get(&self, n: usize) -> Option<&Term>
+        ensures { option_copied result ≡ slice_get self.now n }
+    {
+        self.items.get(n)
+    }
+
+    /// Puts it last. On a refusal the list is unchanged and the item is gone.
+    pub fn push(&mut self, item: Term) -> Result<(), AllocError>
+        ensures ok { OnOk result (self.new ≡ self.old ++ item ∷ []) }
+        ensures err { OnErr result (self.new ≡ self.old) }
+    {
+        self.items.push(item)?;
+        Ok(())
+    }
+
+    pub fn copy(&self, alloc: Global) -> Result<Terms, AllocError>
+        ensures { IfOk result (λ l. l ≡ self.now) }
+    {
+        let mut items = Vec::new(alloc);
+        items.extend_from_slice(&self.items)?;
+        Ok(Terms { items })
+    }
+}

@@ -1,0 +1,2 @@
+//! The source rows of a weight: relations, Jacobi identities and cubes, as rows over the weight's symbols.
+#![tactic(auto)]
