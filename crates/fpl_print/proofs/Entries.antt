@@ -37,7 +37,7 @@ entry_elements T h i j =
     (all_default (λ rows. All (AreElements T.kind) rows) _ i [] (all_none _)
     (all_default (λ level. All (λ rows. All (AreElements T.kind) rows) level) T.entries ((plain_basis T i).weight + (plain_basis T j).weight - 1) [] (all_none _) h.1))
 
-abbrev IsWithin : PlainTable → Symbol → Type 0
+abbrev pub IsWithin : PlainTable → Symbol → Type 0
 IsWithin T (of_generator g) = Unit {0}
 IsWithin T (of_pair i j) = (i < length T.basis) × (j < length T.basis) × (first_partner T i ≤ j) × ((plain_basis T i).weight + (plain_basis T j).weight ≤ T.weight)
 
