@@ -13,9 +13,6 @@ use Rattle.fpl_algebra.proofs.Homogeneous.WeightsAre.{weight_end, weight_more}
 use Rattle.fpl_algebra.proofs.Degrees.{weight_means, WeightMeans, equation_weight, equation_parity}
 use Rattle.fpl_algebra.proofs.Homogeneous.{IsHomogeneous}
 
-same_self : (d : ℕ) → nat_eq d d ≡ true
-same_self d = grind arith
-
 -- void expressions have no weight as written, or are mixed
 abbrev Nowhere : Degree ℕ → Type 0
 Nowhere any = Unit {0}

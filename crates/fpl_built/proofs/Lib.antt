@@ -1,3 +1,4 @@
+pub mod Sweeps
 pub mod Next
 pub mod NextSound
 pub mod BuiltFacts

@@ -28,6 +28,7 @@ use Rattle.fpl_linear.proofs.Vectors.{vplus-vzero, scale-vzero, scale-nought, pl
 use Rattle.fpl_linear.proofs.Linear.{IsLinear, linear_vzero, linear_total}
 use Rattle.fpl_values.proofs.Products.{bracket_places}
 use Rattle.fpl_algebra.proofs.Derived.{of_path, both_same, combined_vzero, combined_vplus, combined_scale, combined_place}
+use Rattle.fpl_built.proofs.Sweeps.{swept_free}
 use Rattle.fpl_linear.proofs.Places.{by_places, Only}
 use Rattle.fpl_tables.proofs.Relations.{val_of, val_kept}
 use Rattle.fpl_tables.proofs.Sources.{less_none, pair_derived, outer_derived, right_derived, jacobi_derived}
@@ -146,16 +147,10 @@ module _ (K : Field) (P : Presentation K.Carrier) (hom : IsHomogeneous P) (T T' 
       ∙ sym (linear_total K means linear' m (λ s. scale K (u s) (place K s))) ∙ ap means (sym (from_places K m u h))
 
   -- a symbol that is no pivot means its place in the new basis
-  swept_free : (s : ℕ) → ((i : ℕ) → i < next.number_of_rows → next.pivot i ≢ s) → swept K next.number_of_rows next.row next.pivot (place K s) ≡ place K s
-  swept_free s h =
-      ap (λ w. vplus K (place K s) (scale K (K.minus K.unit) w))
-      (total_none K next.number_of_rows _ (λ i l. ap (λ w. scale K w (next.row i)) (place_other K s (next.pivot i) (λ e. h i l (sym e))) ∙ scale-nought K _))
-      ∙ ap (vplus K (place K s)) (scale-vzero K _) ∙ vplus-vzero K _
-
   pub means_slot : (i : ℕ) → i < next.count → means (place K (next.slot i)) ≡ place K (n + i)
   unfolding meaning_of
   means_slot i l =
-      ap (relabel K (slot_of n next.count next.slot)) (swept_free (next.slot i) (next.free.there i l).1)
+      ap (relabel K (slot_of n next.count next.slot)) (swept_free K next.number_of_rows next.row next.pivot (next.slot i) (next.free.there i l).1)
       ∙ relabel_place K n next.count next.slot next.free.ascend i l
 
   tree_val' : (k : ℕ) → k < length T'.basis → val K T' (tree_next k) ≡ place K k

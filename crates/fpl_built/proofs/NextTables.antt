@@ -15,7 +15,7 @@ use Rattle.fpl_linear.specs.Span.{SpansKind}
 use Rattle.fpl_algebra.specs.Built.{AreThose, IsNext}
 use Rattle.fpl_algebra.specs.NextTable.{is_pivot, free_places, new_basis, free_list, means_next, next_table}
 
-pivot_is : (n : ℕ) (pivot : ℕ → ℕ) (s : ℕ) → is_pivot n pivot s ≡ true → (i : ℕ) × (i < n) × (pivot i ≡ s)
+pub pivot_is : (n : ℕ) (pivot : ℕ → ℕ) (s : ℕ) → is_pivot n pivot s ≡ true → (i : ℕ) × (i < n) × (pivot i ≡ s)
 unfolding is_pivot
 pivot_is zero pivot s e = grind arith
 pivot_is (suc n) pivot s e = go (ℕ_discrete (pivot n) s) (pivot_is n pivot s)
@@ -24,7 +24,7 @@ pivot_is (suc n) pivot s e = go (ℕ_discrete (pivot n) s) (pivot_is n pivot s)
     go (yes d) h = (n, omega arith, d)
     go (no d) h = let r = h (grind arith) in (r.0, omega (arith, r.1), r.2)
 
-no_pivot_is : (n : ℕ) (pivot : ℕ → ℕ) (s : ℕ) → is_pivot n pivot s ≡ false → (i : ℕ) → i < n → pivot i ≢ s
+pub no_pivot_is : (n : ℕ) (pivot : ℕ → ℕ) (s : ℕ) → is_pivot n pivot s ≡ false → (i : ℕ) → i < n → pivot i ≢ s
 unfolding is_pivot
 no_pivot_is zero pivot s e = λ i l d. absurd (omega arith)
 no_pivot_is (suc n) pivot s e = go (ℕ_discrete (pivot n) s) (no_pivot_is n pivot s)
@@ -88,33 +88,33 @@ free_are (suc m) n pivot = go (is_pivot n pivot m) refl (free_are m n pivot)
             let o : i < length (free_places m n pivot) = omega (arith, l, k, long, d) in
             omega (arith, get_or_append_left (free_places m n pivot) (m ∷ []) 0 i o, at_end j k (omega arith), (h.there i o).0)
 
-length_map : {A B : Type 0} (f : A → B) (xs : List A) → length (map f xs) ≡ length xs
+pub length_map : {A B : Type 0} (f : A → B) (xs : List A) → length (map f xs) ≡ length xs
 length_map f [] = refl
 length_map f (x ∷ xs) = ap (λ w. suc w) (length_map f xs)
 
-get_or_map : {A B : Type 0} (f : A → B) (xs : List A) (i : ℕ) (a : A) (b : B) → i < length xs → get_or (map f xs) i b ≡ f (get_or xs i a)
+pub get_or_map : {A B : Type 0} (f : A → B) (xs : List A) (i : ℕ) (a : A) (b : B) → i < length xs → get_or (map f xs) i b ≡ f (get_or xs i a)
 get_or_map f [] i a b l = absurd (omega arith)
 get_or_map f (x ∷ xs) zero a b l = refl
 get_or_map f (x ∷ xs) (suc i) a b l = get_or_map f xs i a b (omega arith)
 
 module _ (K : Field) (P : Presentation K.Carrier) (T : Table K) (n : ℕ) (row : ℕ → Vector K) (pivot : ℕ → ℕ) where
-  image_kept : (g : ℕ) → (generator P g).weight ≤ T.weight → (next_table K P T n row pivot).image g ≡ T.image g
+  pub image_kept : (g : ℕ) → (generator P g).weight ≤ T.weight → (next_table K P T n row pivot).image g ≡ T.image g
   unfolding next_table
   image_kept g l = grind arith
 
-  image_filled : (g : ℕ) → (generator P g).weight ≡ suc T.weight → (next_table K P T n row pivot).image g ≡ means_next K P T n row pivot (place K (generator_number P T g))
+  pub image_filled : (g : ℕ) → (generator P g).weight ≡ suc T.weight → (next_table K P T n row pivot).image g ≡ means_next K P T n row pivot (place K (generator_number P T g))
   unfolding next_table
   image_filled g l = grind arith
 
-  image_past : (g : ℕ) → suc T.weight < (generator P g).weight → (next_table K P T n row pivot).image g ≡ vzero K
+  pub image_past : (g : ℕ) → suc T.weight < (generator P g).weight → (next_table K P T n row pivot).image g ≡ vzero K
   unfolding next_table
   image_past g l = grind arith
 
-  entry_kept : (i j : ℕ) → weight_at T i + weight_at T j ≤ T.weight → (next_table K P T n row pivot).entry i j ≡ T.entry i j
+  pub entry_kept : (i j : ℕ) → weight_at T i + weight_at T j ≤ T.weight → (next_table K P T n row pivot).entry i j ≡ T.entry i j
   unfolding next_table
   entry_kept i j l = grind arith
 
-  entry_filled : (i j : ℕ) → weight_at T i + weight_at T j ≡ suc T.weight → (next_table K P T n row pivot).entry i j ≡ means_next K P T n row pivot (place K (pair_number P T i j))
+  pub entry_filled : (i j : ℕ) → weight_at T i + weight_at T j ≡ suc T.weight → (next_table K P T n row pivot).entry i j ≡ means_next K P T n row pivot (place K (pair_number P T i j))
   unfolding next_table
   entry_filled i j l = grind arith
 

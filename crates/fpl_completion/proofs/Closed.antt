@@ -1,22 +1,20 @@
 -- The closed rows of a weight: closed over the symbols, with the span of the origins' vectors.
-use Rattle.std.specs.Prelude.{ℕ, ◌≡◌, ◌<◌, ◌≤◌, ◌↔◌, ◌⊎◌, List, [], ◌∷◌, length, None, Some, Ok, All, Contains}
+use Rattle.std.specs.Prelude.{ℕ, ◌≡◌, ◌↔◌, List, [], length, None, Some, Ok}
 use mathlib.Core.Logic.{inl, inr}
-use mathlib.Core.Path.{sym, refl, ap, ◌∙◌, subst}
+use mathlib.Core.Path.{subst}
 use native.Mathlib.Omega.{arith}
 use Rattle.fpl_linear.specs.Vector.{Vector}
 use Rattle.fpl_linear.specs.Span.{Spanned}
-use Rattle.fpl_linear.specs.Echelon.{IsRow}
 use Rattle.fpl_linear.proofs.Span.{spanned_one, spanned_through}
 use Rattle.fpl_numbers.specs.declared.number.Num.{Num}
 use Rattle.fpl_numbers.specs.Numbers.{IsField}
 use Rattle.fpl_numbers.specs.Kinds.{field_of, number_of}
-use Rattle.fpl_numbers.proofs.KindReads.{kind_reads}
-use Rattle.fpl_rows.specs.Meaning.{vector_in, row_in, pivot_in, IsClosedList, InSpanOf, AreRows}
+use Rattle.fpl_rows.specs.Meaning.{IsClosedList, InSpanOf}
 use Rattle.fpl_log.specs.declared.step.Origin.{Origin}
-use Rattle.fpl_elimination.specs.Plain.{PivotRow, IsPivotRow, Held, Elimination, close_of, rows_of}
-use Rattle.fpl_elimination.specs.Spans.{InSpanAt, table_of}
+use Rattle.fpl_elimination.specs.Plain.{Held, Elimination, close_of, rows_of}
+use Rattle.fpl_elimination.specs.Spans.{InSpanAt}
 use Rattle.fpl_elimination.proofs.Found.{close_means}
-use Rattle.fpl_faithful.proofs.Fits.{ok_same, first_fits}
+use Rattle.fpl_faithful.proofs.Fits.{first_fits}
 use Rattle.fpl_model.specs.declared.presentation.Presentation.{Presentation}
 use Rattle.fpl_table.specs.Plain.{PlainTable, symbols_in}
 use Rattle.fpl_rewrite.specs.Origins.{origins_of}

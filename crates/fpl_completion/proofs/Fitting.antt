@@ -1,13 +1,11 @@
 -- Over a prime the plain run of a weight is never refused.
-use Rattle.std.specs.Prelude.{ℕ, zero, suc, ◌+◌, ◌-◌, ◌≡◌, List, [], ◌∷◌, length, Option, Some, None, slice_index_or, Result, Ok}
+use Rattle.std.specs.Prelude.{ℕ, zero, suc, ◌+◌, ◌-◌, ◌≡◌, List, [], ◌∷◌, Option, Some, None, slice_index_or, Ok}
 use Rattle.std.specs.List.{find}
 use mathlib.Core.Path.{refl, sym, subst}
 use Rattle.fpl_numbers.specs.declared.number.Num.{Num}
 use Rattle.fpl_numbers.specs.declared.number.Kind.{Kind}
-use Rattle.fpl_numbers.specs.declared.number.Unfit.{Unfit}
 use Rattle.fpl_numbers.specs.Numbers.{is_nought, residue, negative_of, inverse_of}
 use Rattle.fpl_numbers.specs.Results.{and_then, map_ok}
-use Rattle.fpl_scalar.specs.Vectors.{axpy_of, scale_of}
 use Rattle.fpl_rows.specs.Positions.{lead_of}
 use Rattle.fpl_log.specs.declared.step.Origin.{Origin}
 use Rattle.fpl_elimination.specs.Plain.{PivotRow, Swept, stands_at, taken_off, sweep_by, sweep_at, sweep_of, Held, Elimination, kept, keep_of, inserted_as, insert_of, closed_with, close_by, close_at, close_to, close_of, rows_of, take_at, take_row, sweep_rows}
@@ -18,7 +16,7 @@ use Rattle.fpl_rewrite.specs.Origins.{origins_of}
 use Rattle.fpl_rewrite.specs.Rows.{row_of_origin}
 use Rattle.fpl_faithful.proofs.Fits.{DoesFit, then_fits, map_fits}
 use Rattle.fpl_faithful.proofs.Fitting.{Always, if_fits, axpy_fits, scale_fits, origin_fits}
-use Rattle.fpl_completion.specs.Weight.{begun, with_held, gather, again, close_weight, next_of}
+use Rattle.fpl_completion.specs.Weight.{begun, with_held, put_of, gather, again, close_weight, next_of}
 
 module _ (kind : Kind) (always : Always kind) where
   by_fits : (o : Option PivotRow) (c : Num) (x : Swept) → DoesFit (sweep_by kind o c x)
@@ -68,12 +66,14 @@ module _ (T : PlainTable) (always : Always T.kind) (p : Presentation) where
     where
       step : (o : Origin) (os : List Origin) (n : ℕ) (h : Held) → ((g : Held) → Gathers os n g) → Gathers (o ∷ os) n h
       step o os n h later =
+          let e : Elimination = record { kind = T.kind; size = n; held = h } in
           let f = origin_fits T always p o in
           let i = insert_fits T.kind always n h f.0 o in
           let r = later i.0.held in
-          (r.0, (
-            subst (λ w. and_then (λ row. and_then (λ x. gather T p os (with_held (record { kind = T.kind; size = n; held = h }) x.held)) (insert_of (record { kind = T.kind; size = n; held = h }) row o)) w ≡ Ok r.0) (sym f.1)
-            (subst (λ w. and_then (λ x. gather T p os (with_held (record { kind = T.kind; size = n; held = h }) x.held)) w ≡ Ok r.0) (sym i.1) r.1.0), r.1.1))
+          let put : put_of T p o e ≡ Ok (with_held e i.0.held) =
+          subst (λ w. and_then (λ row. map_ok (λ x. with_held e x.held) (insert_of e row o)) w ≡ Ok (with_held e i.0.held)) (sym f.1)
+          (subst (λ w. map_ok (λ x. with_held e x.held) w ≡ Ok (with_held e i.0.held)) (sym i.1) refl) in
+          (r.0, (subst (λ w. and_then (λ f. gather T p os f) w ≡ Ok r.0) (sym put) r.1.0, r.1.1))
 
   again_fits : {A : Type 0} (rows : List (List Num)) (os : List Origin) (x : A) → DoesFit (again T p rows os x)
   again_fits rows [] x = (x, refl)
@@ -86,8 +86,8 @@ module _ (T : PlainTable) (always : Always T.kind) (p : Presentation) where
       let g = gather_fits (origins_of T p) (begun T).size (begun T).held in
       subst (λ w. DoesFit (and_then (λ e. and_then (λ h. again T p (rows_of h.pivots) (origins_of T p) h) (close_of e)) w)) (sym g.1.0)
       (then_fits (λ h. again T p (rows_of h.pivots) (origins_of T p) h) (close_of g.0)
-        (subst (λ k. DoesFit (close_to k g.0.held.pivots g.0.size (record { pivots = []; steps = g.0.held.steps }))) (sym g.1.1) (close_fits T.kind always g.0.held.pivots g.0.size (record { pivots = []; steps = g.0.held.steps })))
-        (λ h. again_fits (rows_of h.pivots) (origins_of T p) h))
+      (subst (λ k. DoesFit (close_to k g.0.held.pivots g.0.size (record { pivots = []; steps = g.0.held.steps }))) (sym g.1.1) (close_fits T.kind always g.0.held.pivots g.0.size (record { pivots = []; steps = g.0.held.steps })))
+      (λ h. again_fits (rows_of h.pivots) (origins_of T p) h))
 
   pub next_fits : DoesFit (next_of T p)
   next_fits = map_fits (λ h. push_of T (rows_of h.pivots)) (close_weight T p) close_weight_fits

@@ -1,31 +1,29 @@
 -- The rows that a weight gathers span what the vectors of its origins span; closed, they are the closed list of that span.
-use Rattle.std.specs.Prelude.{ℕ, zero, suc, ◌+◌, ◌≡◌, ◌<◌, ◌≤◌, ◌↔◌, ◌⊎◌, List, [], ◌∷◌, length, get_or, Option, None, Some, Result, Ok, All, Contains}
-use Rattle.std.specs.List.{find}
+use Rattle.std.specs.Prelude.{ℕ, zero, suc, ◌+◌, ◌≡◌, ◌<◌, ◌↔◌, ◌⊎◌, List, [], ◌∷◌, length, get_or, Ok, All, Contains}
 use mathlib.Core.Logic.{inl, inr}
 use mathlib.Core.Path.{sym, refl, ap, ◌∙◌, subst}
 use native.Mathlib.Omega.{arith}
 use Rattle.fpl_fields.specs.Field.{Field}
-use Rattle.fpl_linear.specs.Vector.{Vector, vzero}
+use Rattle.fpl_linear.specs.Vector.{Vector}
 use Rattle.fpl_linear.specs.Span.{Spanned}
-use Rattle.fpl_linear.specs.Echelon.{IsRow}
 use Rattle.fpl_linear.proofs.Span.{spanned_one, spanned_through}
 use Rattle.fpl_numbers.specs.declared.number.Num.{Num}
-use Rattle.fpl_numbers.specs.declared.number.Kind.{Kind}
 use Rattle.fpl_numbers.specs.Numbers.{IsField}
 use Rattle.fpl_numbers.specs.Kinds.{field_of, number_of}
+use Rattle.fpl_numbers.specs.Results.{map_ok}
 use Rattle.fpl_numbers.specs.Reads.{Reads}
 use Rattle.fpl_numbers.proofs.KindReads.{kind_reads}
 use Rattle.fpl_scalar.specs.Vectors.{AreElements}
 use Rattle.fpl_rows.specs.Meaning.{vector_in}
 use Rattle.fpl_log.specs.declared.step.Origin.{Origin}
-use Rattle.fpl_elimination.specs.Plain.{PivotRow, IsPivotRow, Held, Elimination, insert_of, sweep_rows}
+use Rattle.fpl_elimination.specs.Plain.{PivotRow, IsPivotRow, Held, Elimination, Inserted, insert_of, sweep_rows}
 use Rattle.fpl_elimination.specs.Spans.{InSpanAt}
-use Rattle.fpl_elimination.proofs.Spans.{Stands, standing, insert_reads, Spans, spans_more}
-use Rattle.fpl_faithful.proofs.Fits.{ok_same, first_fits}
+use Rattle.fpl_elimination.proofs.Spans.{standing, insert_reads, spans_more}
+use Rattle.fpl_faithful.proofs.Fits.{ok_same, first_fits, part_fits}
 use Rattle.fpl_model.specs.declared.presentation.Presentation.{Presentation}
 use Rattle.fpl_table.specs.Plain.{PlainTable}
 use Rattle.fpl_rewrite.specs.Rows.{row_of_origin}
-use Rattle.fpl_completion.specs.Weight.{with_held, gather, again}
+use Rattle.fpl_completion.specs.Weight.{with_held, put_of, gather, again}
 
 -- sweeping the origins again changes nothing
 pub again_same : {A : Type 0} (T : PlainTable) (p : Presentation) (rows : List (List Num)) (os : List Origin) (x y : A) → again T p rows os x ≡ Ok y → x ≡ y
@@ -98,14 +96,15 @@ module _ (T : PlainTable) (is_field : IsField T.kind) (p : Presentation) (n : �
         spans = spans_as h.pivots S (λ x. S x ⊎ IsAmong [] x) (λ x m. inl m) (λ x m. elim m [ inl s ↦ s | inr a ↦ absurd (let l = a.1.1 in omega arith) ]) spans;
       })
   gather_spans (o ∷ os) h e S r rows spans eq =
-      let f = first_fits _ (row_of_origin T p o) e eq in
+      let q = first_fits {T = Elimination} (λ f. gather T p os f) (put_of T p o (record { kind = T.kind; size = n; held = h })) e eq in
+      let f = first_fits {T = List Num} (λ row. map_ok (λ x. with_held (record { kind = T.kind; size = n; held = h }) x.held) (insert_of (record { kind = T.kind; size = n; held = h }) row o)) (row_of_origin T p o) q.0 q.1.0 in
       let row = f.0 in
-      let g = first_fits _ (insert_of (record { kind = T.kind; size = n; held = h }) row o) e f.1.1 in
+      let g = part_fits {T = Inserted} (λ x. with_held (record { kind = T.kind; size = n; held = h }) x.held) (insert_of (record { kind = T.kind; size = n; held = h }) row o) q.0 f.1.1 in
       let x = g.0 in
       let here = first_of o os in
       let put = insert_reads T.kind K value reads is_field n h row o x (standing T.kind K value reads is_field n h.pivots rows) (r.elements o here row f.1.0) (r.long o here row f.1.0) g.1.0 in
       let more = spans_more T.kind K value reads is_field n h.pivots x.held.pivots x.lead (vector_in T.kind row) S spans put.inserted in
-      let d = gather_spans os x.held e (λ y. S y ⊎ (y ≡ vector_in T.kind row)) (rest o os r) put.pivots more g.1.1 in
+      let d = gather_spans os x.held e (λ y. S y ⊎ (y ≡ vector_in T.kind row)) (rest o os r) put.pivots more (subst (λ w. gather T p os w ≡ Ok e) g.1.1 q.1.1) in
       record {
         kind = d.kind;
         size = d.size;

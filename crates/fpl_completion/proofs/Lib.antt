@@ -1,4 +1,5 @@
 pub mod Gathered
 pub mod Closed
-pub mod Sources
 pub mod Fitting
+pub mod Completed
+pub mod Counts

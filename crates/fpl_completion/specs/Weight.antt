@@ -1,13 +1,14 @@
 -- The plain run of a weight: exact numbers of any size, or the first operation that does not fit.
 --
 --   begun T               an elimination over the symbols of the weight after the table's, with no row
+--   put_of T p o e        the row of an origin, formed and inserted
 --   gather T p os e       the rows of origins, in order, each formed and inserted
 --   again T p rows os x   the rows of origins formed once more, each swept by closed rows; x where all fits
 --   close_weight T p      the closed rows of the weight and the steps that made them: all origins gathered, closed, and swept again
 --   next_of T p           the table with one weight more
 --
 -- Over a prime all operations fit, so that forming and sweeping the origins again changes nothing there.
-use Rattle.std.specs.Prelude.{ℕ, List, [], ◌∷◌, length, Result, Ok}
+use Rattle.std.specs.Prelude.{List, [], ◌∷◌, length, Result, Ok}
 use Rattle.fpl_numbers.specs.declared.number.Num.{Num}
 use Rattle.fpl_numbers.specs.declared.number.Unfit.{Unfit}
 use Rattle.fpl_numbers.specs.Results.{map_ok, and_then}
@@ -25,10 +26,12 @@ begun T = record { kind = T.kind; size = length (symbols_in T); held = record { 
 abbrev pub with_held : Elimination → Held → Elimination
 with_held e held = record { kind = e.kind; size = e.size; held = held }
 
+abbrev pub put_of : PlainTable → Presentation → Origin → Elimination → Result Elimination Unfit
+put_of T p o e = and_then (λ row. map_ok (λ x. with_held e x.held) (insert_of e row o)) (row_of_origin T p o)
+
 abbrev pub gather : PlainTable → Presentation → List Origin → Elimination → Result Elimination Unfit
 gather T p [] e = Ok e
-gather T p (o ∷ os) e =
-    and_then (λ row. and_then (λ x. gather T p os (with_held e x.held)) (insert_of e row o)) (row_of_origin T p o)
+gather T p (o ∷ os) e = and_then (λ f. gather T p os f) (put_of T p o e)
 
 abbrev pub again : {A : Type 0} → PlainTable → Presentation → List (List Num) → List Origin → A → Result A Unfit
 again T p rows [] x = Ok x

@@ -100,3 +100,6 @@ module _ (places : List (Option ℕ)) (rows : List PivotRow) (p : PivotRow) (s :
 
   pub index_more : IsIndex (noted_at places s (length rows)) (rows ++ p ∷ [])
   index_more = noted (place_at places s) refl
+
+pub index_noted : (places : List (Option ℕ)) (rows : List PivotRow) (p : PivotRow) (s count : ℕ) → IsIndex places rows → p.lead ≡ s + 1 → s < length places → length rows ≡ count → IsIndex (noted_at places s count) (rows ++ p ∷ [])
+index_noted places rows p s count h lead room e = subst (λ n. IsIndex (noted_at places s n) (rows ++ p ∷ [])) e (index_more places rows p s h lead room)

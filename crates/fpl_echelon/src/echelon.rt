@@ -7,13 +7,12 @@ ghost use Rattle.fpl_elimination.specs.Spans.{SpansWith, ClosesTo};
 ghost use Rattle.fpl_echelon.specs.Outcomes.{lead_in, closed_as};
 
 use crate::close::{Closed, close_all};
-use crate::keep::keep;
+use crate::keep::put_in;
 use crate::outcome::Outcome;
 use crate::pivots::Pivots;
-use crate::sweeping::sweep_below;
-use fpl_log::{Origin, Step, StepList, Terms};
+use fpl_log::{Origin, StepList};
 use fpl_rows::Row;
-use fpl_scalar::{Fault, Field, Num};
+use fpl_scalar::{Fault, Field};
 use fpl_steps::Steps;
 use std::alloc::{AllocError, Global};
 use std::marker::Model;
@@ -73,46 +72,15 @@ impl<F: Field> Echelon<F> {
         ensures step { steps.new ≡ steps.old + 1 }
     {
         steps.tick();
-        self.put_in(row, origin)
-    }
-
-    fn put_in(&mut self, mut row: Row<F>, origin: Origin) -> Result<Outcome, Fault>
-        requires size { length row ≡ self.old.size }
-        requires elements { AreElements self.old.kind row }
-        ensures value { GivesBy (λ outcome. inserted_as (lead_in outcome) self.new.held) result (insert_of self.old row origin) }
-        ensures kind { self.new.kind ≡ self.old.kind }
-        ensures size { self.new.size ≡ self.old.size }
-        ensures unchanged { OnErr result (self.new ≡ self.old) }
-        ensures spans { IfOk result (λ outcome. SpansWith self.old row self.new.held.pivots (lead_in outcome)) }
-    {
-        let mut terms = Terms::new(self.alloc);
-        sweep_below(&self.field, &self.pivots, self.size, &mut row, &mut terms)?;
-        match row.lead() {
-            None => {
-                let scale = Num {
-                    numerator: 0,
-                    denominator: 1,
-                };
-                self.steps.push(Step::Insert {
-                    origin,
-                    terms,
-                    scale,
-                })?;
-                Ok(Outcome::Dependent)
-            }
-            Some(lead) => {
-                keep(
-                    &self.field,
-                    &mut self.pivots,
-                    &mut self.steps,
-                    lead,
-                    row,
-                    origin,
-                    terms,
-                )?;
-                Ok(Outcome::Pivot(lead))
-            }
-        }
+        put_in(
+            self.alloc,
+            &self.field,
+            self.size,
+            &mut self.pivots,
+            &mut self.steps,
+            row,
+            origin,
+        )
     }
 
     /// The closed rows of the same span by ascending pivot, and all steps: the Inserts first,

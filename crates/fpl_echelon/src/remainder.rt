@@ -47,8 +47,12 @@ pub fn sweep<F: Field>(
     let mut k = rows.len();
     while k > 0 {
         k -= 1;
-        if let Some(other) = rows.get(k) {
-            left = take(field, other, left)?;
+        match rows.get(k) {
+            None => {}
+            Some(other) => match take(field, other, left) {
+                Ok(next) => left = next,
+                Err(fault) => return Err(fault),
+            },
         }
     }
     Ok(left)

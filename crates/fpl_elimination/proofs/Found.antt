@@ -56,39 +56,7 @@ pub close_fault : (U : Type 0) (kind : Kind) (pivots : List PivotRow) (n s : ℕ
 close_fault U kind pivots n s h g now (Unfits u) l d k = close_stops kind pivots n s h g u l d k
 close_fault U kind pivots n s h g now NoMemory l d k = tt
 
-scaled_lead : (K : Field) (c : K.Carrier) (u : Vector K) (s : ℕ) → K.times c (u s) ≡ K.unit → ((t : ℕ) → s < t → u t ≡ K.nought) → HasLead K s (scale K c u)
-unfolding scale
-scaled_lead K c u s one past = record { leads = one; above = λ t l. ap (K.times c) (past t l) ∙ times-nought K c }
-
-module _ (kind : Kind) (K : Field) (value : Num → K.Carrier) (reads : Reads kind K value) (listed : IsField kind) (n : ℕ) where
-  -- a row scaled by the inverse of its lead is a pivot row
-  scaled_pivot : (row z : List Num) (s step : ℕ) → AreElements kind row → length row ≡ n → lead_of row ≡ Some s →
-    scale_of kind (inverse_of kind (get_or row (s - 1) (residue 0))) row ≡ Ok z → IsPivotRow kind n (record { lead = s; step = step; row = z })
-  scaled_pivot row z s step a len lead e =
-      let k = lead_is row (length row) s lead in
-      let one = k.from_one in
-      let end = k.to_end in
-      let c : Num = get_or row (s - 1) (residue 0) in
-      let c_in : IsElement kind c = a (s - 1) (residue 0) (omega arith) in
-      let i = reads.inverse c c_in k.leads in
-      let r = scale_reads kind K value reads row z (inverse_of kind c) a i.0 e in
-      pivot_row kind K value reads listed n (record { lead = s; step = step; row = z }) r.elements (r.length_is ∙ len) one (omega arith)
-        (subst (HasLead K (s - 1)) (sym r.vector)
-          (scaled_lead K (value (inverse_of kind c)) (vector_of K value row) (s - 1) (ap (K.times (value (inverse_of kind c))) (at_place kind K value reads row (s - 1) (residue 0) (omega arith)) ∙ i.1)
-            (λ t l. nought_past kind K value reads row s a k t (omega arith))))
-
-  keep_at : (h g : Held) (origin : Origin) (x : Swept) (s : ℕ) → All (IsPivotRow kind n) h.pivots → AreElements kind x.row → length x.row ≡ n → lead_of x.row ≡ Some s →
-    keep_of kind h origin x (Some s) ≡ Ok g → All (IsPivotRow kind n) g.pivots
-  keep_at h g origin x s all a len lead e =
-      let f = part_fits _ (scale_of kind (inverse_of kind (get_or x.row (s - 1) (residue 0))) x.row) g e in
-      subst (λ g. All (IsPivotRow kind n) g.pivots) (sym f.1.1) (all_more (IsPivotRow kind n) h.pivots _ all (scaled_pivot x.row f.0 s (length h.steps + 1) a len lead f.1.0))
-
--- with a row kept, the pivot rows are pivot rows again
-pub keep_pivots : (kind : Kind) (n : ℕ) (h g : Held) (origin : Origin) (x : Swept) (s : ℕ) → IsField kind → All (IsPivotRow kind n) h.pivots → AreElements kind x.row → length x.row ≡ n → lead_of x.row ≡ Some s →
-    keep_of kind h origin x (Some s) ≡ Ok g → All (IsPivotRow kind n) g.pivots
-keep_pivots kind n h g origin x s listed = keep_at kind (field_of kind) (number_of kind) (kind_reads kind listed) listed n h g origin x s
-
--- so are the closed rows
+-- closed rows are pivot rows again
 pub close_pivots : (kind : Kind) (n m : ℕ) (pivots : List PivotRow) (h g : Held) → IsField kind → All (IsPivotRow kind n) pivots → m ≤ n → h.pivots ≡ [] → close_to kind pivots m h ≡ Ok g → All (IsPivotRow kind n) g.pivots
 close_pivots kind n m pivots h g listed all l none e =
     (close_reads kind (field_of kind) (number_of kind) (kind_reads kind listed) listed n pivots m h g (standing kind (field_of kind) (number_of kind) (kind_reads kind listed) listed n pivots all) l none e).rows
@@ -99,6 +67,12 @@ pub insert_means : (e : Elimination) (row : List Num) (origin : Origin) (r : Ins
 insert_means e row origin r listed all len a is =
     let reads = kind_reads e.kind listed in
     (insert_reads e.kind (field_of e.kind) (number_of e.kind) reads listed e.size e.held row origin r (standing e.kind (field_of e.kind) (number_of e.kind) reads listed e.size e.held.pivots all) a len is).inserted
+
+pub insert_pivots : (e : Elimination) (row : List Num) (origin : Origin) (r : Inserted) → IsField e.kind → All (IsPivotRow e.kind e.size) e.held.pivots → length row ≡ e.size → AreElements e.kind row →
+    insert_of e row origin ≡ Ok r → All (IsPivotRow e.kind e.size) r.held.pivots
+insert_pivots e row origin r listed all len a is =
+    let reads = kind_reads e.kind listed in
+    (insert_reads e.kind (field_of e.kind) (number_of e.kind) reads listed e.size e.held row origin r (standing e.kind (field_of e.kind) (number_of e.kind) reads listed e.size e.held.pivots all) a len is).pivots
 
 rows_are : (kind : Kind) (n : ℕ) (ps : List PivotRow) → All (IsPivotRow kind n) ps → AreRows kind n (rows_of ps)
 rows_are kind n [] all i d l = absurd (omega arith)

@@ -5,3 +5,4 @@ pub mod Ascending
 pub mod ClosedLists
 pub mod Found
 pub mod Remainders
+pub mod RowSweeps

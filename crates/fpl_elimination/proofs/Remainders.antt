@@ -115,7 +115,7 @@ module _ (kind : Kind) (K : Field) (value : Num → K.Carrier) (reads : Reads ki
             vector = r.vector ∙ ap₂ (λ x a. vplus K x (scale K a (vector_of K value u))) f.vector ((reads.negative c c_in).1 ∙ ap K.minus (sym c_is)) ∙ one_more K v t (vector_of K value u) (v (s - 1))
           }
 
-  pub rows_swept : (n : ℕ) (us : List (List Num)) (v w : List Num) → AreRows kind n us → Closes us → AreElements kind v → length v ≡ n → sweep_rows kind us v ≡ Ok w →
+  rows_swept : (n : ℕ) (us : List (List Num)) (v w : List Num) → AreRows kind n us → Closes us → AreElements kind v → length v ≡ n → sweep_rows kind us v ≡ Ok w →
     IsFor kind K value reads n (vplus K (vector_of K value v) (scale K (K.minus K.unit) (taken us (vector_of K value v)))) w
   unfolding taken
   rows_swept n [] v w rows closed a len e =

@@ -2,7 +2,7 @@
 use Rattle.std.specs.Prelude.{◌≡◌, Result, Ok, Err}
 use mathlib.Core.Path.{sym, refl}
 use Rattle.fpl_numbers.specs.declared.number.Unfit.{Unfit}
-use Rattle.fpl_faithful.specs.PrimeLaws.{IsGiven}
+pub use Rattle.fpl_faithful.specs.PrimeLaws.{DoesFit}
 use Rattle.fpl_numbers.specs.Results.{map_ok, and_then}
 
 pub ok_same : {T E : Type 0} {x y : T} → ◌≡◌ {A = Result T E} (Ok x) (Ok y) → x ≡ y
@@ -16,10 +16,10 @@ pub part_fits : {T U : Type 0} (f : T → U) (r : Result T Unfit) (z : U) → ma
 part_fits f (Ok x) z e = (x, (refl, sym (ok_same e)))
 part_fits f (Err u) z e = absurd (let k : ⊥ = cc in k)
 
-pub then_fits : {T U : Type 0} (f : T → Result U Unfit) (r : Result T Unfit) → IsGiven r → ((x : T) → IsGiven (f x)) → IsGiven (and_then f r)
+pub then_fits : {T U : Type 0} (f : T → Result U Unfit) (r : Result T Unfit) → DoesFit r → ((x : T) → DoesFit (f x)) → DoesFit (and_then f r)
 then_fits f (Ok x) h k = k x
 then_fits f (Err u) h k = absurd (let e = h.1 in let k : ⊥ = cc in k)
 
-pub map_fits : {T U : Type 0} (f : T → U) (r : Result T Unfit) → IsGiven r → IsGiven (map_ok f r)
+pub map_fits : {T U : Type 0} (f : T → U) (r : Result T Unfit) → DoesFit r → DoesFit (map_ok f r)
 map_fits f (Ok x) h = (f x, refl)
 map_fits f (Err u) h = absurd (let e = h.1 in let k : ⊥ = cc in k)

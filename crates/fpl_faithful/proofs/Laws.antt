@@ -1,17 +1,20 @@
 -- The laws of tables, over the field of a sound presentation.
-use Rattle.std.specs.Prelude.{◌≡◌, ◌≢◌, ℕ, ◌+◌, ◌<◌, List, length, get_or, map, Ok, All, Contains}
-use mathlib.Core.Path.{sym, refl, subst}
+use Rattle.std.specs.Prelude.{◌≡◌, ◌≢◌, ℕ, ◌+◌, ◌<◌, ◌≤◌, ◌-◌, ◌⊎◌, true, List, [], length, get_or, map, Ok, All, Contains}
+use mathlib.Core.Path.{sym, ap, refl, subst}
+use mathlib.Core.Logic.{inl, inr}
 use native.Mathlib.Omega.{arith}
-use Rattle.std.proofs.lemmas.List.{get_or-map, length-map}
+use native.Mathlib.Decide.{dec_le}
+use Rattle.std.proofs.lemmas.List.{get_or-map, get_or_past, length-map}
+use Rattle.std.proofs.lemmas.List.Elements.{All-nil}
 use Rattle.fpl_linear.specs.Vector.{Vector}
 use Rattle.fpl_numbers.specs.declared.number.Num.{Num}
 use Rattle.fpl_numbers.specs.declared.number.Kind.{Kind}
-use Rattle.fpl_numbers.specs.Numbers.{IsField}
+use Rattle.fpl_numbers.specs.Numbers.{IsField, IsElement}
 use Rattle.fpl_numbers.specs.Kinds.{field_of, Number}
-use Rattle.fpl_algebra.specs.Tree.{Tree, none, Generator, no_generator, Presentation as Abstract, IsOver}
+use Rattle.fpl_algebra.specs.Tree.{Tree, none, odd, Generator, no_generator, Presentation as Abstract, IsOver}
 use Rattle.fpl_algebra.specs.Degrees.{mixed, weight_of_both, parity_of_both}
-use Rattle.fpl_algebra.specs.Table.{IsOf, product, bracket, val}
-use Rattle.fpl_algebra.specs.Symbols.{symbols}
+use Rattle.fpl_algebra.specs.Table.{ObeysLaw, IsOf, product, bracket, val}
+use Rattle.fpl_algebra.specs.Symbols.{symbols, is_odd}
 use Rattle.fpl_algebra.specs.SourceRows.{IsSource}
 use Rattle.fpl_algebra.specs.Built.{Built}
 use Rattle.fpl_algebra.proofs.Equations.{sound_homogeneous}
@@ -21,13 +24,15 @@ use Rattle.fpl_model.specs.declared.presentation.Presentation.{Presentation}
 use Rattle.fpl_model.specs.Meaning.{plain, in_field, generator_in, generators_in, equation_in, presentation_in}
 use Rattle.fpl_model.specs.Sound.{IsWithin, IsSound}
 use Rattle.fpl_log.specs.declared.step.Origin.{Origin}
-use Rattle.fpl_table.specs.Plain.{PlainTable, plain_basis, image_row, vector_in, table_in, symbols_in}
+use Rattle.fpl_table.specs.Plain.{PlainTable, plain_basis, first_partner, generator_at, image_row, vector_in, table_in, symbols_in}
+use Rattle.fpl_table.specs.Shape.{HasShape}
+use Rattle.fpl_table.proofs.Entries.{entry_row_within, image_row_within}
 use Rattle.fpl_table.specs.Value.{bracket_of, value_of}
 use Rattle.fpl_rewrite.specs.Origins.{origins_of}
 use Rattle.fpl_rewrite.specs.Rows.{row_of_origin}
 use Rattle.fpl_faithful.specs.Premises.{IsRowIn, HasRows, HasWeights}
 use Rattle.fpl_faithful.specs.RowLaws.{Stands}
-use Rattle.fpl_faithful.specs.TableLaws.{SoundStands, WeightsOfTable, origin_vector}
+use Rattle.fpl_faithful.specs.TableLaws.{SoundStands, WeightsOfTable, vector_of_origin}
 use Rattle.fpl_faithful.proofs.Products.{bracket_reads}
 use Rattle.fpl_faithful.proofs.Values.{over_is, value_reads}
 use Rattle.fpl_faithful.proofs.Listed.{listed, is_listed}
@@ -65,6 +70,23 @@ sound_stands p sound = record {
     over : (e : Tree Num) → IsWithin p.field (length p.generators) e → IsOver (presentation_in p) (in_field p.field e)
     over e h = over_is p.field (presentation_in p) e (subst (λ n. IsWithin p.field n e) (sym (length-map p.generators generator_in)) h)
 
+-- the rows of a table of code
+pub rows_of_shape : (T : PlainTable) → HasShape T → HasRows T
+rows_of_shape T shape = record {
+  images = λ g l. image g l (dec_le (generator_at T g).weight T.weight);
+  entries = λ i j l k regular h. entry_row_within T shape i j l k (partner i j regular) h;
+}
+  where
+    image : (g : ℕ) → g < length T.generators → Dec ((generator_at T g).weight ≤ T.weight) → IsRowIn T (image_row T g)
+    image g l (yes h) = image_row_within T shape g l h
+    image g l (no h) =
+        subst (λ rows. IsRowIn T (get_or rows g [])) (sym (get_or_past T.images ((generator_at T g).weight - 1) [] (let e = shape.images_length in omega arith)))
+        (record { elements = All-nil (IsElement T.kind); short = omega arith })
+
+    partner : (i j : ℕ) → (i < j) ⊎ ((i ≡ j) × ((plain_basis T i).parity ≡ odd)) → first_partner T i ≤ j
+    partner i j (inl h) = grind arith
+    partner i j (inr h) = let e = h.0 in let o : is_odd (plain_basis T i).parity ≡ true = ap is_odd h.1 in grind arith
+
 module _ (p : Presentation) (T : PlainTable) (kind : T.kind ≡ p.field) (generators : T.generators ≡ generators_in p) where
   -- what is so over the table's own kind and generators is so over the presentation's, and the other way round
   there : (Q : Kind → List Generator → Type 0) → Q T.kind T.generators → Q p.field (generators_in p)
@@ -88,6 +110,9 @@ module _ (p : Presentation) (T : PlainTable) (kind : T.kind ≡ p.field) (genera
   abbrev ProductsAt : Kind → List Generator → Type 0
   ProductsAt k gs =
       (i j : ℕ) → i < length T.basis → j < length T.basis → IsOf (field_of k) (table_in k T) ((plain_basis T i).weight + (plain_basis T j).weight) (product (field_of k) (table_in k T) i j)
+
+  pub weights_of_law : HasShape T → ObeysLaw (field_of p.field) (presentation_in p) (table_in p.field T) → HasWeights T
+  weights_of_law shape law = record { positive = shape.heavy; within = shape.light; images = back ImagesAt law.image_of; products = back ProductsAt law.entry_of }
 
   pub weights_of_built : IsSound p → Built (field_of p.field) (presentation_in p) (table_in p.field T) → HasWeights T
   weights_of_built sound built =
@@ -116,21 +141,21 @@ module _ (p : Presentation) (T : PlainTable) (kind : T.kind ≡ p.field) (genera
       relations_within k d l = let h = sound.relations k d l in (within_here _ h.0.0, within_here _ h.1.0)
 
       pub rows_stand : (o : Origin) → Contains (origins_of T p) o → (row : List Num) → row_of_origin T p o ≡ Ok row →
-          Stands p.field (length (symbols_in T)) (origin_vector (field_of p.field) (presentation_in p) (table_in p.field T) o) row
+          Stands p.field (length (symbols_in T)) (vector_of_origin (field_of p.field) (presentation_in p) (table_in p.field T) o) row
       rows_stand o h row e =
-          there (λ k gs. Stands k (length (symbols_in T)) (origin_vector (field_of k) (over k gs) (table_in k T) o) row)
+          there (λ k gs. Stands k (length (symbols_in T)) (vector_of_origin (field_of k) (over k gs) (table_in k T) o) row)
           (origin_reads T is_field rows weights p relations_within o (listed T p o h) row e)
 
       pub origins_are_sources : (o : Origin) → Contains (origins_of T p) o →
-          IsSource (field_of p.field) (presentation_in p) (table_in p.field T) (origin_vector (field_of p.field) (presentation_in p) (table_in p.field T) o)
+          IsSource (field_of p.field) (presentation_in p) (table_in p.field T) (vector_of_origin (field_of p.field) (presentation_in p) (table_in p.field T) o)
       origins_are_sources o h =
-          there (λ k gs. IsSource (field_of k) (over k gs) (table_in k T) (origin_vector (field_of k) (over k gs) (table_in k T) o))
+          there (λ k gs. IsSource (field_of k) (over k gs) (table_in k T) (vector_of_origin (field_of k) (over k gs) (table_in k T) o))
           (origin_source T is_field rows weights p relations_within o (listed T p o h))
 
       pub sources_are_origins : (v : Vector (field_of p.field)) → IsSource (field_of p.field) (presentation_in p) (table_in p.field T) v →
-          (o : Origin) × Contains (origins_of T p) o × (origin_vector (field_of p.field) (presentation_in p) (table_in p.field T) o ≡ v)
+          (o : Origin) × Contains (origins_of T p) o × (vector_of_origin (field_of p.field) (presentation_in p) (table_in p.field T) o ≡ v)
       sources_are_origins =
-          there (λ k gs. (v : Vector (field_of k)) → IsSource (field_of k) (over k gs) (table_in k T) v → (o : Origin) × Contains (origins_of T p) o × (origin_vector (field_of k) (over k gs) (table_in k T) o ≡ v))
+          there (λ k gs. (v : Vector (field_of k)) → IsSource (field_of k) (over k gs) (table_in k T) v → (o : Origin) × Contains (origins_of T p) o × (vector_of_origin (field_of k) (over k gs) (table_in k T) o ≡ v))
           (λ v h. let r = source_origin T is_field rows weights p relations_within v h in (r.0, is_listed T p r.0 r.1, r.2))
 
 pub weights_of_table : (p : Presentation) → WeightsOfTable p

@@ -24,7 +24,7 @@ use Rattle.fpl_table.specs.Plain.{PlainTable, table_in, symbols_in}
 use Rattle.fpl_rewrite.specs.Origins.{relation_weight}
 use Rattle.fpl_rewrite.specs.Rows.{relation_row_of, jacobi_row_of, cube_row_of, equation_row, row_of_origin}
 use Rattle.fpl_faithful.specs.Premises.{HasRows, HasWeights}
-use Rattle.fpl_faithful.specs.TableLaws.{origin_vector}
+use Rattle.fpl_faithful.specs.TableLaws.{vector_of_origin}
 use Rattle.fpl_faithful.proofs.Products.{Stands, same}
 use Rattle.fpl_faithful.proofs.Forms.{relation_reads}
 use Rattle.fpl_faithful.proofs.Triples.{jacobi_reads, cube_reads}
@@ -102,8 +102,8 @@ module _ (T : PlainTable) (is_field : IsField T.kind) (rows : HasRows T) (weight
       (scale F (F.minus F.unit) (row_of F (table_in T.kind T) (λ i j. place_of (of_pair i j) s) (λ g. place_of (of_generator g) s) q.1))
 
   -- what an origin's row stands for
-  abbrev pub vector_of_origin : Origin → Vector F
-  vector_of_origin o = origin_vector F P (table_in T.kind T) o
+  abbrev pub origin_vector : Origin → Vector F
+  origin_vector o = vector_of_origin F P (table_in T.kind T) o
 
   relation_stands : (k : ℕ) → k < length p.relations → ((d : Equation) → relation_weight T (get_or p.relations k d) ≡ exact (suc T.weight)) → (v : List Num) → equation_row T p.relations (1 + k) ≡ Ok v →
       Stands T is_field m (relation_row F P (table_in T.kind T) k) v
@@ -129,7 +129,7 @@ module _ (T : PlainTable) (is_field : IsField T.kind) (rows : HasRows T) (weight
   cube_stands i h v e = same T is_field m _ _ v (ap (λ s. cube_by s i) (sym symbols_same)) (cube_reads T is_field rows weights i h.below h.sum v e)
 
   -- the row of a listed origin stands for its vector
-  pub origin_reads : (o : Origin) → IsListed T p o → (v : List Num) → row_of_origin T p o ≡ Ok v → Stands T is_field m (vector_of_origin o) v
+  pub origin_reads : (o : Origin) → IsListed T p o → (v : List Num) → row_of_origin T p o ≡ Ok v → Stands T is_field m (origin_vector o) v
   origin_reads _ (listed_relation k l h) v e =
       subst (λ r. Stands T is_field m (relation_row F P (table_in T.kind T) r) v) (let g : k ≡ 1 + k - 1 = omega arith in g) (relation_stands k l h v e)
   origin_reads _ (listed_triple i j k h) v e =
@@ -137,7 +137,7 @@ module _ (T : PlainTable) (is_field : IsField T.kind) (rows : HasRows T) (weight
   origin_reads _ (listed_cube i h) v e = subst (λ a. cube_row_of T a ≡ Ok v → Stands T is_field m (cube_row F P (table_in T.kind T) a) v) (shift i) (cube_stands i h v) e
 
   -- which is a source row
-  pub origin_source : (o : Origin) → IsListed T p o → IsSource F P (table_in T.kind T) (vector_of_origin o)
+  pub origin_source : (o : Origin) → IsListed T p o → IsSource F P (table_in T.kind T) (origin_vector o)
   origin_source _ (listed_relation k l h) =
       subst (λ r. IsSource F P (table_in T.kind T) (relation_row F P (table_in T.kind T) r)) (let g : k ≡ 1 + k - 1 = omega arith in g)
       (of_relation k (omega (arith, length-map p.relations (equation_in T.kind))) (weight_is k (some_of p.relations k l) l ∙ h (some_of p.relations k l)))
@@ -147,7 +147,7 @@ module _ (T : PlainTable) (is_field : IsField T.kind) (rows : HasRows T) (weight
       subst (λ a. IsSource F P (table_in T.kind T) (cube_row F P (table_in T.kind T) a)) (shift i) (of_cube i ((three_is T.kind).1 h.three) h.below h.odd_one h.sum)
 
   -- and each source row is the vector of a listed origin
-  pub source_origin : (v : Vector F) → IsSource F P (table_in T.kind T) v → (o : Origin) × IsListed T p o × (vector_of_origin o ≡ v)
+  pub source_origin : (v : Vector F) → IsSource F P (table_in T.kind T) v → (o : Origin) × IsListed T p o × (origin_vector o ≡ v)
   source_origin _ (of_relation k l w) =
       let l' : k < length p.relations = omega (arith, length-map p.relations (equation_in T.kind)) in
       (Relation (1 + k), listed_relation k l' (λ d. sym (weight_is k d l') ∙ w), ap (relation_row F P (table_in T.kind T)) (omega arith))

@@ -1,10 +1,11 @@
 -- What a table in plain numbers must be for its plain run to stand for the mathematics.
 --
---   IsRowIn T row         elements of the table's field, at most one for each basis element
---   HasRows T             each image, and each entry within the table's weight, is such a row
---   HasWeights T          weights of basis elements are 1 to the table's; each image has its generator's weight, and each product the sum of its factors'
---   IsTableFor p T        a table of the presentation's field and generators, with these two
---   IsFor kind K value n v row   a row of n elements of the kind that stands for the vector v, where value reads numbers into K
+--   IsRowIn T row                 elements of the table's field, at most one for each basis element
+--   HasRows T                     each image, and each entry within the table's weight, is such a row
+--   HasWeights T                  basis elements weigh at least 1 and at most the table's weight; each image has its generator's weight, and each
+--                                 product the sum of its factors'
+--   IsTableFor p T                a table of the presentation's field and generators that has both
+--   IsFor kind K value n v row    a row of n elements of the kind that stands for the vector v, where value reads numbers into K
 use Rattle.std.specs.Prelude.{ℕ, ◌≡◌, ◌<◌, ◌≤◌, ◌+◌, List, length}
 use Rattle.fpl_fields.specs.Field.{Field}
 use Rattle.fpl_linear.specs.Vector.{Vector}
@@ -18,10 +19,10 @@ use Rattle.fpl_algebra.specs.Table.{IsOf, IsRegular, product}
 use Rattle.fpl_model.specs.declared.presentation.Presentation.{Presentation}
 use Rattle.fpl_model.specs.Meaning.{generators_in}
 use Rattle.fpl_table.specs.Plain.{PlainTable, plain_basis, image_row, entry_row, vector_in, table_in, shell_in}
+use Rattle.fpl_table.specs.Shape.{IsRowUpTo}
 
-pub record IsRowIn (T : PlainTable) (row : List Num) : Type 0 where
-  pub elements : AreElements T.kind row
-  pub short : length row ≤ length T.basis
+abbrev pub IsRowIn : PlainTable → List Num → Type 0
+IsRowIn T row = IsRowUpTo T.kind (length T.basis) row
 
 pub record HasRows (T : PlainTable) : Type 0 where
   pub images : (g : ℕ) → g < length T.generators → IsRowIn T (image_row T g)

@@ -1,10 +1,13 @@
 -- Over a prime every operation fits, so nothing in the plain run is refused.
 --
---   IsGiven r               r is a value
---   AddAtFits, AddRowFits, AxpyFits, ScaleFits   the operations on rows
---   BracketFits             the bracket of two rows
---   ValueFits               the value of an expression
---   OriginRowFits           the row of an origin
+--   DoesFit r       r is a value, and no operation that does not fit
+--   AddAtFits       a number added at a place
+--   AddRowFits      a row added
+--   AxpyFits        a multiple of a row added
+--   ScaleFits       a multiple of a row
+--   BracketFits     the bracket of two rows
+--   ValueFits       the value of an expression
+--   OriginRowFits   the row of an origin
 use Rattle.std.specs.Prelude.{ℕ, ◌≡◌, List, Result, Ok}
 use Rattle.fpl_numbers.specs.declared.number.Num.{Num}
 use Rattle.fpl_numbers.specs.declared.number.Kind.TheVariants.{Prime}
@@ -17,26 +20,26 @@ use Rattle.fpl_table.specs.Plain.{PlainTable}
 use Rattle.fpl_table.specs.Value.{add_at, add_row, bracket_of, value_of}
 use Rattle.fpl_rewrite.specs.Rows.{row_of_origin}
 
-abbrev pub IsGiven : {X : Type 0} → Result X Unfit → Type 0
-IsGiven {X} r = (x : X) × (r ≡ Ok x)
+abbrev pub DoesFit : {X : Type 0} → Result X Unfit → Type 0
+DoesFit {X} r = (x : X) × (r ≡ Ok x)
 
 abbrev pub AddAtFits : ℕ → Type 0
-AddAtFits p = (row : List Num) (s : ℕ) (c : Num) → IsGiven (add_at (Prime p) row s c)
+AddAtFits p = (row : List Num) (s : ℕ) (c : Num) → DoesFit (add_at (Prime p) row s c)
 
 abbrev pub AddRowFits : ℕ → Type 0
-AddRowFits p = (row x : List Num) → IsGiven (add_row (Prime p) row x)
+AddRowFits p = (row x : List Num) → DoesFit (add_row (Prime p) row x)
 
 abbrev pub AxpyFits : ℕ → Type 0
-AxpyFits p = (row : List Num) (c : Num) (x : List Num) → IsGiven (axpy_of (Prime p) row c x)
+AxpyFits p = (row : List Num) (c : Num) (x : List Num) → DoesFit (axpy_of (Prime p) row c x)
 
 abbrev pub ScaleFits : ℕ → Type 0
-ScaleFits p = (c : Num) (row : List Num) → IsGiven (scale_of (Prime p) c row)
+ScaleFits p = (c : Num) (row : List Num) → DoesFit (scale_of (Prime p) c row)
 
 abbrev pub BracketFits : ℕ → Type 0
-BracketFits p = (T : PlainTable) → T.kind ≡ Prime p → (x y : List Num) → IsGiven (bracket_of T x y)
+BracketFits p = (T : PlainTable) → T.kind ≡ Prime p → (x y : List Num) → DoesFit (bracket_of T x y)
 
 abbrev pub ValueFits : ℕ → Type 0
-ValueFits p = (T : PlainTable) → T.kind ≡ Prime p → (e : Tree Num) → IsGiven (value_of T e)
+ValueFits p = (T : PlainTable) → T.kind ≡ Prime p → (e : Tree Num) → DoesFit (value_of T e)
 
 abbrev pub OriginRowFits : ℕ → Type 0
-OriginRowFits p = (T : PlainTable) → T.kind ≡ Prime p → (q : Presentation) (o : Origin) → IsGiven (row_of_origin T q o)
+OriginRowFits p = (T : PlainTable) → T.kind ≡ Prime p → (q : Presentation) (o : Origin) → DoesFit (row_of_origin T q o)

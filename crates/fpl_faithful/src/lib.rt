@@ -5,8 +5,9 @@ ghost use Rattle.std.specs.Prelude.{ℕ};
 ghost use Rattle.fpl_numbers.specs.Numbers.{IsField};
 ghost use Rattle.fpl_numbers.specs.declared.number.Kind.{Kind};
 ghost use Rattle.fpl_model.specs.declared.presentation.Presentation.{Presentation};
+ghost use Rattle.fpl_table.specs.Plain.{PlainTable};
 ghost use Rattle.fpl_faithful.specs.RowLaws.{AddAtStands, AddRowStands, AxpyStands, NegativesStand, PaddedStands, ScaleStands, ZeroRowStands};
-ghost use Rattle.fpl_faithful.specs.TableLaws.{BracketStands, OriginRowsStand, OriginsAreSources, SoundStands, SourcesAreOrigins, SymbolsStand, ValueStands, WeightsOfBuilt, WeightsOfTable};
+ghost use Rattle.fpl_faithful.specs.TableLaws.{BracketStands, OriginRowsStand, OriginsAreSources, RowsOfShape, SoundStands, SourcesAreOrigins, SymbolsStand, ValueStands, WeightsOfBuilt, WeightsOfLaw, WeightsOfTable};
 ghost use Rattle.fpl_faithful.specs.PrimeLaws.{AddAtFits, AddRowFits, AxpyFits, BracketFits, OriginRowFits, ScaleFits, ValueFits};
 
 /// Rows of numbers: where the operations on them fit, they are those on vectors.
@@ -23,6 +24,8 @@ pub fn plain_rows()
 /// What tables in plain numbers meet: presentations are sound, weights are right, and the symbols are the same.
 pub fn plain_tables()
     ensures presentation { (p : Presentation) → SoundStands p }
+    ensures rows { (T : PlainTable) → RowsOfShape T }
+    ensures law { (p : Presentation) → WeightsOfLaw p }
     ensures built { (p : Presentation) → WeightsOfBuilt p }
     ensures standard { (p : Presentation) → WeightsOfTable p }
     ensures symbols { (p : Presentation) → SymbolsStand p }

@@ -44,12 +44,12 @@ digit_class b e = grind arith
 blank_class : (b : ℕ) → is_blank b ≡ true → (class_of b ≡ Blank) ⊎ (class_of b ≡ LineEnd)
 blank_class b =
     either _ _ (either _ _ (either _ _
-        (λ e. inl (is_at 9 b Blank refl e)) (λ e. inr (is_at 10 b LineEnd refl e))) (λ e. inl (is_at 13 b Blank refl e))) (λ e. inl (is_at 32 b Blank refl e))
+    (λ e. inl (is_at 9 b Blank refl e)) (λ e. inr (is_at 10 b LineEnd refl e))) (λ e. inl (is_at 13 b Blank refl e))) (λ e. inl (is_at 32 b Blank refl e))
 
 mark_class : (b : ℕ) → is_mark b ≡ true → class_of b ≡ Mark
 mark_class b =
     either _ _ (either _ _ (either _ _ (either _ _ (either _ _ (either _ _ (either _ _ (either _ _ (either _ _ (either _ _ (either _ _
-        (is_at 59 b Mark refl) (is_at 44 b Mark refl)) (is_at 58 b Mark refl)) (is_at 61 b Mark refl)) (is_at 43 b Mark refl)) (is_at 45 b Mark refl)) (is_at 42 b Mark refl)) (is_at 47 b Mark refl)) (is_at 91 b Mark refl)) (is_at 93 b Mark refl)) (is_at 40 b Mark refl)) (is_at 41 b Mark refl)
+    (is_at 59 b Mark refl) (is_at 44 b Mark refl)) (is_at 58 b Mark refl)) (is_at 61 b Mark refl)) (is_at 43 b Mark refl)) (is_at 45 b Mark refl)) (is_at 42 b Mark refl)) (is_at 47 b Mark refl)) (is_at 91 b Mark refl)) (is_at 93 b Mark refl)) (is_at 40 b Mark refl)) (is_at 41 b Mark refl)
 
 other_class : (b : ℕ) → begins b ≡ false → (class_of b ≡ Other) ⊎ (class_of b ≡ Underscore)
 other_class b e = grind arith
@@ -119,7 +119,7 @@ number_ends start n at b e = stops (is_letter b) (is_digit b) (b == 95) (b == 10
 
 -- joining
 
-joined_none : (r : Result (List Token) LexError) → joined (Ok []) r ≡ r
+pub joined_none : (r : Result (List Token) LexError) → joined (Ok []) r ≡ r
 joined_none (Ok ts) = refl
 joined_none (Err e) = refl
 
@@ -128,11 +128,11 @@ joined_last (Ok ts) = ap Ok (append-nil ts)
 joined_last (Err e) = refl
 
 -- what follows a step at this place
-unfoldable rest_of : ℕ → List ℕ → List Token × Mode → Result (List Token) LexError
+unfoldable pub rest_of : ℕ → List ℕ → List Token × Mode → Result (List Token) LexError
 rest_of at bs s = joined (Ok s.0) (lex s.1 (at + 1) bs)
 
 -- tokens that end before a step come before what the rest gives
-chained_after : (at : ℕ) (bs : List ℕ) (ended : Result (List Token) LexError) (step : Result (List Token × Mode) LexError)
+pub chained_after : (at : ℕ) (bs : List ℕ) (ended : Result (List Token) LexError) (step : Result (List Token × Mode) LexError)
     → chained (after ended step) (rest_of at bs) ≡ joined ended (chained (after (Ok []) step) (rest_of at bs))
 unfolding rest_of
 chained_after at bs (Err e) step = refl
@@ -143,18 +143,18 @@ chained_after at bs (Ok ts) (Ok (more, next)) = onto (lex next (at + 1) bs)
     onto (Ok last) = ap Ok (append_assoc ts more last)
     onto (Err e) = refl
 
-lex_step : (mode : Mode) (at b : ℕ) (bs : List ℕ) → lex mode at (b ∷ bs) ≡ chained (step_of mode at b (class_of b)) (rest_of at bs)
+pub lex_step : (mode : Mode) (at b : ℕ) (bs : List ℕ) → lex mode at (b ∷ bs) ≡ chained (step_of mode at b (class_of b)) (rest_of at bs)
 unfolding rest_of
 lex_step mode at b bs = refl
 
 -- a step that ends something goes on as between
-ends : (mode : Mode) (at b : ℕ) (bs : List ℕ) → step_of mode at b (class_of b) ≡ after (finished mode at) (begun at b (class_of b))
+pub ends : (mode : Mode) (at b : ℕ) (bs : List ℕ) → step_of mode at b (class_of b) ≡ after (finished mode at) (begun at b (class_of b))
     → lex mode at (b ∷ bs) ≡ joined (finished mode at) (lex Between at (b ∷ bs))
 ends mode at b bs e =
     lex_step mode at b bs ∙ ap (λ s. chained s (rest_of at bs)) e ∙ chained_after at bs (finished mode at) (begun at b (class_of b)) ∙ ap (joined (finished mode at)) (sym (lex_step Between at b bs))
 
 -- a step that only changes the mode
-goes : (mode next : Mode) (at b : ℕ) (bs : List ℕ) → step_of mode at b (class_of b) ≡ Ok ([], next) → lex mode at (b ∷ bs) ≡ lex next (at + 1) bs
+pub goes : (mode next : Mode) (at b : ℕ) (bs : List ℕ) → step_of mode at b (class_of b) ≡ Ok ([], next) → lex mode at (b ∷ bs) ≡ lex next (at + 1) bs
 unfolding rest_of
 goes mode next at b bs e = lex_step mode at b bs ∙ ap (λ s. chained s (rest_of at bs)) e ∙ joined_none (lex next (at + 1) bs)
 
@@ -191,7 +191,6 @@ in_word start at (b ∷ bs) after all stops =
 
 -- the end of a number with this value
 unfoldable number_end : ℕ → ℕ → ℕ → Result (List Token) LexError
-
 number_end start n end = if nat_lt W n then Err (NumberTooLarge start) else finished (InNumber start n) end
 
 number_end-fits : (start n end : ℕ) → n ≤ W → number_end start n end ≡ finished (InNumber start n) end
@@ -225,21 +224,22 @@ in_number start at n (b ∷ bs) after fits all stops =
     let m : ℕ = 10 * n + (b - 48) in
     let digit : is_digit b ≡ true = (both _ _ all).0 in
     either_side W m
-        (λ large.
-            lex_step (InNumber start n) at b (bs ++ after) ∙ ap (λ s. chained s (rest_of at (bs ++ after))) (number_fails start n at b digit large)
-            ∙ ap (λ e. joined e (lex Between (at + suc (length bs)) after)) (sym (number_end-large start (value_from m bs) (at + suc (length bs)) (let h = value_from-least m bs in omega arith))))
-        (λ small.
-            goes (InNumber start n) (InNumber start m) at b (bs ++ after) (number_goes start n at b digit small)
-            ∙ in_number start (at + 1) m bs after small (both _ _ all).1 stops
-            ∙ ap (λ e. joined (number_end start (value_from m bs) e) (lex Between e after)) (omega arith))
+    (λ large.
+    lex_step (InNumber start n) at b (bs ++ after) ∙ ap (λ s. chained s (rest_of at (bs ++ after))) (number_fails start n at b digit large)
+    ∙ ap (λ e. joined e (lex Between (at + suc (length bs)) after)) (sym (number_end-large start (value_from m bs) (at + suc (length bs)) (let h = value_from-least m bs in omega arith))))
+    (λ small.
+    goes (InNumber start n) (InNumber start m) at b (bs ++ after) (number_goes start n at b digit small)
+    ∙ in_number start (at + 1) m bs after small (both _ _ all).1 stops
+    ∙ ap (λ e. joined (number_end start (value_from m bs) e) (lex Between e after)) (omega arith))
 
 -- the front of a text
 
 front_blank : (at b : ℕ) (after : List ℕ) → is_blank b ≡ true → lex Between at (b ∷ after) ≡ joined (Ok []) (lex Between (at + 1) after)
 front_blank at b after e =
-    elim (blank_class b e)
-        [ inl c ↦ goes Between Between at b after (rw c refl) ∙ sym (joined_none (lex Between (at + 1) after))
-        | inr c ↦ goes Between Between at b after (rw c refl) ∙ sym (joined_none (lex Between (at + 1) after)) ]
+    elim (blank_class b e) [
+      | inl c ↦ goes Between Between at b after (rw c refl) ∙ sym (joined_none (lex Between (at + 1) after))
+      | inr c ↦ goes Between Between at b after (rw c refl) ∙ sym (joined_none (lex Between (at + 1) after))
+    ]
 
 front_mark : (at b : ℕ) (after : List ℕ) → is_mark b ≡ true → lex Between at (b ∷ after) ≡ joined (piece_tokens at mark (b ∷ [])) (lex Between (at + 1) after)
 unfolding rest_of
@@ -315,9 +315,10 @@ Runs-none p = record { front = []; after = []; whole = refl; all = refl; stops =
 
 Runs-more : (p : ℕ → Bool) (b : ℕ) (bs : List ℕ) → Runs p bs → (ps : List Piece) × IsCut (b ∷ bs) ps → Runs p (b ∷ bs)
 Runs-more p b bs r cut =
-    elim (p b) as (λ t. p b ≡ t → Runs p (b ∷ bs))
-        [ true ↦ λ t. record { front = b ∷ r.front; after = r.after; whole = ap (λ xs. b ∷ xs) r.whole; all = together _ _ t r.all; stops = r.stops; rest = r.rest }
-        | false ↦ λ t. record { front = []; after = b ∷ bs; whole = refl; all = refl; stops = t; rest = cut } ] refl
+    elim (p b) as (λ t. p b ≡ t → Runs p (b ∷ bs)) [
+      | true ↦ λ t. record { front = b ∷ r.front; after = r.after; whole = ap (λ xs. b ∷ xs) r.whole; all = together _ _ t r.all; stops = r.stops; rest = r.rest }
+      | false ↦ λ t. record { front = []; after = b ∷ bs; whole = refl; all = refl; stops = t; rest = cut }
+    ] refl
 
 -- a piece before a cut
 before : (form : Form) (bytes text after : List ℕ) → text ≡ bytes ++ after → IsPiece form bytes after → (ps : List Piece) × IsCut after ps → (ps : List Piece) × IsCut text ps

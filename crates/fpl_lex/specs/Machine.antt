@@ -12,9 +12,11 @@
 --   lex_of        the tokens of a text
 --   Fails         an error is the fault of this answer, unless it is want of memory
 --   Gives         an answer is this one, unless memory ran out
---   Adds, AddsAndGoes   a part of a step added the tokens of this answer
+--   advance_of    what a byte does, where tokens are given one at a time
+--   IsFinished    what ends before this place
+--   IsNext        the first token from a place on, or the first fault
 --   IsBefore      a mode begins no later than this place
-use Rattle.std.specs.Prelude.{◌≡◌, ℕ, ◌+◌, ◌-◌, ◌*◌, ◌≤◌, List, [], ◌∷◌, ◌++◌, Bool, true, false, ◌&&◌, ◌||◌, ◌==◌, nat_le, nat_lt, None, Some, Result, Ok, Err, if◌then◌else◌}
+use Rattle.std.specs.Prelude.{◌≡◌, ℕ, ◌+◌, ◌-◌, ◌*◌, ◌≤◌, ◌<◌, drop, length, List, [], ◌∷◌, ◌++◌, Bool, true, false, ◌&&◌, ◌||◌, ◌==◌, nat_le, nat_lt, None, Some, Result, Ok, Err, if◌then◌else◌}
 use Rattle.std.specs.declared.option.Option.{Option}
 use Rattle.fpl_text.specs.Bytes.{is_blank, is_letter, is_digit, is_mark, most_name}
 use Rattle.fpl_lex.specs.declared.token.Token.{Token}
@@ -25,6 +27,8 @@ use Rattle.fpl_lex.specs.declared.lexing.Mode.{Mode}
 use Rattle.fpl_lex.specs.declared.lexing.Mode.TheVariants.{Between, InComment, InWord, InNumber}
 use Rattle.fpl_lex.specs.declared.lexing.Class.{Class}
 use Rattle.fpl_lex.specs.declared.lexing.Class.TheVariants.{Letter, Digit, Underscore, LineEnd, Blank, Hash, Mark, Other}
+use Rattle.fpl_lex.specs.declared.lexing.Advance.{Advance}
+use Rattle.fpl_lex.specs.declared.lexing.Advance.TheVariants.{Into, Ends, Fault}
 use Rattle.fpl_lex.specs.Cut.{W, joined}
 
 abbrev pub class_of : ℕ → Class
@@ -98,13 +102,52 @@ abbrev pub Gives : {X Y : Type 0} → (X → Y) → Result X LexError → Result
 Gives view (Ok x) answer = answer ≡ Ok (view x)
 Gives view (Err e) answer = Fails e answer
 
-abbrev pub Adds : {X : Type 0} → List Token → List Token → Result X LexError → Result (List Token) LexError → Type 0
-Adds old new (Ok x) answer = (more : List Token) × (answer ≡ Ok more) × (new ≡ old ++ more)
-Adds old new (Err e) answer = Fails e answer
+-- the code's step, which gives one token at a time
 
-abbrev pub AddsAndGoes : List Token → List Token → Result Mode LexError → Result (List Token × Mode) LexError → Type 0
-AddsAndGoes old new (Ok next) answer = (more : List Token) × (answer ≡ Ok (more, next)) × (new ≡ old ++ more)
-AddsAndGoes old new (Err e) answer = Fails e answer
+abbrev pub ends_by : Result (List Token) LexError → Mode → Advance
+ends_by (Err e) mode = Fault e
+ends_by (Ok []) mode = Into mode
+ends_by (Ok (t ∷ ts)) mode = Ends t
+
+abbrev pub ends_before : Mode → ℕ → Advance
+ends_before mode at = ends_by (finished mode at) mode
+
+abbrev pub begun_by : ℕ → ℕ → Class → Advance
+begun_by at b Letter = Into (InWord at)
+begun_by at b (Digit d) = Into (InNumber at d)
+begun_by at b Underscore = Fault (BadByte at)
+begun_by at b LineEnd = Into Between
+begun_by at b Blank = Into Between
+begun_by at b Hash = Into InComment
+begun_by at b Mark = Ends (record { start = at; end = at + 1; kind = kinds.Mark b })
+begun_by at b Other = Fault (BadByte at)
+
+abbrev pub lengthened : ℕ → Option ℕ → Advance
+lengthened start None = Fault (NumberTooLarge start)
+lengthened start (Some n) = Into (InNumber start n)
+
+abbrev pub advance_of : Mode → ℕ → ℕ → Class → Advance
+advance_of Between at b class = begun_by at b class
+advance_of InComment at b LineEnd = Into Between
+advance_of InComment at b class = Into InComment
+advance_of (InWord start) at b Letter = Into (InWord start)
+advance_of (InWord start) at b (Digit d) = Into (InWord start)
+advance_of (InWord start) at b Underscore = Into (InWord start)
+advance_of (InWord start) at b class = ends_before (InWord start) at
+advance_of (InNumber start n) at b (Digit d) = lengthened start (with_digit n d)
+advance_of (InNumber start n) at b class = ends_before (InNumber start n) at
+
+-- the end of the text, or a token that ends there
+abbrev pub IsFinished : Mode → ℕ → Result (Option Token) LexError → Type 0
+IsFinished mode at (Ok None) = finished mode at ≡ Ok []
+IsFinished mode at (Ok (Some t)) = finished mode at ≡ Ok (t ∷ [])
+IsFinished mode at (Err e) = finished mode at ≡ Err e
+
+-- the tokens from this place on are this one and those after it
+abbrev pub IsNext : List ℕ → ℕ → Result (Option Token) LexError → Type 0
+IsNext text from (Ok None) = lex Between from (drop from text) ≡ Ok []
+IsNext text from (Ok (Some t)) = (lex Between from (drop from text) ≡ joined (Ok (t ∷ [])) (lex Between t.end (drop t.end text))) × (from < t.end) × (t.end ≤ length text)
+IsNext text from (Err e) = lex Between from (drop from text) ≡ Err e
 
 -- a mode that begins no later than this place
 abbrev pub IsBefore : Mode → ℕ → Type 0
@@ -112,3 +155,10 @@ IsBefore Between at = Unit {0}
 IsBefore InComment at = Unit {0}
 IsBefore (InWord start) at = start ≤ at
 IsBefore (InNumber start n) at = start ≤ at
+
+-- a mode at a place after one from which tokens are looked for
+abbrev pub IsWithin : ℕ → Mode → ℕ → Type 0
+IsWithin from Between at = from ≤ at
+IsWithin from InComment at = from ≤ at
+IsWithin from (InWord start) at = (from ≤ start) × (start < at)
+IsWithin from (InNumber start n) at = (from ≤ start) × (start < at)

@@ -1,6 +1,6 @@
-ghost use Rattle.std.specs.Prelude.{◌≡◌, ◌≤◌, ◌<◌, ◌+◌, ◌-◌, ◌^◌, ◌++◌, ℕ, List, Result, IfOk};
+ghost use Rattle.std.specs.Prelude.{◌≡◌, ◌≤◌, ◌<◌, ◌+◌, ◌-◌, ◌^◌, ℕ, List, length, Result, IfOk};
 ghost use Rattle.fpl_lex.specs.Cut.{Lexed, Reads};
-ghost use Rattle.fpl_lex.specs.Machine.{class_of, finished, begun, after, with_digit, step_of, lex_of, Gives, Adds, AddsAndGoes, IsBefore};
+ghost use Rattle.fpl_lex.specs.Machine.{class_of, with_digit, begun_by, ends_before, advance_of, lex_of, Gives, IsBefore, IsFinished, IsNext};
 
 use crate::{LexError, Token, TokenKind, Tokens};
 use std::alloc::Global;
@@ -48,54 +48,56 @@ fn class_of(b: u8) -> Class
     }
 }
 
-// Adds the token that ends before this place, if one does.
-fn finish(tokens: &mut Tokens, mode: Mode, at: usize) -> Result<(), LexError>
+/// What a byte does.
+#[derive(Clone, Copy, Debug, PartialEq, Eq)]
+enum Advance {
+    Into(Mode),
+    /// A token ends before the byte, or with it.
+    Ends(Token),
+    Fault(LexError),
+}
+
+// What ends before this place: a token, or the text.
+fn finish(mode: Mode, at: usize) -> Result<Option<Token>, LexError>
     requires { IsBefore mode at }
-    ensures { Adds tokens.old tokens.new result (finished mode at) }
+    ensures { IsFinished mode at result }
 {
     match mode {
-        Mode::Between | Mode::InComment => {}
+        Mode::Between | Mode::InComment => Ok(None),
         Mode::InWord(start) => {
             if at - start > MOST_NAME {
                 return Err(LexError::NameTooLong(start as u64));
             }
-            tokens.push(Token {
+            Ok(Some(Token {
                 start,
                 end: at,
                 kind: TokenKind::Word,
-            })?;
+            }))
         }
-        Mode::InNumber(start, n) => {
-            tokens.push(Token {
-                start,
-                end: at,
-                kind: TokenKind::Number(n),
-            })?;
-        }
+        Mode::InNumber(start, n) => Ok(Some(Token {
+            start,
+            end: at,
+            kind: TokenKind::Number(n),
+        })),
     }
-    Ok(())
 }
 
-// Adds the token that a byte is, if it is one by itself, and gives the mode after it.
-fn begin(tokens: &mut Tokens, at: usize, b: u8, class: Class) -> Result<Mode, LexError>
+// What a byte begins.
+fn begin(at: usize, b: u8, class: Class) -> Advance
     requires { at < 2 ^ 64 - 1 }
-    ensures adds { AddsAndGoes tokens.old tokens.new result (begun at b class) }
-    ensures before { IfOk result (λ next. IsBefore next (at + 1)) }
+    ensures { result ≡ begun_by at b class }
 {
     match class {
-        Class::Letter => Ok(Mode::InWord(at)),
-        Class::Digit(digit) => Ok(Mode::InNumber(at, u128::from(digit))),
-        Class::LineEnd | Class::Blank => Ok(Mode::Between),
-        Class::Hash => Ok(Mode::InComment),
-        Class::Mark => {
-            tokens.push(Token {
-                start: at,
-                end: at + 1,
-                kind: TokenKind::Mark(b),
-            })?;
-            Ok(Mode::Between)
-        }
-        Class::Underscore | Class::Other => Err(LexError::BadByte(at as u64)),
+        Class::Letter => Advance::Into(Mode::InWord(at)),
+        Class::Digit(digit) => Advance::Into(Mode::InNumber(at, u128::from(digit))),
+        Class::LineEnd | Class::Blank => Advance::Into(Mode::Between),
+        Class::Hash => Advance::Into(Mode::InComment),
+        Class::Mark => Advance::Ends(Token {
+            start: at,
+            end: at + 1,
+            kind: TokenKind::Mark(b),
+        }),
+        Class::Underscore | Class::Other => Advance::Fault(LexError::BadByte(at as u64)),
     }
 }
 
@@ -113,74 +115,82 @@ fn with_digit(n: u128, digit: u8) -> Option<u128>
     Some(longer)
 }
 
-// Ends what was begun, and begins what a byte begins.
-fn turn(
-    tokens: &mut Tokens,
-    mode: Mode,
-    at: usize,
-    b: u8,
-    class: Class,
-) -> Result<Mode, LexError>
+// What a byte does.
+fn take_byte(mode: Mode, at: usize, b: u8) -> Advance
     requires before { IsBefore mode at }
     requires fits { at < 2 ^ 64 - 1 }
-    ensures adds { AddsAndGoes tokens.old tokens.new result (after (finished mode at) (begun at b class)) }
-    ensures before { IfOk result (λ next. IsBefore next (at + 1)) }
-{
-    match finish(tokens, mode, at) {
-        Ok(()) => begin(tokens, at, b, class),
-        Err(e) => Err(e),
-    }
-}
-
-// Adds the tokens that a byte ends or is, and gives the mode after it.
-fn step(tokens: &mut Tokens, mode: Mode, at: usize, b: u8) -> Result<Mode, LexError>
-    requires before { IsBefore mode at }
-    requires fits { at < 2 ^ 64 - 1 }
-    ensures adds { AddsAndGoes tokens.old tokens.new result (step_of mode at b (class_of b)) }
-    ensures before { IfOk result (λ next. IsBefore next (at + 1)) }
+    ensures { result ≡ advance_of mode at b (class_of b) }
 {
     let class = class_of(b);
     match (mode, class) {
-        (Mode::InComment, Class::LineEnd) => Ok(Mode::Between),
-        (Mode::InComment, _) => Ok(Mode::InComment),
+        (Mode::Between, _) => begin(at, b, class),
+        (Mode::InComment, Class::LineEnd) => Advance::Into(Mode::Between),
+        (Mode::InComment, _) => Advance::Into(Mode::InComment),
         (Mode::InWord(start), Class::Letter | Class::Digit(_) | Class::Underscore) => {
-            Ok(Mode::InWord(start))
+            Advance::Into(Mode::InWord(start))
         }
         (Mode::InNumber(start, n), Class::Digit(digit)) => match with_digit(n, digit) {
-            Some(n) => Ok(Mode::InNumber(start, n)),
-            None => Err(LexError::NumberTooLarge(start as u64)),
+            Some(n) => Advance::Into(Mode::InNumber(start, n)),
+            None => Advance::Fault(LexError::NumberTooLarge(start as u64)),
         },
-        _ => turn(tokens, mode, at, b, class),
+        _ => end_before(mode, at),
     }
 }
 
-fn lex(alloc: Global, bytes: &[u8]) -> Result<Tokens, LexError>
-    ensures { Gives (λ ts. ts) result (lex_of bytes.now) }
+// A byte ends what was begun.
+fn end_before(mode: Mode, at: usize) -> Advance
+    requires { IsBefore mode at }
+    ensures { result ≡ ends_before mode at }
 {
-    let mut tokens = Tokens::new(alloc);
+    match finish(mode, at) {
+        Ok(Some(token)) => Advance::Ends(token),
+        Ok(None) => Advance::Into(mode),
+        Err(e) => Advance::Fault(e),
+    }
+}
+
+/// The first token that begins at this place or after it, `None` where no more follow, or the first fault.
+pub fn next_token(text: &[u8], from: usize) -> Result<Option<Token>, LexError>
+    requires { from ≤ length text.now }
+    ensures { IsNext text.now from result }
+{
     let mut mode = Mode::Between;
-    for (at, b) in bytes.iter().enumerate() {
-        match step(&mut tokens, mode, at, *b) {
-            Ok(next) => mode = next,
-            Err(e) => return Err(e),
+    for at in from..text.len() {
+        match take_byte(mode, at, text[at]) {
+            Advance::Into(next) => mode = next,
+            Advance::Ends(token) => return Ok(Some(token)),
+            Advance::Fault(e) => return Err(e),
         }
     }
-    match finish(&mut tokens, mode, bytes.len()) {
-        Ok(()) => Ok(tokens),
-        Err(e) => Err(e),
+    finish(mode, text.len())
+}
+
+fn lex(alloc: Global, text: &[u8]) -> Result<Tokens, LexError>
+    ensures { Gives (λ ts. ts) result (lex_of text.now) }
+{
+    let mut tokens = Tokens::new(alloc);
+    let mut at = 0;
+    loop {
+        match next_token(text, at) {
+            Ok(Some(token)) => {
+                at = token.end;
+                tokens.push(token)?;
+            }
+            Ok(None) => return Ok(tokens),
+            Err(e) => return Err(e),
+        }
     }
 }
 
 /// The tokens of a text in their order, or the fault with the least place.
-pub fn tokens(alloc: Global, bytes: &[u8]) -> Result<Tokens, LexError>
-    ensures { Lexed bytes.now result }
+pub fn tokens(alloc: Global, text: &[u8]) -> Result<Tokens, LexError>
+    ensures { Lexed text.now result }
 {
-    lex(alloc, bytes)
+    lex(alloc, text)
 }
 
 /// Each text has one reading.
 pub fn one_reading()
     ensures some { (text : List ℕ) → (answer : Result (List Token) LexError) × Reads text answer }
     ensures one { (text : List ℕ) (a b : Result (List Token) LexError) → Reads text a → Reads text b → a ≡ b }
-{
-}
+{}

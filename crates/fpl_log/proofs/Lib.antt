@@ -1,1 +1,3 @@
 pub mod Conclusions
+pub mod TermsTaken
+pub mod Slimming

@@ -1,1 +1,4 @@
 pub mod Conclusion
+pub mod Plain
+pub mod Slim
+pub mod Laws

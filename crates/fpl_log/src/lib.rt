@@ -4,9 +4,11 @@
 mod closed;
 mod section;
 mod step;
+mod taking;
 mod terms;
 
 pub use closed::{ClosedList, ClosedRow, Coefficient};
 pub use section::{Section, Sections};
 pub use step::{Origin, Step, StepList};
+pub use taking::conclude;
 pub use terms::{Term, Terms};

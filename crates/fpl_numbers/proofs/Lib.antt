@@ -9,3 +9,4 @@ pub mod Fitting
 pub mod KindReads
 pub mod FractionProducts
 pub mod WholeNumbers
+pub mod WholeFractions

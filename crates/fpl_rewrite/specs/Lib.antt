@@ -1,2 +1,4 @@
+pub mod Cursor
 pub mod Origins
 pub mod Rows
+pub mod Triples

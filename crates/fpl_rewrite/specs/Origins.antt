@@ -8,7 +8,7 @@
 --   origins_of T p         all of them, in this order
 --
 -- Relations and basis elements are numbered from 1 in origins, and from 0 elsewhere here.
-use Rattle.std.specs.Prelude.{ℕ, zero, suc, ◌+◌, ◌*◌, List, [], ◌∷◌, ◌++◌, length, get_or, map, cond, Bool, true, false, nat_eq, nat_lt, nat_le, ◌&&◌}
+use Rattle.std.specs.Prelude.{ℕ, zero, suc, ◌+◌, ◌*◌, List, [], ◌∷◌, ◌++◌, length, cond, Bool, false, nat_eq, nat_le, ◌&&◌}
 use Rattle.fpl_numbers.specs.declared.number.Kind.{Kind}
 use Rattle.fpl_numbers.specs.declared.number.Kind.TheVariants.{Rational, Prime}
 use Rattle.fpl_algebra.specs.Degrees.{Degree, any, exact, mixed, weight_of_both}

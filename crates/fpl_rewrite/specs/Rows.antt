@@ -12,12 +12,12 @@
 --   jacobi_row_of T i j k    [b_i, [b_j, b_k]] - [[b_i, b_j], b_k] - (-1)^(|b_i||b_j|) [b_j, [b_i, b_k]], through its three entries in this order
 --   cube_row_of T i          [b_i, [b_i, b_i]]
 --   row_of_origin T p o      the row of an origin
-use Rattle.std.specs.Prelude.{ℕ, ◌+◌, ◌-◌, List, [], ◌∷◌, length, get_or, map, Result, Ok, if◌then◌else◌, cond, nat_eq, Bool, true, false}
+use Rattle.std.specs.Prelude.{ℕ, ◌+◌, ◌-◌, List, [], ◌∷◌, length, map, Result, Ok, if◌then◌else◌, cond, nat_eq, Bool, true, false}
 use Rattle.fpl_numbers.specs.declared.number.Num.{Num}
 use Rattle.fpl_numbers.specs.declared.number.Op.TheVariants.{Mul}
 use Rattle.fpl_numbers.specs.declared.number.Unfit.{Unfit}
 use Rattle.fpl_numbers.specs.Numbers.{operate, is_nought, residue, negative_of}
-use Rattle.fpl_numbers.specs.Results.{map_ok, and_then}
+use Rattle.fpl_numbers.specs.Results.{and_then}
 use Rattle.fpl_scalar.specs.Vectors.{scale_of}
 use Rattle.fpl_algebra.specs.Tree.{Tree, Trees, gen, none, sum_of, multiple, bracket_of as bracket, end, more, Parity, even, odd}
 use Rattle.fpl_algebra.specs.Table.{of_generator, of_pair}

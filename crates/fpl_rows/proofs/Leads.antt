@@ -24,7 +24,7 @@ lead_is xs (suc n) s e = go (is_nought (get_or xs n (residue 0))) refl (λ f. le
           from_one = k.from_one;
           to_end = (let l = k.to_end in omega arith);
           leads = k.leads;
-          above = λ t l m. elim (ℕ_discrete t n) [ yes d ↦ subst (λ w. is_nought (get_or xs w (residue 0)) ≡ true) (sym d) z | no d ↦ k.above t l (omega arith) ]
+          above = λ t l m. elim (ℕ_discrete t n) [ yes d ↦ subst (λ w. is_nought (get_or xs w (residue 0)) ≡ true) (sym d) z | no d ↦ k.above t l (omega arith) ];
         }
     go false z h f =
         let is : suc n ≡ s = some_same f in

@@ -6,3 +6,4 @@ pub mod Choices
 pub mod FractionArithmetic
 pub mod FractionElements
 pub mod ReducedQuotients
+pub mod WholeFractions

@@ -1,10 +1,11 @@
-ghost use Rattle.std.specs.Prelude.{◌≡◌, ◌≤◌, ◌<◌, ◌*◌, ◌+ℤ◌, ◌*ℤ◌, pos, nat_le, unsigned_abs, if◌then◌else◌};
+ghost use Rattle.std.specs.Prelude.{◌≡◌, ◌≤◌, ◌<◌, ◌*◌, ◌/◌, ◌+ℤ◌, ◌*ℤ◌, pos, nat_le, unsigned_abs, option_map, if◌then◌else◌};
 ghost use Rattle.fpl_numbers.specs.declared.number.Kind.TheVariants.{Rational};
 ghost use Rattle.fpl_numbers.specs.declared.number.Op.TheVariants.{Add, Mul};
 ghost use Rattle.fpl_numbers.specs.Numbers.{IsElement, bound, divided, fraction_fits, fraction_product, fraction_sum, is_within};
+ghost use Rattle.fpl_numbers.specs.Quotients.{whole};
 
 use crate::Field;
-use crate::divisor::gcd;
+use crate::divisor::{gcd, over};
 use fpl_numbers::{Kind, Num, Op, Unfit};
 
 /// The fractions whose numerator and denominator are at most 2^127 - 1 in magnitude.
@@ -31,19 +32,22 @@ fn plus(a: i128, b: i128) -> Option<i128>
     }
 }
 
-/// The product of a whole number and a magnitude, where it is within the bound.
-fn multiple(a: i128, b: u128) -> Option<i128>
-    requires { b ≤ bound }
-    ensures { result ≡ (if is_within (a *ℤ pos b) then Some (a *ℤ pos b) else None) }
+/// `a` times the quotient of `n` by `d`, where it is within the bound.
+fn multiple(a: i128, n: u128, d: u128) -> Option<i128>
+    requires positive { 0 < d }
+    requires fits { n ≤ bound }
+    ensures { result ≡ (if is_within (a *ℤ pos (n / d)) then Some (a *ℤ pos (n / d)) else None) }
 {
-    times(a, b as i128)
+    times(a, over(n, d) as i128)
 }
 
-/// The product of two denominators, where it is within the bound.
-fn joined(a: u128, b: u128) -> Option<i128>
-    ensures { result ≡ (if nat_le (a * b) bound then Some (pos (a * b)) else None) }
+/// The product of the quotients of `n` by `d` and of `m` by `e`, where it is within the bound.
+fn joined(n: u128, d: u128, m: u128, e: u128) -> Option<i128>
+    requires left { 0 < d }
+    requires right { 0 < e }
+    ensures { result ≡ (if nat_le (n / d * (m / e)) bound then Some (pos (n / d * (m / e))) else None) }
 {
-    match a.checked_mul(b) {
+    match over(n, d).checked_mul(over(m, e)) {
         Some(product) if product <= i128::MAX as u128 => Some(product as i128),
         _ => None,
     }
@@ -55,7 +59,10 @@ pub fn reduced_by(n: i128, d: u128) -> i128
     requires fits { d ≤ bound }
     ensures { result ≡ divided n d }
 {
-    n / d as i128
+    match (i64::try_from(n), i64::try_from(d)) {
+        (Ok(x), Ok(y)) => i128::from(x / y),
+        _ => n / d as i128,
+    }
 }
 
 /// The denominator.
@@ -68,8 +75,34 @@ fn below(a: Num) -> u128
     a.denominator.unsigned_abs()
 }
 
-/// The exact sum, where it fits: over the least common denominator, then reduced.
+/// A whole number as a fraction.
+fn whole(n: Option<i128>) -> Option<Num>
+    ensures { result ≡ option_map (whole Rational) n }
+{
+    match n {
+        Some(numerator) => Some(Num {
+            numerator,
+            denominator: 1,
+        }),
+        None => None,
+    }
+}
+
+/// The exact sum, where it fits.
 fn sum(a: Num, b: Num) -> Option<Num>
+    requires left { IsElement Rational a }
+    requires right { IsElement Rational b }
+    ensures { result ≡ (if fraction_fits Add a b then Some (fraction_sum a b) else None) }
+{
+    if a.denominator == 1 && b.denominator == 1 {
+        whole(plus(a.numerator, b.numerator))
+    } else {
+        reduced_sum(a, b)
+    }
+}
+
+/// The exact sum, where it fits: over the least common denominator, then reduced.
+fn reduced_sum(a: Num, b: Num) -> Option<Num>
     requires left { IsElement Rational a }
     requires right { IsElement Rational b }
     ensures { result ≡ (if fraction_fits Add a b then Some (fraction_sum a b) else None) }
@@ -77,17 +110,17 @@ fn sum(a: Num, b: Num) -> Option<Num>
     let a_below = below(a);
     let b_below = below(b);
     let common = gcd(a_below, b_below);
-    let Some(left) = multiple(a.numerator, b_below / common) else {
+    let Some(left) = multiple(a.numerator, b_below, common) else {
         return None;
     };
-    let Some(right) = multiple(b.numerator, a_below / common) else {
+    let Some(right) = multiple(b.numerator, a_below, common) else {
         return None;
     };
     let Some(total) = plus(left, right) else {
         return None;
     };
     let shared = gcd(total.unsigned_abs(), common);
-    let Some(denominator) = joined(a_below / common, b_below / shared) else {
+    let Some(denominator) = joined(a_below, common, b_below, shared) else {
         return None;
     };
     Some(Num {
@@ -96,9 +129,22 @@ fn sum(a: Num, b: Num) -> Option<Num>
     })
 }
 
+/// The exact product, where it fits.
+fn product(a: Num, b: Num) -> Option<Num>
+    requires left { IsElement Rational a }
+    requires right { IsElement Rational b }
+    ensures { result ≡ (if fraction_fits Mul a b then Some (fraction_product a b) else None) }
+{
+    if a.denominator == 1 && b.denominator == 1 {
+        whole(times(a.numerator, b.numerator))
+    } else {
+        reduced_product(a, b)
+    }
+}
+
 /// The exact product, where it fits. Each numerator and the other denominator are first divided
 /// by their greatest common divisor, so that no part is greater than that of the product.
-fn product(a: Num, b: Num) -> Option<Num>
+fn reduced_product(a: Num, b: Num) -> Option<Num>
     requires left { IsElement Rational a }
     requires right { IsElement Rational b }
     ensures { result ≡ (if fraction_fits Mul a b then Some (fraction_product a b) else None) }
@@ -114,7 +160,7 @@ fn product(a: Num, b: Num) -> Option<Num>
     let Some(numerator) = above else {
         return None;
     };
-    let Some(denominator) = joined(a_below / right, b_below / left) else {
+    let Some(denominator) = joined(a_below, right, b_below, left) else {
         return None;
     };
     Some(Num {

@@ -1,4 +1,4 @@
-//! Arithmetic of a field: the trait `Field`, and the residues modulo an accepted prime.
+//! Exact arithmetic of a field: the trait `Field`, residues modulo an accepted prime, fractions, and quotients of whole numbers.
 #![tactic(auto)]
 
 mod divisor;

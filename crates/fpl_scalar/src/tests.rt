@@ -62,7 +62,11 @@ fn fractions_are_exact_or_do_not_fit(rt: HostRuntime) {
         let got = operate(Fraction, op, left, right);
         let want = match want {
             Some((n, m)) => Ok(fraction(&rt, n, m)),
-            None => Err(Unfit { op, a: left, b: right }),
+            None => Err(Unfit {
+                op,
+                a: left,
+                b: right,
+            }),
         };
         assert!(rt; got == want, "{op:?} of {a}/{b} and {c}/{d}");
     }
@@ -95,9 +99,15 @@ fn inverses_negatives_and_tests(rt: HostRuntime) {
         let n = fraction(&rt, a, b);
         assert!(rt; !Fraction.is_zero(n));
         let inverse = Fraction.inverse(n);
-        assert!(rt; operate(Fraction, Op::Mul, inverse, n) == Ok(Fraction.one()), "{a}/{b}");
+        assert!(rt;
+            operate(Fraction, Op::Mul, inverse, n) == Ok(Fraction.one()),
+            "{a}/{b}"
+        );
         let negative = Fraction.neg(n);
-        assert!(rt; operate(Fraction, Op::Add, negative, n) == Ok(Fraction.zero()), "{a}/{b}");
+        assert!(rt;
+            operate(Fraction, Op::Add, negative, n) == Ok(Fraction.zero()),
+            "{a}/{b}"
+        );
         assert!(rt; Fraction.same(Fraction.of(&n), n) && Fraction.num(n) == n);
     }
 }

@@ -11,12 +11,11 @@ use Rattle.fpl_algebra.specs.Derives.{Expression}
 use Rattle.fpl_algebra.specs.Table.{Table, val, ObeysLaw}
 use Rattle.fpl_algebra.specs.Standard.{combined}
 use Rattle.fpl_algebra.proofs.Homogeneous.{TopIs, IsHomogeneous}
-use Rattle.fpl_algebra.specs.Built.{Built, Agree}
+use Rattle.fpl_algebra.specs.Built.{Built}
 use Rattle.fpl_linear.proofs.Vectors.{from_places, total_below}
 use Rattle.fpl_values.proofs.Soundness.{expression_sound}
 use Rattle.fpl_tables.proofs.Facts.{obeys, is_sound, one_value, same_derived, val_combined}
 use Rattle.fpl_built.proofs.BuiltFacts.{Whole, built_whole}
-use Rattle.fpl_standard.proofs.Agreement.{standard_twins}
 
 module _ (K : Field) (P : Presentation K.Carrier) (hom : IsHomogeneous P) (T : Table K) (b : Built K P T) where
   abbrev w : Whole K P T
@@ -42,8 +41,3 @@ module _ (K : Field) (P : Presentation K.Carrier) (hom : IsHomogeneous P) (T : T
       from_places K (length T.basis) v z
       ∙ total_below K (length T.basis) _ _ (λ i l. ap (scale K (v i)) (sym (w.facts.tree_val i l)))
       ∙ sym (val_combined K T w.tree (length T.basis) v) ∙ sym (built_one_value e _ h)
-
-pub built_agree : (K : Field) (P : Presentation K.Carrier) → IsHomogeneous P → (T S : Table K) → Built K P T → Built K P S → T.weight ≡ S.weight → Agree K P T S
-built_agree K P hom T S b c e =
-    let w = built_whole K P hom T b in let v = built_whole K P hom S c in
-    (standard_twins K P hom.over T S w.tree v.tree w.standard v.standard e).agree

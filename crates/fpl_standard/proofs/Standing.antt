@@ -12,11 +12,10 @@ use Rattle.fpl_algebra.specs.Table.{Table, Symbol, of_generator, of_pair, Basis,
 use Rattle.fpl_algebra.specs.Built.{relabel, meaning_of, at_slot, slot_of, IsNext, Built, IsLower}
 use Rattle.fpl_algebra.specs.Standard.{combined}
 use Rattle.fpl_linear.specs.Closed.{swept}
-use Rattle.fpl_linear.specs.Span.{InSpan, Spanned}
+use Rattle.fpl_linear.specs.Span.{InSpan}
 use Rattle.fpl_algebra.specs.Symbols.{joined, is_odd, symbols, symbols_of, symbol_at, symbol_tree}
 use Rattle.fpl_algebra.proofs.Homogeneous.{IsHomogeneous}
 use Rattle.fpl_algebra.specs.SourceRows.{IsSource}
-use Rattle.fpl_algebra.specs.NextTable.{next_table}
 use Rattle.fpl_linear.proofs.Closed.{span_swept}
 use Rattle.fpl_tables.proofs.Weights.{swept_stands}
 use Rattle.fpl_linear.proofs.Span.{span_of_kind}
@@ -25,8 +24,6 @@ use Rattle.fpl_tables.proofs.Facts.{Facts, one_value}
 use Rattle.fpl_built.proofs.Next.{slot_new, span_derived}
 use Rattle.fpl_built.proofs.NextSound.{tree_next, facts_next, value_is, row_none, free_place, source_none}
 use Rattle.fpl_built.proofs.BuiltFacts.{built_whole}
-use Rattle.fpl_built.proofs.NextTables.{next_is}
-use Rattle.fpl_built.proofs.Exists.{source_closing}
 
 relabel_new : (K : Field) (old count : ℕ) (slot : ℕ → ℕ) (v : Vector K) (i : ℕ) → i < count → relabel K (slot_of old count slot) v (old + i) ≡ v (slot i)
 unfolding relabel
@@ -75,20 +72,6 @@ module _ (K : Field) (P : Presentation K.Carrier) (hom : IsHomogeneous P) (T T' 
 
   pub rows_exact : (v : Vector K) → ((s : ℕ) → m ≤ s → v s ≡ K.nought) → (DerivesFreely K P (combined K symbol' m v) none) ↔ InSpan K next.number_of_rows next.row v
   rows_exact v short = (zero_in_span v short, span_zero v)
-
--- all that the source rows of a built table span is derivably 0
-pub built_sources : (K : Field) (P : Presentation K.Carrier) (hom : IsHomogeneous P) (T : Table K) (b : Built K P T) (v : Vector K) → Spanned K (IsSource K P T) v →
-    DerivesFreely K P (combined K (λ s. symbol_tree (built_whole K P hom T b).tree (symbol_at P T s)) (length (symbols P T)) v) none
-built_sources K P hom T b v h =
-    let w = built_whole K P hom T b in
-    let c = source_closing K P hom T w.tree w.facts in
-    let next = next_is K P T c.n c.row c.pivot c.closed c.spans c.short in
-    span_derived K P (λ s. symbol_tree w.tree (symbol_at P T s)) (length (symbols P T)) (IsSource K P T) (source_none K P hom T (next_table K P T c.n c.row c.pivot) w.tree w.facts next) v h
-
-pub built_rows : (K : Field) (P : Presentation K.Carrier) (hom : IsHomogeneous P) (T : Table K) (b : Built K P T) (T' : Table K) (next : IsNext K P T T') (v : Vector K) →
-    ((s : ℕ) → length (symbols P T) ≤ s → v s ≡ K.nought) →
-    (DerivesFreely K P (combined K (λ s. symbol_tree (built_whole K P hom T b).tree (symbol_at P T s)) (length (symbols P T)) v) none) ↔ InSpan K next.number_of_rows next.row v
-built_rows K P hom T b T' next v short = let w = built_whole K P hom T b in rows_exact K P hom T T' w.tree w.facts next v short
 
 -- symbols of every weight
 append_none : (xs : List Symbol) → xs ++ [] ≡ xs

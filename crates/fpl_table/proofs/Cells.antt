@@ -1,8 +1,6 @@
 -- The symbols of a weight, cell by cell.
-use Rattle.std.proofs.Common.{◌≡◌, ◌≢◌, ◌≤◌, ◌<◌, ◌+◌, ◌-◌, ◌++◌, ◌⊎◌, inl, inr, ℕ, zero, suc, max, List, [], ◌∷◌, length, map, get_or, cond, nat_eq, nat_lt, Bool, true, false, refl, ap, sym, ◌∙◌, arith, append_assoc, append-nil, length-append, add-suc, add-one}
-use Rattle.std.proofs.lemmas.List.{length-map}
+use Rattle.std.proofs.Common.{◌≡◌, ◌≢◌, ◌≤◌, ◌<◌, ◌+◌, ◌-◌, ◌++◌, ◌⊎◌, inl, inr, ℕ, zero, suc, List, [], ◌∷◌, length, map, get_or, cond, Bool, true, false, refl, ap, sym, ◌∙◌, arith, append-nil, length-append, add-suc, add-one}
 use Rattle.std.proofs.lemmas.Bool.Decides.{nat_tests}
-use Rattle.fpl_algebra.specs.Tree.{Parity, even, odd}
 use Rattle.fpl_algebra.specs.Table.{Symbol, of_generator, of_pair}
 use Rattle.fpl_algebra.specs.Symbols.{joined, is_odd, symbols_of}
 use Rattle.fpl_algebra.specs.Tree.{no_generator}
@@ -10,9 +8,9 @@ use Rattle.fpl_table.specs.declared.shape.Shape.{Shape}
 use Rattle.fpl_table.specs.Whole.{shape_in}
 use Rattle.fpl_table.proofs.Lists.{map_at}
 use Rattle.fpl_table.specs.Plain.{PlainTable, through, first_partner, partner_from, plain_basis, generator_at, table_in, shell_in}
-use Rattle.fpl_table.specs.Shape.{HasShape, partners}
+use Rattle.fpl_table.specs.Shape.{HasShape}
 use Rattle.fpl_table.specs.Cells.{generator_cell, generator_cells, pair_cell, pair_cells}
-use Rattle.fpl_table.proofs.Weights.{through_below, through_above, through_heavier, through_within}
+use Rattle.fpl_table.proofs.Weights.{through_below, through_above, through_within}
 
 nat_split : (a b : ℕ) → (a < b) ⊎ (b ≤ a)
 nat_split zero zero = inr (omega arith)

@@ -1,14 +1,13 @@
 -- The shape of tables.
-use Rattle.std.proofs.Common.{◌≡◌, ◌≤◌, ◌<◌, ◌+◌, ◌-◌, ◌++◌, ℕ, zero, suc, List, [], ◌∷◌, length, map, get_or, All, refl, ap, sym, arith}
+use Rattle.std.proofs.Common.{◌≤◌, ◌<◌, ℕ, zero, suc, List, [], ◌∷◌, length, map, get_or, refl, arith}
 use Rattle.std.proofs.lemmas.List.{length-map}
 use Rattle.fpl_numbers.specs.declared.number.Kind.{Kind}
 use Rattle.fpl_numbers.specs.Numbers.{IsField}
-use Rattle.fpl_algebra.specs.Tree.{Generator, no_generator}
+use Rattle.fpl_algebra.specs.Tree.{no_generator}
 use Rattle.fpl_model.specs.declared.presentation.Generator as declared
 use Rattle.fpl_model.specs.Meaning.{generator_in}
 use Rattle.fpl_model.specs.Sound.{HaveWeights}
-use Rattle.fpl_table.specs.Plain.{PlainTable, generator_at}
-use Rattle.fpl_table.specs.Shape.{HasShape, grown}
+use Rattle.fpl_table.specs.Shape.{grown}
 use Rattle.fpl_table.specs.Whole.{IsWhole}
 
 -- the bounds of a presentation's weights are those of its generators in a table

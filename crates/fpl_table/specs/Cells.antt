@@ -2,7 +2,7 @@
 --
 --   generator_cells T w   the generators of weight w, ascending
 --   pair_cells T w i      the regular pairs (i, j) of weight w, by ascending j
-use Rattle.std.specs.Prelude.{ℕ, List, [], ◌∷◌, ◌+◌, length, cond, Bool, true, false, nat_eq, nat_lt}
+use Rattle.std.specs.Prelude.{ℕ, List, [], ◌∷◌, ◌+◌, length, cond, true, false, nat_eq, nat_lt}
 use Rattle.fpl_algebra.specs.Table.{Symbol, of_generator, of_pair}
 use Rattle.fpl_algebra.specs.Symbols.{joined, is_odd}
 use Rattle.fpl_table.specs.Plain.{PlainTable, plain_basis, generator_at}

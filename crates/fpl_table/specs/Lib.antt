@@ -6,3 +6,4 @@ pub mod Standard
 pub mod Truncate
 pub mod Whole
 pub mod Cells
+pub mod Numbering

@@ -20,7 +20,6 @@
 -- Numbers of generators, basis elements, symbols and positions count from 0 here, and from 1 in code and texts.
 -- A row is a list of numbers; positions past its length count as 0.
 use Rattle.std.specs.Prelude.{ℕ, suc, ◌-◌, ◌+◌, List, [], ◌∷◌, get_or, max, cond, nat_lt, nat_le}
-use Rattle.fpl_fields.specs.Field.{Field}
 use Rattle.fpl_linear.specs.Vector.{Vector}
 use Rattle.fpl_linear.specs.Lists.{vector_of}
 use Rattle.fpl_numbers.specs.declared.number.Num.{Num}

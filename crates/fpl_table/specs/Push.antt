@@ -6,13 +6,13 @@
 --   row_with_lead rows s   the row with lead s
 --   symbol_row T rows s    what the symbol at place s is, over the basis: itself, where it is in the basis, else minus the rest of its row
 --   push_of T rows         the table with one weight more
-use Rattle.std.specs.Prelude.{ℕ, zero, suc, ◌+◌, ◌-◌, List, [], ◌∷◌, ◌++◌, length, replicate, get_or, map, Bool, true, false, cond, nat_eq, nat_lt, Option, Some, None}
+use Rattle.std.specs.Prelude.{ℕ, zero, suc, ◌+◌, List, [], ◌∷◌, ◌++◌, length, get_or, map, Bool, true, false, cond, nat_eq, nat_lt, Option, Some, None}
 use Rattle.fpl_numbers.specs.declared.number.Num.{Num}
 use Rattle.fpl_numbers.specs.declared.number.Kind.{Kind}
 use Rattle.fpl_numbers.specs.Numbers.{is_nought, residue, negative_of}
-use Rattle.fpl_algebra.specs.Tree.{Generator, no_generator}
+use Rattle.fpl_algebra.specs.Tree.{Generator}
 use Rattle.fpl_algebra.specs.Table.{Symbol, of_generator, of_pair, Basis}
-use Rattle.fpl_algebra.specs.Symbols.{place_of, no_symbol, symbol_parity, is_odd}
+use Rattle.fpl_algebra.specs.Symbols.{place_of, no_symbol, symbol_parity}
 use Rattle.fpl_table.specs.Plain.{PlainTable, plain_basis, first_partner, table_in, shell_in, symbols_in}
 use Rattle.fpl_table.specs.Value.{zero_row}
 

@@ -5,7 +5,7 @@
 --   count_through T w      how many of weights 1 to w
 --   IsTableOf p d T        T is the standard table of p through d, in canonical numbers that fit; for expressions over p of top at most d, equal values in it mean derivably equal
 --   PassesAt p d e w c     w is the least weight up to d at which the symbols of weights 1 to w number more than e, and c is their number
-use Rattle.std.specs.Prelude.{ℕ, zero, suc, ◌≡◌, ◌≤◌, ◌<◌, ◌+◌, ◌-◌, ◌↔◌, [], length, map, All}
+use Rattle.std.specs.Prelude.{ℕ, zero, suc, ◌≡◌, ◌≤◌, ◌<◌, ◌+◌, ◌-◌, ◌↔◌, [], length, All}
 use Rattle.fpl_numbers.specs.Kinds.{Number, field_of}
 use Rattle.fpl_scalar.specs.Vectors.{AreElements}
 use Rattle.fpl_algebra.specs.Tree.{Tree, IsOver}

@@ -9,7 +9,7 @@
 --                         to at most the table's
 --   is_light T e          e has a weight as written, and it is at most the table's; or it is mixed
 --   value_of T e          the value of an expression, member by member; 0 without operations where it isn't light
-use Rattle.std.specs.Prelude.{ℕ, suc, ◌+◌, ◌-◌, List, [], ◌∷◌, ◌++◌, length, replicate, get_or, slice_set, cond, nat_le, Bool, true, false, ◌||◌, Result, Ok, Err, if◌then◌else◌}
+use Rattle.std.specs.Prelude.{ℕ, ◌+◌, ◌-◌, List, [], ◌∷◌, ◌++◌, length, replicate, get_or, slice_set, nat_le, Bool, true, false, Result, Ok, if◌then◌else◌}
 use Rattle.fpl_numbers.specs.declared.number.Num.{Num}
 use Rattle.fpl_numbers.specs.declared.number.Kind.{Kind}
 use Rattle.fpl_numbers.specs.declared.number.Op.TheVariants.{Add, Mul}

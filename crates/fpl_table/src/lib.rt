@@ -3,7 +3,9 @@
 
 mod shape;
 mod symbol;
+mod symbols;
 mod table;
 
 pub use symbol::{Basis, PairSign, Symbol};
+pub use symbols::Symbols;
 pub use table::Table;

@@ -2,7 +2,7 @@ use fpl_model::Parity;
 
 /// What a basis element may stand for: a generator, or the bracket of two basis elements.
 /// All numbers count from 1.
-#[derive(Clone, Copy, Debug, PartialEq, Eq)]
+#[derive(Clone, Copy, Debug, PartialEq, Eq, Hash)]
 pub enum Symbol {
     Gen(u32),
     Pair(u32, u32),

@@ -4,12 +4,14 @@ ghost use Rattle.fpl_model.specs.Meaning.{plain, generator_in};
 ghost use Rattle.fpl_model.specs.Mono.{expr_of};
 ghost use Rattle.fpl_model.specs.Sound.{HaveWeights};
 ghost use Rattle.fpl_table.specs.Plain.{basis_in, plain_basis, generator_at, image_row, entry_row, pairing};
-ghost use Rattle.fpl_table.specs.Shape.{HasShape, IsNumbered, basis_trees};
+ghost use Rattle.fpl_table.specs.Shape.{HasShape, IsNumbered, IsRowUpTo, basis_trees};
 ghost use Rattle.fpl_table.specs.Standard.{start_of};
-ghost use Rattle.fpl_table.specs.Whole.{pair_in, IsPairWithin, shape_in};
+ghost use Rattle.fpl_table.specs.Whole.{pair_in, IsPairWithin, IsPairRegular, shape_in};
 
 mod count;
 mod entry;
+mod bracket;
+mod value;
 
 use crate::shape::Shape;
 use crate::{Basis, PairSign};
@@ -159,6 +161,7 @@ impl<F: Field> Table<F> {
         requires right { (1 ≤ j) × (j ≤ length self.now.basis) }
         ensures value { pair_in result ≡ pairing self.now (i - 1) (j - 1) }
         ensures within { IsPairWithin (length self.now.basis) result }
+        ensures regular { IsPairRegular self.now result }
     {
         let left = self.basis(i).parity;
         if i < j {
@@ -181,6 +184,7 @@ impl<F: Field> Table<F> {
         requires range { (1 ≤ g) × (g ≤ length self.now.generators) }
         requires reached { (generator_at self.now (g - 1)).weight ≤ self.now.weight }
         ensures value { result.now ≡ image_row self.now (g - 1) }
+        ensures row { IsRowUpTo self.now.kind (length self.now.basis) result.now }
     {
         let at = g as usize - 1;
         let weight = self.shapes[at].weight as usize;

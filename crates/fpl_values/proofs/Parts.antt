@@ -166,9 +166,6 @@ module _ (K : Field) (T : Table K) (graded : IsGraded K T) where
           (λ c u p. rw ((bracket_linear_left K T (place K j)).of_scale c u) (in_scale K T _ c _ p))
           (λ i m e. rw (bracket_places K T i j m l, ← e, ← d) (graded.entry_in i j m l)) x h
 
-  pub exchange_scaled : (s t : Parity) (x y : Vector K) → IsIn K T s x → IsIn K T t y → bracket K T x y ≡ scale K (K.minus (sign K s t)) (bracket K T y x)
-  exchange_scaled = exchange_parts K T
-
   -- Jacobi at vectors of parities s and t
   abbrev pub JacobiAt : Parity → Parity → Vector K → Vector K → Vector K → Type 0
   JacobiAt s t x y z =

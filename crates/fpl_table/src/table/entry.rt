@@ -1,6 +1,6 @@
 ghost use Rattle.std.specs.Prelude.{◌≡◌, ◌≤◌, ◌<◌, ◌+◌, ◌-◌, ◌⊎◌, length};
 ghost use Rattle.fpl_algebra.specs.Tree.{odd};
-ghost use Rattle.fpl_table.specs.Shape.{HasShape};
+ghost use Rattle.fpl_table.specs.Shape.{HasShape, IsRowUpTo};
 ghost use Rattle.fpl_table.specs.Plain.{plain_basis, through, first_partner, partner_from, entry_row};
 
 use super::Table;
@@ -10,7 +10,7 @@ use fpl_scalar::Field;
 
 impl<F: Field> Table<F> {
     /// How many basis elements weigh at most `w`.
-    pub(super) fn through(&self, w: u32) -> u32
+    pub fn through(&self, w: u32) -> u32
         requires { w ≤ self.now.weight }
         ensures value { result ≡ through self.now w }
         ensures within { result ≤ length self.now.basis }
@@ -50,7 +50,8 @@ impl<F: Field> Table<F> {
         requires right { (1 ≤ j) × (j ≤ length self.now.basis) }
         requires regular { first_partner self.now (i - 1) ≤ j - 1 }
         requires reached { (plain_basis self.now (i - 1)).weight + (plain_basis self.now (j - 1)).weight ≤ self.now.weight }
-        ensures { result.now ≡ entry_row self.now (i - 1) (j - 1) }
+        ensures value { result.now ≡ entry_row self.now (i - 1) (j - 1) }
+        ensures row { IsRowUpTo self.now.kind (length self.now.basis) result.now }
     {
         let left = self.basis(i).weight;
         let weight = left + self.basis(j).weight;

@@ -1,10 +1,6 @@
 use Rattle.std.proofs.Common.{◌≡◌, [], Ok}
-use Rattle.std.specs.Prelude.{All}
-use Rattle.fpl_elimination.specs.Plain.{IsPivotRow, close_to}
+use Rattle.fpl_elimination.specs.Plain.{close_to}
 use Rattle.fpl_echelon.proofs.close.close_all.Given as goal
 
 abbrev pub invariant-loop-s : goal.invariant-loop-s
-invariant-loop-s g l = record {
-  rows : All (IsPivotRow (g.F.Field.kind_of l.field) l.size) l.closed;
-  done : close_to (g.F.Field.kind_of l.field) l.pivots l.s (record { pivots = []; steps = l.initial.steps }) ≡ Ok (record { pivots = l.closed; steps = l.steps })
-}
+invariant-loop-s g l = close_to (g.F.Field.kind_of l.field) l.pivots l.s (record { pivots = []; steps = l.initial.steps }) ≡ Ok (record { pivots = l.closed; steps = l.steps })

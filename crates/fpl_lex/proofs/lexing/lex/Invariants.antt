@@ -1,8 +1,12 @@
-use Rattle.std.proofs.Common.{◌≡◌, drop}
+use Rattle.std.proofs.Common.{◌≡◌, ◌≤◌, ◌-◌, drop, length}
 use Rattle.std.specs.Prelude.{Ok}
 use Rattle.fpl_lex.specs.Cut.{joined}
-use Rattle.fpl_lex.specs.Machine.{lex, lex_of, IsBefore}
+use Rattle.fpl_lex.specs.Machine.{lex, lex_of}
+use Rattle.fpl_lex.specs.declared.lexing.Mode.TheVariants.{Between}
 use Rattle.fpl_lex.proofs.lexing.lex.Given as goal
 
-abbrev pub invariant-loop-at : goal.invariant-loop-at
-invariant-loop-at l = (lex_of l.bytes ≡ joined (Ok l.tokens) (lex l.mode l.at (drop l.at l.bytes))) × IsBefore l.mode l.at
+abbrev pub invariant-loop-token : goal.invariant-loop-token
+invariant-loop-token l = (lex_of l.text ≡ joined (Ok l.tokens) (lex Between l.at (drop l.at l.text))) × (l.at ≤ length l.text)
+
+abbrev pub decreases-loop-token : goal.decreases-loop-token
+decreases-loop-token l = length l.text - l.at

@@ -5,7 +5,7 @@ use Rattle.fpl_rows.proofs.places.lead.Given as goal
 abbrev pub invariant-loop-s : goal.invariant-loop-s
 invariant-loop-s g l = record {
   at_most : l.s ≤ length l.row;
-  left : lead_of (map g.F.Field.number l.row) ≡ lead_below (map g.F.Field.number l.row) l.s
+  left : lead_of (map g.F.Field.number l.row) ≡ lead_below (map g.F.Field.number l.row) l.s;
 }
 
 abbrev pub decreases-loop-s : goal.decreases-loop-s

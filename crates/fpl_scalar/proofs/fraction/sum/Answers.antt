@@ -1,29 +1,10 @@
-use Rattle.fpl_scalar.proofs.FractionArithmetic.{left_formed, right_formed, both_formed, both_unfit, below_unfit, sum_formed}
+use Rattle.std.proofs.Common.{arith, ◌≡◌, pos}
+use Rattle.std.proofs.lemmas.Int.{ints}
+use Rattle.fpl_scalar.proofs.WholeFractions.{whole_sum_answer}
 use Rattle.fpl_scalar.proofs.fraction.sum.Goals as goal
 
-pub returns-in_default-plus : goal.returns-in_default-plus
-returns-in_default-plus c =
-    let a = c.args.a in
-    let b = c.args.b in
-    let left = left_formed a b c.requires.left c.requires.right _ _ _ c.below-a_below.ensures.value c.below-b_below.ensures.value c.gcd-common.ensures.value c.in-Some.left c.in-Some.ensures in
-    let right = right_formed a b c.requires.left c.requires.right _ _ _ c.below-a_below.ensures.value c.below-b_below.ensures.value c.gcd-common.ensures.value c.in-Some-multiple.right c.in-Some-multiple.ensures in
-    both_unfit a b c.requires.left c.requires.right _ _ _ c.below-a_below.ensures.value c.below-b_below.ensures.value c.gcd-common.ensures.value c.in-Some.left c.in-Some-multiple.right left right c.in_default-plus.ensures
-
-pub returns-in_default-joined : goal.returns-in_default-joined
-returns-in_default-joined c =
-    let a = c.args.a in
-    let b = c.args.b in
-    let left = left_formed a b c.requires.left c.requires.right _ _ _ c.below-a_below.ensures.value c.below-b_below.ensures.value c.gcd-common.ensures.value c.in-Some.left c.in-Some.ensures in
-    let right = right_formed a b c.requires.left c.requires.right _ _ _ c.below-a_below.ensures.value c.below-b_below.ensures.value c.gcd-common.ensures.value c.in-Some-multiple.right c.in-Some-multiple.ensures in
-    let total = both_formed a b c.requires.left c.requires.right _ _ _ c.below-a_below.ensures.value c.below-b_below.ensures.value c.gcd-common.ensures.value _ _ c.in-Some-plus.total left right c.in-Some-plus.ensures in
-    below_unfit a b c.requires.left c.requires.right _ _ _ c.below-a_below.ensures.value c.below-b_below.ensures.value c.gcd-common.ensures.value c.in-Some-plus.total total _ _ c.unsigned_abs.ensures.value c.gcd-shared.ensures.value c.in_default-joined.ensures
-
-pub returns : goal.returns
-returns c =
-    let a = c.args.a in
-    let b = c.args.b in
-    let left = left_formed a b c.requires.left c.requires.right _ _ _ c.below-a_below.ensures.value c.below-b_below.ensures.value c.gcd-common.ensures.value c.in-Some.left c.in-Some.ensures in
-    let right = right_formed a b c.requires.left c.requires.right _ _ _ c.below-a_below.ensures.value c.below-b_below.ensures.value c.gcd-common.ensures.value c.in-Some-multiple.right c.in-Some-multiple.ensures in
-    let total = both_formed a b c.requires.left c.requires.right _ _ _ c.below-a_below.ensures.value c.below-b_below.ensures.value c.gcd-common.ensures.value _ _ c.in-Some-plus.total left right c.in-Some-plus.ensures in
-    sum_formed a b c.requires.left c.requires.right _ _ _ c.below-a_below.ensures.value c.below-b_below.ensures.value c.gcd-common.ensures.value c.in-Some-plus.total total _ _ c.unsigned_abs.ensures.value c.gcd-shared.ensures.value
-    _ _ c.reduced_by.result c.in-Some-joined.denominator left right c.reduced_by.ensures c.in-Some-joined.ensures
+pub returns-then-b-eq1 : goal.returns-then-b-eq1
+returns-then-b-eq1 c =
+    let a_one : c.args.a.denominator ≡ pos 1 = omega (arith, ints, c.if-a-eq1.true) in
+    let b_one : c.args.b.denominator ≡ pos 1 = omega (arith, ints, c.if-b-eq1.true) in
+    whole_sum_answer c.args.a c.args.b c.requires.left c.requires.right a_one b_one c.plus.result c.whole.result c.whole.ensures c.plus.ensures

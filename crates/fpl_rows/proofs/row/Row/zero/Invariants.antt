@@ -8,5 +8,5 @@ invariant-loop g l = record {
   count : vec_len l.numbers ≡ l.counter;
   zeros : map g.F.Field.number l.numbers.items ≡ replicate l.counter (residue 0);
   elements : AreElements (g.F.Field.kind_of l.field) (map g.F.Field.number l.numbers.items);
-  at_most : l.n < 2 ^ 32
+  at_most : l.n < 2 ^ 32;
 }

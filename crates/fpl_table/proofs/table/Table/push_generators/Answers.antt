@@ -1,10 +1,8 @@
-use Rattle.std.proofs.Common.{◌≡◌, ◌<◌, ◌+◌, ◌-◌, ◌++◌, map, length, ap, refl, sym, subst, ◌∙◌, arith, append-nil, append_assoc}
-use Rattle.std.proofs.lemmas.List.{length-map, map-append}
+use Rattle.std.proofs.Common.{◌≡◌, ◌+◌, ◌-◌, ap, refl, sym, subst, ◌∙◌, arith, append-nil, append_assoc}
+use Rattle.std.proofs.lemmas.List.{map-append}
 use Rattle.fpl_algebra.specs.Symbols.{joined}
-use Rattle.fpl_algebra.specs.Table.{of_generator}
-use Rattle.fpl_table.specs.Plain.{generator_at, symbol_in}
+use Rattle.fpl_table.specs.Plain.{generator_at}
 use Rattle.fpl_table.specs.Shape.{HasShape, IsNumbered}
-use Rattle.fpl_table.specs.Whole.{shape_in}
 use Rattle.fpl_table.proofs.Cells.{generator_weight, generator_yes, generator_no}
 use Rattle.fpl_table.proofs.Lists.{all_push}
 use Rattle.fpl_table.proofs.table.Table.push_generators.Goals as goal

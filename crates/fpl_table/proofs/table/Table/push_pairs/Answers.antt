@@ -1,8 +1,5 @@
-use Rattle.std.proofs.Common.{◌≡◌, ◌<◌, ◌+◌, ◌-◌, ◌++◌, map, length, ap, refl, sym, subst, ◌∙◌, arith, append-nil, append_assoc}
+use Rattle.std.proofs.Common.{◌≡◌, ◌+◌, ◌-◌, refl, sym, arith, append-nil, append_assoc}
 use Rattle.std.proofs.lemmas.List.{map-append}
-use Rattle.fpl_algebra.specs.Symbols.{joined}
-use Rattle.fpl_algebra.specs.Table.{of_pair}
-use Rattle.fpl_table.specs.Plain.{plain_basis, symbol_in, partner_from, through}
 use Rattle.fpl_table.specs.Shape.{HasShape, IsNumbered}
 use Rattle.fpl_table.proofs.Cells.{from_within, row_before, row_more, row_after}
 use Rattle.fpl_table.proofs.Lists.{all_push}

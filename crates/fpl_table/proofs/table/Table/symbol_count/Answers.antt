@@ -1,5 +1,5 @@
-use Rattle.std.proofs.Common.{◌≡◌, ◌<◌, ◌≤◌, ◌+◌, ◌-◌, length, ap, refl, sym, ◌∙◌, arith, length-append, ◌*◌}
-use Rattle.fpl_table.specs.Plain.{plain_basis, through, partner_from}
+use Rattle.std.proofs.Common.{◌≡◌, ◌<◌, ◌≤◌, ◌+◌, ◌-◌, length, ap, sym, ◌∙◌, arith, length-append, ◌*◌}
+use Rattle.fpl_table.specs.Plain.{plain_basis}
 use Rattle.fpl_table.proofs.Cells.{pairs_first, pairs_more, pairs_last, symbols_none, row_length}
 use Rattle.fpl_table.proofs.Weights.{through_below}
 use Rattle.fpl_table.proofs.table.Table.symbol_count.Goals as goal

@@ -1,5 +1,4 @@
-use Rattle.std.proofs.Common.{◌≡◌, ◌<◌, ◌+◌, ◌-◌, ◌++◌, map, length, ap, refl, sym, subst, ◌∙◌, arith, append-nil, append_assoc}
-use Rattle.fpl_table.specs.Plain.{plain_basis, symbol_in, through}
+use Rattle.std.proofs.Common.{◌≡◌, ◌+◌, ◌-◌, refl, sym, arith, append-nil, append_assoc}
 use Rattle.fpl_table.proofs.Cells.{pairs_first, pairs_more, pairs_last, symbols_none}
 use Rattle.fpl_table.proofs.Weights.{through_below}
 use Rattle.fpl_table.proofs.table.Table.symbol_list.Goals as goal

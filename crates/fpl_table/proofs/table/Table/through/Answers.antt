@@ -1,5 +1,5 @@
-use Rattle.std.proofs.Common.{◌≡◌, ◌≤◌, ◌<◌, ◌-◌, suc, length, map, get_or, ap, subst, sym, ◌∙◌, arith}
-use Rattle.fpl_table.specs.Plain.{through, PlainTable}
+use Rattle.std.proofs.Common.{◌≡◌, ◌<◌, ◌-◌, suc, length, get_or, ap, subst, sym, ◌∙◌, arith}
+use Rattle.fpl_table.specs.Plain.{through}
 use Rattle.fpl_table.specs.Shape.{HasShape}
 use Rattle.fpl_table.proofs.Lists.{map_at}
 use Rattle.fpl_table.proofs.Weights.{through_none, through_within}

@@ -1,0 +1,100 @@
+-- What the plain run of a weight gives is the table's next weight.
+use Rattle.std.specs.Prelude.{◌≡◌, ◌<◌, ◌≤◌, ◌↔◌, List, length, Ok, Contains}
+use mathlib.Core.Path.{sym, subst}
+use Rattle.fpl_linear.specs.Vector.{Vector}
+use Rattle.fpl_linear.specs.Span.{Spanned, SpansKind}
+use Rattle.fpl_linear.proofs.Span.{spanned_one, spanned_through, in_span}
+use Rattle.fpl_numbers.specs.declared.number.Num.{Num}
+use Rattle.fpl_numbers.specs.declared.number.Kind.{Kind}
+use Rattle.fpl_numbers.specs.Numbers.{IsField}
+use Rattle.fpl_numbers.specs.Kinds.{field_of}
+use Rattle.fpl_rows.specs.Meaning.{row_in, IsClosedList, InSpanOf}
+use Rattle.fpl_log.specs.declared.step.Origin.{Origin}
+use Rattle.fpl_elimination.specs.Plain.{Held, rows_of}
+use Rattle.fpl_algebra.specs.SourceRows.{IsSource}
+use Rattle.fpl_model.specs.declared.presentation.Presentation.{Presentation}
+use Rattle.fpl_model.specs.Meaning.{presentation_in}
+use Rattle.fpl_table.specs.Plain.{PlainTable, table_in, symbols_in}
+use Rattle.fpl_table.specs.Push.{push_of}
+use Rattle.fpl_next.specs.Holds.{Holds}
+use Rattle.fpl_next.proofs.Holding.{push_holds}
+use Rattle.fpl_rewrite.specs.Origins.{origins_of}
+use Rattle.fpl_rewrite.specs.Rows.{row_of_origin}
+use Rattle.fpl_faithful.specs.Premises.{HasRows, HasWeights}
+use Rattle.fpl_faithful.specs.RowLaws.{Stands}
+use Rattle.fpl_faithful.specs.TableLaws.{vector_of_origin}
+use Rattle.fpl_faithful.proofs.Laws.{rows_of_shape, weights_of_built, rows_stand, origins_are_sources, sources_are_origins}
+use Rattle.fpl_completion.specs.Weight.{close_weight}
+use Rattle.fpl_completion.proofs.Closed.{close_weight_closes}
+
+module _ (p : Presentation) (T : PlainTable) where
+  -- each row of an origin stands for its vector, over the field of kind k
+  abbrev RowsStand : (k : Kind) → (Origin → Vector (field_of k)) → Type 0
+  RowsStand k vector = (o : Origin) → Contains (origins_of T p) o → (row : List Num) → row_of_origin T p o ≡ Ok row → Stands k (length (symbols_in T)) (vector o) row
+
+  -- the rows span what the vectors of the origins span, over the field of kind k
+  abbrev SpanAt : (k : Kind) → List (List Num) → Type 0
+  SpanAt k rows =
+      (vector : Origin → Vector (field_of k)) → RowsStand k vector → (v : Vector (field_of k)) →
+      InSpanOf k rows v ↔ Spanned (field_of k) (λ x. (o : Origin) × Contains (origins_of T p) o × (vector o ≡ x)) v
+
+  closed_at : IsField T.kind → (k : Kind) → T.kind ≡ k → (h : Held) → close_weight T p ≡ Ok h → SpanAt k (rows_of h.pivots)
+  closed_at is_field k e h run =
+      subst (λ k. SpanAt k (rows_of h.pivots)) e (λ vector stand v.
+      (close_weight_closes T is_field p vector
+      (record {
+        elements = λ o c row f. (stand o c row f).elements;
+        long = λ o c row f. (stand o c row f).long;
+        stands = λ o c row f. (stand o c row f).vector;
+      }) h run).span v)
+
+  module _ (holds : Holds p T) where
+    is_field : IsField T.kind
+    is_field = subst IsField (sym holds.kind) holds.sound.field
+
+    rows : HasRows T
+    rows = rows_of_shape T holds.shape
+
+    weights : HasWeights T
+    weights = weights_of_built p T holds.kind holds.generators holds.sound holds.built
+
+    vector : Origin → Vector (field_of p.field)
+    vector o = vector_of_origin (field_of p.field) (presentation_in p) (table_in p.field T) o
+
+    stand : RowsStand p.field vector
+    unfolding vector
+    stand = rows_stand p T holds.kind holds.generators holds.sound rows weights
+
+    -- the rows are closed
+    pub weighed_closed : (h : Held) → close_weight T p ≡ Ok h → IsClosedList T.kind (length (symbols_in T)) (rows_of h.pivots)
+    weighed_closed h run =
+        subst (λ k. (vector : Origin → Vector (field_of k)) → RowsStand k vector → IsClosedList T.kind (length (symbols_in T)) (rows_of h.pivots)) holds.kind
+        (λ vector stand.
+        (close_weight_closes T is_field p vector
+        (record {
+          elements = λ o c row f. (stand o c row f).elements;
+          long = λ o c row f. (stand o c row f).long;
+          stands = λ o c row f. (stand o c row f).vector;
+        }) h run).closed)
+        vector stand
+
+    -- and span exactly the source rows
+    pub weighed_spans : (h : Held) → close_weight T p ≡ Ok h →
+        SpansKind (field_of p.field) (IsSource (field_of p.field) (presentation_in p) (table_in p.field T)) (length (rows_of h.pivots)) (row_in p.field (rows_of h.pivots))
+    unfolding vector
+    weighed_spans h run =
+        let span = closed_at is_field p.field holds.kind h run vector stand in
+        record {
+          each = λ v s.
+              let o = sources_are_origins p T holds.kind holds.generators holds.sound rows weights v s in
+              (span v).1 (spanned_one (field_of p.field) _ v (o.0, o.1, o.2));
+          from = λ i l.
+              spanned_through (field_of p.field) _ (IsSource (field_of p.field) (presentation_in p) (table_in p.field T))
+              (λ x a. spanned_one (field_of p.field) _ x
+              (subst (IsSource (field_of p.field) (presentation_in p) (table_in p.field T)) a.2 (origins_are_sources p T holds.kind holds.generators holds.sound rows weights a.0 a.1)))
+              (row_in p.field (rows_of h.pivots) i) ((span (row_in p.field (rows_of h.pivots) i)).0 (in_span (field_of p.field) (length (rows_of h.pivots)) (row_in p.field (rows_of h.pivots)) i l));
+        }
+
+    -- so the table with the weight pushed is built again
+    pub next_holds : (h : Held) → close_weight T p ≡ Ok h → T.weight < 1000 → length (symbols_in T) ≤ 2000000 → Holds p (push_of T (rows_of h.pivots))
+    next_holds h run below few = push_holds p T (rows_of h.pivots) holds below few (weighed_closed h run) (weighed_spans h run)

@@ -1,0 +1,49 @@
+ghost use Rattle.std.specs.Prelude.{◌≡◌, ◌≤◌, pos, IsTrue};
+ghost use Rattle.fpl_numbers.specs.Numbers.{bound};
+ghost use Rattle.fpl_numbers.specs.Quotients.{quotient_of};
+ghost use Rattle.fpl_syntax.specs.Grammar.{coefficient_of, signed, or_nought};
+ghost use Rattle.fpl_syntax.specs.Kinds.{is_field};
+
+use fpl_numbers::{Kind, Num};
+use fpl_scalar::quotient;
+
+/// The greatest number that a text may write.
+const MOST: u128 = 170141183460469231731687303715884105727;
+
+const NOUGHT: Num = Num {
+    numerator: 0,
+    denominator: 1,
+};
+
+fn signed(negative: bool, a: u128) -> i128
+    requires { a ≤ bound }
+    ensures { result ≡ signed negative a }
+{
+    let a = a as i128;
+    if negative { -a } else { a }
+}
+
+#[tactic(auto, using(crate::proofs::Coefficients::known_field, crate::proofs::Coefficients::signed_small))]
+fn quotient_or_nought(kind: Kind, negative: bool, a: u128, b: u128) -> Num
+    requires field { IsTrue (is_field kind) }
+    requires above { a ≤ bound }
+    requires below { b ≤ bound }
+    ensures { result ≡ or_nought (quotient_of kind (signed negative a) (pos b)) }
+{
+    match quotient(kind, signed(negative, a), b as i128) {
+        Some(c) => c,
+        None => NOUGHT,
+    }
+}
+
+/// The canonical number of a quotient, or of its negative; 0 where there is none.
+#[tactic(auto, unfolding(crate::specs::Grammar::coefficient_of))]
+pub fn coefficient(kind: Kind, negative: bool, a: u128, b: u128) -> Num
+    requires { IsTrue (is_field kind) }
+    ensures { result ≡ coefficient_of kind negative a b }
+{
+    if a > MOST || b > MOST {
+        return NOUGHT;
+    }
+    quotient_or_nought(kind, negative, a, b)
+}

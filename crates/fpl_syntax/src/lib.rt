@@ -1,0 +1,13 @@
+//! The grammar of the input language: sentences of symbols, and what they claim.
+#![tactic(auto)]
+
+mod coefficient;
+mod expression;
+mod naming;
+mod parser;
+mod scope;
+mod symbol;
+
+pub use parser::{Claim, ParseError, one_outcome, parse};
+pub use scope::Scope;
+pub use symbol::{ClaimKind, Numeral, Symbol, Word};
