@@ -72,11 +72,7 @@ impl<F: Field> Table<F> {
     }
 
     /// The symbols of weight `w`, in their order.
-<<<<<<< HEAD
     pub fn symbol_list(&self, alloc: Global, w: u32) -> Result<Vec<Symbol>, AllocError>
-=======
-    pub(crate) fn symbol_list(&self, alloc: Global, w: u32) -> Result<Vec<Symbol>, AllocError>
->>>>>>> 4d3f47f9fd89ce92f945981f2a1dda3366d62fbc
         requires { w ≤ self.now.weight + 1 }
         ensures value { IfOk result (λ list. map symbol_in list.items ≡ symbols_of (shell_in self.now.kind self.now) (table_in self.now.kind self.now) w) }
         ensures numbered { IfOk result (λ list. All IsNumbered list.items) }
