@@ -4,3 +4,4 @@ pub mod Reply
 pub mod Answer
 pub mod Outcome
 pub mod Run
+pub mod OneReply
