@@ -9,7 +9,7 @@ ghost use Rattle.fplsa.specs.Words.{IsNoCommand, IsInRange};
 ghost use Rattle.fplsa.specs.Reply.{Reply, read_fault, IsFree, IsPlain, status_of, text_of, line_of};
 ghost use Rattle.fplsa.specs.Answer.{Answers, AnswersCommand, AnswersText, AnswersPresentation, IsUnread, IsCheckpoint};
 ghost use Rattle.fplsa.specs.Outcome.{reply_of};
-ghost use Rattle.fplsa.specs.Run.{Settles, ReadsNothing, Says, IsReplied, IsPartOf};
+ghost use Rattle.fplsa.specs.Run.{Settles, ReadsNothing, Says, IsReplied, HasTable, IsPartOf};
 
 use crate::line::put_line;
 use crate::outcome::{Outcome, Refusal};
@@ -140,6 +140,7 @@ fn of_command<I: Source, L: Ledger>(
     ensures reply { IfSome (I.left input.old) (λ bytes. (reply_of result ≡ read_fault) ⊎ Settles (AnswersCommand c bytes) (reply_of result)) }
     ensures plain { IsPlain (reply_of result) }
     ensures unread { IsUnread c.view → input.new ≡ input.old }
+    ensures idle { IsUnread c.view → steps.new ≡ steps.old }
     ensures read { status_of (reply_of result) ≡ Status.ReadFault → Rose (I.faults input.old) (I.faults input.new) }
     ensures end { status_of (reply_of result) ≡ Status.Done → IsAtEnd (I.left input.new) }
 {
@@ -167,6 +168,7 @@ fn answer<I: Source, L: Ledger>(
     ensures usage { (status_of (reply_of result) ≡ Status.Usage) ↔ IsNoCommand (map string_bytes words.now.items) }
     ensures reply { IfSome (I.left input.old) (λ bytes. (reply_of result ≡ read_fault) ⊎ Settles (Answers (map string_bytes words.now.items) bytes) (reply_of result)) }
     ensures unread { ReadsNothing (map string_bytes words.now.items) → input.new ≡ input.old }
+    ensures idle { ReadsNothing (map string_bytes words.now.items) → steps.new ≡ steps.old }
     ensures read { status_of (reply_of result) ≡ Status.ReadFault → Rose (I.faults input.old) (I.faults input.new) }
     ensures write { status_of (reply_of result) ≢ Status.WriteFault }
     ensures end { status_of (reply_of result) ≡ Status.Done → IsAtEnd (I.left input.new) }
@@ -218,8 +220,12 @@ pub fn run<I: Source, O: Sink, E: Sink, L: Ledger>(
     ensures part { result ≡ Status.WriteFault → IfSome (I.left input.old) (λ bytes. IsPartOf (map string_bytes words.now.items) bytes (O.taken out.old) (O.taken out.new)) }
     ensures nothing { result ≢ Status.Done → result ≢ Status.WriteFault → O.taken out.new ≡ O.taken out.old }
 
+    // Where there is a table within the limits and no stream fails, it is written, but for want of memory.
+    ensures complete { IfSome (I.left input.old) (λ bytes. HasTable (map string_bytes words.now.items) bytes → (Rose (I.faults input.old) (I.faults input.new) → ⊥) → (Rose (O.faults out.old) (O.faults out.new) → ⊥) → (result ≡ Status.Done) ⊎ (result ≡ Status.NoMemory)) }
+
     ensures end { result ≡ Status.Done → IsAtEnd (I.left input.new) }
     ensures unread { ReadsNothing (map string_bytes words.now.items) → input.new ≡ input.old }
+    ensures idle { ReadsNothing (map string_bytes words.now.items) → steps.new ≡ steps.old }
 {
     let outcome = write_text(out, answer(alloc, words, input, steps));
     let _ = put_line(err, &outcome);
