@@ -1,5 +1,5 @@
 -- What the contracts say of spans follows from what they say of the plain run.
-use Rattle.std.specs.Prelude.{◌≡◌, ℕ, List, length, Result, Ok, Err, All, IfOk, OnErr}
+use Rattle.std.specs.Prelude.{◌≡◌, List, length, Result, Ok, Err, All, IfOk, OnErr}
 use Rattle.std.proofs.Common.{subst, sym}
 use Rattle.fpl_numbers.specs.declared.number.Num.{Num}
 use Rattle.fpl_numbers.specs.declared.number.Fault.{Fault}

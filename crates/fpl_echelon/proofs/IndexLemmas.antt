@@ -1,12 +1,12 @@
 -- The index of pivot rows stays right where a row is put last.
-use Rattle.std.specs.Prelude.{◌≡◌, ◌≢◌, ℕ, zero, suc, ◌+◌, ◌-◌, ◌<◌, ◌≤◌, List, [], ◌∷◌, ◌++◌, length, get_or, slice_get, slice_set, Option, Some, None, true, false, nat_eq}
+use Rattle.std.specs.Prelude.{◌≡◌, ◌≢◌, ℕ, zero, suc, ◌+◌, ◌<◌, List, [], ◌∷◌, ◌++◌, length, slice_get, slice_set, Option, Some, None, true, false, nat_eq}
 use Rattle.std.specs.Option.{option_or, option_and_then}
 use Rattle.std.specs.List.{find}
 use Rattle.std.proofs.lemmas.List.Folds.{find-append}
-use Rattle.std.proofs.lemmas.List.{length-set, length-append}
+use Rattle.std.proofs.lemmas.List.{length-append}
 use Rattle.std.proofs.Common.{sym, refl, ap, ◌∙◌, subst, arith}
 use native.Mathlib.Decide.{ℕ_discrete}
-use Rattle.fpl_rows.proofs.Fits.{none_some, some_same}
+use Rattle.fpl_rows.proofs.Fits.{some_same}
 use Rattle.fpl_elimination.specs.Plain.{PivotRow, stands_at}
 use Rattle.fpl_echelon.specs.Index.{place_at, noted_by, noted_at, IsIndex}
 
@@ -46,7 +46,7 @@ get-there (p ∷ ps) (suc i) l = get-there ps i (omega arith)
 pub index_same : (places wide : List (Option ℕ)) (rows : List PivotRow) → ((s : ℕ) → place_at wide s ≡ place_at places s) → IsIndex places rows → IsIndex wide rows
 index_same places wide rows same h = record {
   within = λ s i e. h.within s i (sym (same s) ∙ e);
-  finds = λ s. h.finds s ∙ ap (option_and_then (λ i. slice_get rows i)) (sym (same s))
+  finds = λ s. h.finds s ∙ ap (option_and_then (λ i. slice_get rows i)) (sym (same s));
 }
 
 module _ (places : List (Option ℕ)) (rows : List PivotRow) (p : PivotRow) (s : ℕ) (h : IsIndex places rows) (lead : p.lead ≡ s + 1) (room : s < length places) where
@@ -80,22 +80,22 @@ module _ (places : List (Option ℕ)) (rows : List PivotRow) (p : PivotRow) (s :
   noted : (o : Option ℕ) → place_at places s ≡ o → IsIndex (noted_by o places s (length rows)) (rows ++ p ∷ [])
   noted None e = record {
     within = λ t i f. elim (ℕ_discrete s t) [
-      yes d ↦ (let g : Some (length rows) ≡ Some i = sym (place_at-here places s (Some (length rows)) room) ∙ ap (place_at (slice_set places s (Some (length rows)))) d ∙ f in let k = some_same g in let l = longer in omega arith)
+      | yes d ↦ (let g : Some (length rows) ≡ Some i = sym (place_at-here places s (Some (length rows)) room) ∙ ap (place_at (slice_set places s (Some (length rows)))) d ∙ f in let k = some_same g in let l = longer in omega arith)
       | no d ↦ (let k = h.within t i (sym (place_at-set places s t (Some (length rows)) d) ∙ f) in let l = longer in omega arith)
     ];
     finds = λ t. elim (ℕ_discrete s t) [
-      yes d ↦ subst (λ t. find (stands_at (t + 1)) (rows ++ p ∷ []) ≡ option_and_then (λ i. slice_get (rows ++ p ∷ []) i) (place_at (slice_set places s (Some (length rows))) t)) d
-        (without s e ∙ found_here ∙ sym (ap (option_and_then (λ i. slice_get (rows ++ p ∷ []) i)) (place_at-here places s (Some (length rows)) room) ∙ get-last rows p))
+      | yes d ↦ subst (λ t. find (stands_at (t + 1)) (rows ++ p ∷ []) ≡ option_and_then (λ i. slice_get (rows ++ p ∷ []) i) (place_at (slice_set places s (Some (length rows))) t)) d
+          (without s e ∙ found_here ∙ sym (ap (option_and_then (λ i. slice_get (rows ++ p ∷ []) i)) (place_at-here places s (Some (length rows)) room) ∙ get-last rows p))
       | no d ↦ other t d (place_at places t) refl ∙ ap (option_and_then (λ i. slice_get (rows ++ p ∷ []) i)) (sym (place_at-set places s t (Some (length rows)) d))
-    ]
+    ];
   }
   noted (Some j) e = record {
     within = λ t i f. (let k = h.within t i f in let l = longer in omega arith);
     finds = λ t. elim (ℕ_discrete s t) [
-      yes d ↦ subst (λ t. find (stands_at (t + 1)) (rows ++ p ∷ []) ≡ option_and_then (λ i. slice_get (rows ++ p ∷ []) i) (place_at places t)) d
-        (keeps s j e ∙ sym (ap (option_and_then (λ i. slice_get (rows ++ p ∷ []) i)) e))
+      | yes d ↦ subst (λ t. find (stands_at (t + 1)) (rows ++ p ∷ []) ≡ option_and_then (λ i. slice_get (rows ++ p ∷ []) i) (place_at places t)) d
+          (keeps s j e ∙ sym (ap (option_and_then (λ i. slice_get (rows ++ p ∷ []) i)) e))
       | no d ↦ other t d (place_at places t) refl
-    ]
+    ];
   }
 
   pub index_more : IsIndex (noted_at places s (length rows)) (rows ++ p ∷ [])

@@ -1,3 +1,4 @@
-pub mod Conclusions
+pub mod Unfoldings
 pub mod TermsTaken
-pub mod Slimming
+pub mod StepsLeftOut
+pub mod SlimLoops

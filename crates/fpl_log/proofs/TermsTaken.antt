@@ -1,6 +1,6 @@
 -- Terms taken off one after another leave the row less their sum; and the next term, and where taking stops.
-use Rattle.std.specs.Prelude.{◌≡◌, ℕ, zero, suc, ◌+◌, ◌-◌, ◌<◌, ◌≤◌, List, [], ◌∷◌, length, get_or, drop, map, slice_get, Option, Some, None, option_map, Result, Ok, Err, All, IfOk, IfSome}
-use mathlib.Core.Path.{sym, refl, ap, ap₂, ◌∙◌, subst}
+use Rattle.std.specs.Prelude.{◌≡◌, ℕ, zero, suc, ◌-◌, ◌≤◌, List, [], ◌∷◌, length, drop, map, slice_get, Option, Some, None, option_map, Result, Ok, Err, All, IfOk, IfSome}
+use mathlib.Core.Path.{sym, refl, ap, ◌∙◌, subst}
 use native.Mathlib.Omega.{arith}
 use Rattle.std.proofs.lemmas.List.{get_or-map}
 use Rattle.fpl_fields.specs.Field.{Field}
@@ -19,8 +19,8 @@ use Rattle.fpl_numbers.specs.Results.{IsFault, GivesBy, and_then}
 use Rattle.fpl_numbers.specs.Reads.{Reads}
 use Rattle.fpl_numbers.specs.Kinds.{field_of, number_of}
 use Rattle.fpl_numbers.proofs.KindReads.{kind_reads}
-use Rattle.fpl_scalar.specs.Vectors.{AreElements, axpy_of, scale_of}
-use Rattle.fpl_rows.specs.Meaning.{IsRowOf, AreRows, vector_in}
+use Rattle.fpl_scalar.specs.Vectors.{AreElements, axpy_of}
+use Rattle.fpl_rows.specs.Meaning.{AreRows, vector_in}
 use Rattle.fpl_rows.proofs.Fits.{ok_same, some_same, none_some, first_fits, all_head, all_tail}
 use Rattle.fpl_rows.proofs.Readings.{IsFor, axpy_reads, scale_reads}
 use Rattle.fpl_log.specs.declared.terms.Term.{Term}
@@ -55,9 +55,9 @@ module _ (kind : Kind) (K : Field) (value : Num → K.Carrier) (reads : Reads ki
         elements = k.elements;
         length_is = k.length_is;
         vector = k.vector
-          ∙ ap (λ x. vplus K x (scale K (K.minus K.unit) (terms_sum K value (cited K value done) ts))) (r.vector ∙ ap (λ c. vplus K (vector_of K value v) (scale K c (vector_of K value (term_row earlier t)))) m.1)
-          ∙ one_more K (vector_of K value v) (terms_sum K value (cited K value done) ts) (vector_of K value (term_row earlier t)) (value t.factor)
-          ∙ ap (λ x. vplus K (vector_of K value v) (scale K (K.minus K.unit) (vplus K (scale K (value t.factor) x) (terms_sum K value (cited K value done) ts)))) (sym (cited_is t is))
+            ∙ ap (λ x. vplus K x (scale K (K.minus K.unit) (terms_sum K value (cited K value done) ts))) (r.vector ∙ ap (λ c. vplus K (vector_of K value v) (scale K c (vector_of K value (term_row earlier t)))) m.1)
+            ∙ one_more K (vector_of K value v) (terms_sum K value (cited K value done) ts) (vector_of K value (term_row earlier t)) (value t.factor)
+            ∙ ap (λ x. vplus K (vector_of K value v) (scale K (K.minus K.unit) (vplus K (scale K (value t.factor) x) (terms_sum K value (cited K value done) ts)))) (sym (cited_is t is));
       }
 
 -- a conclusion over the field of its kind
@@ -75,7 +75,7 @@ conclusion_means kind earlier start row terms k listed a rows all el e =
     go left b v (Some c) el g = (scale_reads kind (field_of kind) (number_of kind) (kind_reads kind listed) left row c b (el c refl) g).vector ∙ ap (scale (field_of kind) (number_of kind c)) v
 
 -- the next term
-drop_next : {X : Type 0} (xs : List X) (k : ℕ) (x : X) → Some x ≡ slice_get xs k → drop k xs ≡ x ∷ drop (suc k) xs
+pub drop_next : {X : Type 0} (xs : List X) (k : ℕ) (x : X) → Some x ≡ slice_get xs k → drop k xs ≡ x ∷ drop (suc k) xs
 drop_next [] k x e = absurd (none_some (sym e))
 drop_next (y ∷ ys) zero x e = ap (λ z. z ∷ ys) (sym (some_same e))
 drop_next (y ∷ ys) (suc k) x e = drop_next ys k x e

@@ -10,7 +10,7 @@
 --   numbers_after                   the new numbers of the steps before and of these
 --   CitesEarlier numbers step       each step that it names is an earlier one, and what a Close step closes stays
 --   AreInOrder numbers count steps  each of the steps does
-use Rattle.std.specs.Prelude.{◌≡◌, ◌≢◌, ℕ, ◌+◌, ◌-◌, ◌≤◌, List, [], ◌∷◌, ◌++◌, length, Option, Some, None, Bool, true, false, unwrap_or, slice_index_or, if◌then◌else◌, All}
+use Rattle.std.specs.Prelude.{◌≢◌, ℕ, ◌+◌, ◌-◌, ◌≤◌, List, [], ◌∷◌, ◌++◌, length, Option, Some, None, Bool, true, false, unwrap_or, slice_index_or, All}
 use Rattle.fpl_numbers.specs.Numbers.{is_nought}
 use Rattle.fpl_log.specs.declared.terms.Term.{Term}
 use Rattle.fpl_log.specs.declared.step.Step.{Step}

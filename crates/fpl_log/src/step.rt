@@ -29,7 +29,10 @@ pub enum Step {
         scale: Num,
     },
     /// Concludes the conclusion of step `of` - sum of factor * conclusion of each term.
-    Close { of: u64, terms: Terms },
+    Close {
+        of: u64,
+        terms: Terms,
+    },
 }
 
 impl Step {

@@ -86,11 +86,7 @@ pub fn conclude<F: Field>(
 }
 
 /// Multiplies by the scale, where there is one.
-fn scale_by<F: Field>(
-    field: &F,
-    scale: Option<F::Elem>,
-    mut row: Row<F>,
-) -> Result<Row<F>, Fault>
+fn scale_by<F: Field>(field: &F, scale: Option<F::Elem>, mut row: Row<F>) -> Result<Row<F>, Fault>
     requires elements { AreElements (F.kind_of field.now) row }
     requires scale { IfSome scale (λ k. IsElement (F.kind_of field.now) (F.number k)) }
     ensures value { GivesBy (λ left. left) result (scaled_by (F.kind_of field.now) (option_map F.number scale) row) }

@@ -1,6 +1,6 @@
 -- The lead of a row: not 0 there, and 0 above.
-use Rattle.std.proofs.Common.{◌≡◌, ◌≢◌, ℕ, zero, suc, ◌+◌, ◌-◌, ◌<◌, ◌≤◌, List, [], ◌∷◌, length, get_or, refl, sym, ap, ◌∙◌, subst, arith, sub-one, add-one, cond, true, false, Bool}
-use Rattle.std.specs.Prelude.{All, Option, Some, None, if◌then◌else◌}
+use Rattle.std.proofs.Common.{◌≡◌, ℕ, zero, suc, ◌-◌, ◌<◌, ◌≤◌, List, length, get_or, refl, sym, ap, subst, arith, sub-one, true, false, Bool}
+use Rattle.std.specs.Prelude.{Some, None, if◌then◌else◌}
 use native.Mathlib.Decide.{ℕ_discrete}
 use Rattle.fpl_numbers.specs.declared.number.Num.{Num}
 use Rattle.fpl_numbers.specs.Numbers.{is_nought, residue}

@@ -1,5 +1,4 @@
 use Rattle.std.proofs.Common.{arith, refl, []}
-use Rattle.fpl_elimination.specs.Plain.{Held}
 use Rattle.fpl_elimination.proofs.Found.{close_fault, close_pivots}
 use Rattle.fpl_echelon.proofs.close.close_all.Goals as goal
 

@@ -1,4 +1,4 @@
-use Rattle.std.proofs.Common.{◌≡◌, ◌∙◌, ◌+◌, ap, length, refl, sym, arith}
+use Rattle.std.proofs.Common.{◌+◌}
 use Rattle.fpl_elimination.proofs.Found.{found_length, found_elements, found_fits}
 use Rattle.fpl_echelon.proofs.close.close_place.Goals as goal
 

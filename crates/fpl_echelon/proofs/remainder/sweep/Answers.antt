@@ -1,4 +1,4 @@
-use Rattle.std.proofs.Common.{◌≡◌, ◌≤◌, ◌-◌, ℕ, subst, arith, length, drop, Ok}
+use Rattle.std.proofs.Common.{◌≡◌, ◌-◌, ℕ, subst, arith, length, drop, Ok}
 use Rattle.fpl_elimination.specs.Plain.{sweep_rows}
 use Rattle.fpl_rows.specs.Meaning.{IsRowOf}
 use Rattle.fpl_elimination.proofs.RowSweeps.{got_is, sweep_next, sweep_stops}
@@ -16,7 +16,7 @@ pub loop-k-preserved : goal.loop-k-preserved
 loop-k-preserved g c = record {
   at_most = omega arith;
   is_row = let P : ℕ → Type 0 = λ n. IsRowOf (g.F.Field.kind_of c.args.field.now) n c.in-Ok.next in subst P c.loop-k.invariant.is_row.length_is c.in-Ok.ensures.elements;
-  done = sweep_next (g.F.Field.kind_of c.args.field.now) c.args.rows.now c.args.row c.loop-k.left c.in-Ok.next c.in-Some.other.now c.loop-k.k (c.loop-k.k - 1) (omega arith) c.in-Some.ensures c.loop-k.invariant.done c.in-Ok.ensures.value
+  done = sweep_next (g.F.Field.kind_of c.args.field.now) c.args.rows.now c.args.row c.loop-k.left c.in-Ok.next c.in-Some.other.now c.loop-k.k (c.loop-k.k - 1) (omega arith) c.in-Some.ensures c.loop-k.invariant.done c.in-Ok.ensures.value;
 }
 
 pub returns-in-Err-clause-value : goal.returns-in-Err-clause-value

@@ -7,7 +7,7 @@ abbrev pub invariant-loop-k : goal.invariant-loop-k
 invariant-loop-k g l = record {
   at_most : l.k ≤ length l.rows;
   is_row : IsRowOf (g.F.Field.kind_of l.field) (length l.fn.row) l.left;
-  done : sweep_rows (g.F.Field.kind_of l.field) (drop l.k l.rows) l.fn.row ≡ Ok l.left
+  done : sweep_rows (g.F.Field.kind_of l.field) (drop l.k l.rows) l.fn.row ≡ Ok l.left;
 }
 
 abbrev pub decreases-loop-k : goal.decreases-loop-k

@@ -1,4 +1,4 @@
-use Rattle.std.proofs.Common.{◌≡◌, ◌≤◌, arith, length}
+use Rattle.std.proofs.Common.{arith}
 use Rattle.fpl_rows.proofs.Leads.{lead_place}
 use Rattle.fpl_echelon.proofs.remainder.take.Goals as goal
 

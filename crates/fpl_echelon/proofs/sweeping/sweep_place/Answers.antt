@@ -1,4 +1,4 @@
-use Rattle.std.proofs.Common.{◌≡◌, ◌+◌, length, arith}
+use Rattle.std.proofs.Common.{◌+◌, length, arith}
 use Rattle.fpl_elimination.proofs.Found.{found_length, found_elements}
 use Rattle.fpl_echelon.proofs.sweeping.sweep_place.Goals as goal
 

@@ -1,4 +1,4 @@
-use Rattle.std.proofs.Common.{◌≡◌, ◌≤◌, ◌+◌, ◌∙◌, ℕ, subst, sym, arith, length}
+use Rattle.std.proofs.Common.{◌≤◌, ◌+◌, ◌∙◌, ℕ, subst, arith, length}
 use Rattle.fpl_rows.specs.Meaning.{IsRowOf}
 use Rattle.fpl_log.specs.Plain.{terms_off}
 use Rattle.fpl_log.proofs.TermsTaken.{taken_next, taken_stops, past_end}
@@ -11,10 +11,10 @@ returns-in-Err-clause-value g c =
 
 pub loop-i-preserved : goal.loop-i-preserved
 loop-i-preserved g c = elim c.match-get.branch [
-  in-None w ↦ absurd (let l : length c.args.terms.now ≤ c.loop-i.i = past_end c.args.terms.now c.loop-i.i w.in-None.ensures in omega arith)
+  | in-None w ↦ absurd (let l : length c.args.terms.now ≤ c.loop-i.i = past_end c.args.terms.now c.loop-i.i w.in-None.ensures in omega arith)
   | in-Some+in-Ok w ↦ record {
     is_row = rw w.left-is (let P : ℕ → Type 0 = λ n. IsRowOf (g.F.Field.kind_of c.args.field.now) n w.in-Ok.next in subst P c.loop-i.invariant.is_row.length_is w.in-Ok.ensures.row);
     done = rw w.left-is
-      (c.loop-i.invariant.done ∙ taken_next (g.F.Field.kind_of c.args.field.now) c.args.earlier.now c.loop-i.left w.in-Ok.next c.args.terms.now (c.loop-i.i + 1) c.loop-i.i w.in-Some.term.now (omega arith) w.in-Some.ensures w.in-Ok.ensures.value)
+        (c.loop-i.invariant.done ∙ taken_next (g.F.Field.kind_of c.args.field.now) c.args.earlier.now c.loop-i.left w.in-Ok.next c.args.terms.now (c.loop-i.i + 1) c.loop-i.i w.in-Some.term.now (omega arith) w.in-Some.ensures w.in-Ok.ensures.value);
   }
 ]

@@ -1,4 +1,4 @@
-use Rattle.std.proofs.Common.{◌≡◌, map, replicate, vec_len, ◌≤◌, ◌<◌, ◌^◌}
+use Rattle.std.proofs.Common.{◌≡◌, map, replicate, vec_len, ◌<◌, ◌^◌}
 use Rattle.fpl_numbers.specs.Numbers.{residue}
 use Rattle.fpl_scalar.specs.Vectors.{AreElements}
 use Rattle.fpl_rows.proofs.row.Row.zero.Given as goal
