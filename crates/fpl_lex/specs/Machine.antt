@@ -9,6 +9,7 @@
 --   step_of       the tokens that a byte at this place ends or is, and the mode after it
 --   chained       an answer passed on, or its fault
 --   lex           the tokens of the bytes from this place on
+--   lex_from      the same, where nothing is begun before
 --   lex_of        the tokens of a text
 --   Fails         an error is the fault of this answer, unless it is want of memory
 --   Gives         an answer is this one, unless memory ran out
@@ -89,6 +90,10 @@ abbrev pub lex : Mode → ℕ → List ℕ → Result (List Token) LexError
 lex mode at [] = finished mode at
 lex mode at (b ∷ bs) = chained (step_of mode at b (class_of b)) (λ s. joined (Ok s.0) (lex s.1 (at + 1) bs))
 
+-- the tokens from this place on, where nothing is begun there
+abbrev pub lex_from : ℕ → List ℕ → Result (List Token) LexError
+lex_from at bytes = lex Between at bytes
+
 abbrev pub lex_of : List ℕ → Result (List Token) LexError
 lex_of text = lex Between 0 text
 
@@ -145,9 +150,9 @@ IsFinished mode at (Err e) = finished mode at ≡ Err e
 
 -- the tokens from this place on are this one and those after it
 abbrev pub IsNext : List ℕ → ℕ → Result (Option Token) LexError → Type 0
-IsNext text from (Ok None) = lex Between from (drop from text) ≡ Ok []
-IsNext text from (Ok (Some t)) = (lex Between from (drop from text) ≡ joined (Ok (t ∷ [])) (lex Between t.end (drop t.end text))) × (from < t.end) × (t.end ≤ length text)
-IsNext text from (Err e) = lex Between from (drop from text) ≡ Err e
+IsNext text from (Ok None) = lex_from from (drop from text) ≡ Ok []
+IsNext text from (Ok (Some t)) = (lex_from from (drop from text) ≡ joined (Ok (t ∷ [])) (lex_from t.end (drop t.end text))) × (from < t.end) × (t.end ≤ length text)
+IsNext text from (Err e) = lex_from from (drop from text) ≡ Err e
 
 -- a mode that begins no later than this place
 abbrev pub IsBefore : Mode → ℕ → Type 0

@@ -6,5 +6,5 @@ mod lexing;
 mod token;
 
 pub use fault::LexError;
-pub use lexing::{one_reading, tokens};
+pub use lexing::{next_token, one_reading, tokens};
 pub use token::{Token, TokenKind, Tokens};

@@ -10,8 +10,8 @@ use Rattle.fpl_syntax.specs.declared.parser.State.TheVariants as state
 use Rattle.fpl_syntax.specs.declared.parser.Claim.{Claim}
 use Rattle.fpl_syntax.specs.declared.parser.ParseError.{ParseError}
 use Rattle.fpl_syntax.specs.declared.parser.ParseError.TheVariants.{Syntax, NoMemory}
-use Rattle.fpl_syntax.specs.Grammar.{Scope, Statement, spell_statement, spelling, claims_of, IsSentence, Begins, GoesWrong, IsFaultAt, Says, Parsed}
-use Rattle.fpl_syntax.specs.Machine.{Answer, ended, or_fault, step_state, parse_from, parse_of, Parses}
+use Rattle.fpl_syntax.specs.Grammar.{Scope, Statement, spell_statement, spelling, claims_of, IsSentence, Begins, GoesWrong, IsFaultAt, Says, IsFaultOf}
+use Rattle.fpl_syntax.specs.Machine.{Answer, ended, or_fault, step_state, parse_from, parse_of, FailsBy}
 use Rattle.fpl_syntax.proofs.Running.{run, sentence_runs}
 use Rattle.fpl_syntax.proofs.Sentences.{Tail, between, in_field, field_named, declaring, declared, weighing, weighed, claiming, spell_done, spell_tail, spell_done-spelling, view_tail, Takes_up, takes, complete_tail}
 
@@ -101,10 +101,15 @@ module _ (scope : Scope) where
   pub outcome : (symbols : List Symbol) → Outcome symbols (parse_of scope symbols)
   outcome symbols = outcome_from symbols [] [] between (record { spelled = λ after. refl; runs = refl })
 
-  pub parsed_from_parses : (symbols : List Symbol) (result : Result (List Claim) ParseError) → Parses result (parse_of scope symbols) → Parsed scope symbols result
-  parsed_from_parses symbols (Ok claims) e = subst (Outcome symbols) e (outcome symbols)
-  parsed_from_parses symbols (Err (Syntax k)) e = subst (Outcome symbols) e (outcome symbols)
-  parsed_from_parses symbols (Err NoMemory) e = tt
+  pub says_from_parse : (symbols : List Symbol) (claims : List Claim) → parse_of scope symbols ≡ Ok claims → Says scope symbols claims
+  says_from_parse symbols claims e = subst (Outcome symbols) e (outcome symbols)
+
+  pub fault_from_parse : (symbols : List Symbol) (k : ℕ) → parse_of scope symbols ≡ Err k → IsFaultAt k symbols
+  fault_from_parse symbols k e = subst (Outcome symbols) e (outcome symbols)
+
+  pub fault_from_fails : (symbols : List Symbol) (e : ParseError) → FailsBy e (parse_of scope symbols) → IsFaultOf e symbols
+  fault_from_fails symbols (Syntax k) e = fault_from_parse symbols k e
+  fault_from_fails symbols NoMemory e = tt
 
   -- one list of claims
   pub one_claims : {symbols : List Symbol} {a b : List Claim} → Says scope symbols a → Says scope symbols b → a ≡ b

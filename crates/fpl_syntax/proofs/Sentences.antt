@@ -19,7 +19,7 @@ use Rattle.fpl_syntax.specs.declared.parser.State.TheVariants as state
 use Rattle.fpl_syntax.specs.declared.parser.Side.{Side}
 use Rattle.fpl_syntax.specs.declared.parser.Claim.{Claim}
 use Rattle.fpl_syntax.specs.Grammar.{Scope, Sum, Statement, field, declare, relation, equation, ideal, equal, Naming, rationals, prime, Declaration, plainly, weighted, spell_sum, naming_symbol, spell_declaration, spell_declarations, spell_statement, spelling, equate, expression_of, claims_in, claims_of, IsSentence, Begins, GoesWrong, IsFaultAt}
-use Rattle.fpl_syntax.specs.Machine.{Answer, fresh, side_from, goes, closed, turned, with_claim, end_side, turn_side, continued, step_outside, step_side, step_state, step_wait, finished, ended, or_fault, parse_from, parse_of, Parses}
+use Rattle.fpl_syntax.specs.Machine.{Answer, fresh, side_from, goes, closed, turned, with_claim, end_side, turn_side, continued, step_outside, step_side, step_state, step_wait, finished, ended, or_fault, parse_from, parse_of}
 use Rattle.fpl_syntax.proofs.Running.{run, sentence_runs}
 use Rattle.fpl_syntax.proofs.Stages.{Held, Inner, start, spell_held, spell_inner, view, view_held, view_inner, Accepts, accepts, Finishes, finishes, complete, nought_sum, nought_symbol}
 

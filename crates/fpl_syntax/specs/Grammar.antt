@@ -16,8 +16,8 @@
 --   expression_of    the expression of a sum
 --   claims_of        the claims of the relations, ideal elements and queries of a sentence, in order
 --   Says             these symbols are a sentence with these claims
---   Parsed           what `parse` answers
-use Rattle.std.specs.Prelude.{ℕ, ◌≡◌, ◌+◌, ℤ, pos, neg_ℤ, nat_le, ◌&&◌, if◌then◌else◌, Option, None, Some, List, [], ◌∷◌, ◌++◌, length, Bool, true, false, Result, Ok, Err}
+--   IsFaultOf        an error of `parse` is the fault of these symbols, unless it is want of memory
+use Rattle.std.specs.Prelude.{ℕ, ◌≡◌, ◌+◌, ℤ, pos, neg_ℤ, nat_le, ◌&&◌, if◌then◌else◌, Option, None, Some, List, [], ◌∷◌, ◌++◌, length, Bool, true, false}
 use Rattle.fpl_numbers.specs.declared.number.Num.{Num}
 use Rattle.fpl_numbers.specs.declared.number.Kind.{Kind}
 use Rattle.fpl_numbers.specs.Numbers.{residue, bound}
@@ -213,7 +213,6 @@ pub record Says (scope : Scope) (symbols : List Symbol) (claims : List Claim) : 
   pub spelled : spelling sentence ≡ symbols
   pub claimed : claims ≡ claims_of scope sentence
 
-abbrev pub Parsed : Scope → List Symbol → Result (List Claim) ParseError → Type 0
-Parsed scope symbols (Ok claims) = Says scope symbols claims
-Parsed scope symbols (Err (Syntax k)) = IsFaultAt k symbols
-Parsed scope symbols (Err NoMemory) = Unit {0}
+abbrev pub IsFaultOf : ParseError → List Symbol → Type 0
+IsFaultOf (Syntax k) symbols = IsFaultAt k symbols
+IsFaultOf NoMemory symbols = Unit {0}

@@ -12,7 +12,7 @@
 --   step_state      what a symbol does
 --   parse_from      the claims of the symbols from the k-th on, or the number of the first that doesn't fit
 --   parse_of        the claims of a sentence
---   Moves, Goes, Takes, Parses   what the parts of the parser answer
+--   Moves, Goes, Takes, FailsBy   what the parts of the parser answer
 use Rattle.std.specs.Prelude.{ℕ, ◌≡◌, ◌+◌, ◌-◌, List, [], ◌∷◌, ◌++◌, Bool, true, false, ◌==◌, Result, Ok, Err, None, Some, if◌then◌else◌}
 use Rattle.std.specs.declared.option.Option.{Option}
 use Rattle.fpl_model.specs.declared.expr.Expr.{Expr}
@@ -238,7 +238,6 @@ abbrev pub Takes : Partial → Partial → Option Frame → Type 0
 Takes old new None = split_last old.enclosing ≡ None
 Takes old new (Some frame) = (split_last old.enclosing ≡ Some (new.enclosing, frame)) × (new ≡ record old { enclosing = new.enclosing })
 
-abbrev pub Parses : Result (List claimed.Claim) ParseError → Result (List claimed.Claim) ℕ → Type 0
-Parses (Ok claims) answer = answer ≡ Ok claims
-Parses (Err (Syntax k)) answer = answer ≡ Err k
-Parses (Err NoMemory) answer = Unit {0}
+abbrev pub FailsBy : ParseError → Result (List claimed.Claim) ℕ → Type 0
+FailsBy (Syntax k) answer = answer ≡ Err k
+FailsBy NoMemory answer = Unit {0}

@@ -1,14 +1,13 @@
-ghost use Rattle.std.specs.Prelude.{◌≡◌, ◌<◌, ◌^◌, ◌⊎◌, ℕ, List, length, IfOk};
+ghost use Rattle.std.specs.Prelude.{◌≡◌, ◌<◌, ◌^◌, ◌⊎◌, ℕ, List, length, Ok, IfOk, IfErr};
 ghost use Rattle.fpl_syntax.specs.Sight.{sight};
 ghost use Rattle.fpl_syntax.specs.Grammar.{Scope as Sense};
-ghost use Rattle.fpl_syntax.specs.Grammar.{Says, Parsed, IsFaultAt, IsSentence};
+ghost use Rattle.fpl_syntax.specs.Grammar.{Says, IsFaultAt, IsFaultOf, IsSentence};
 ghost use Rattle.fpl_syntax.specs.declared.parser.ParseError.TheVariants.{NoMemory};
-ghost use Rattle.fpl_syntax.specs.Machine.{side_from, step_outside, closed, finished, end_side, turn_side, step_side, step_state, parse_of, Goes, Parses};
+ghost use Rattle.fpl_syntax.specs.Machine.{side_from, step_outside, closed, finished, end_side, turn_side, step_side, step_state, parse_of, Goes, FailsBy};
 
 use crate::expression::{Partial, Wait, finish, step};
 use crate::{ClaimKind, Scope, Symbol};
 use fpl_model::{Equation, Expr};
-use sqlite_items::Items;
 use std::alloc::{AllocError, Global};
 use thiserror::Error;
 
@@ -118,10 +117,10 @@ fn close_claim(kind: ClaimKind, place: usize, left: Option<Expr>, e: Expr) -> Op
 fn end_side(
     alloc: Global,
     scope: &Scope,
-    claims: &mut Items<Claim>,
+    claims: &mut Vec<Claim>,
     side: Side,
 ) -> Result<Option<State>, AllocError>
-    ensures { IfOk result (λ next. Goes claims.new next (end_side claims.old side (finished (sight scope.now) side.partial side.wait))) }
+    ensures { IfOk result (λ next. Goes claims.new.items next (end_side claims.old.items side (finished (sight scope.now) side.partial side.wait))) }
 {
     let Side {
         kind: claim,
@@ -144,7 +143,7 @@ fn end_side(
 fn turn_side(
     alloc: Global,
     scope: &Scope,
-    claims: &Items<Claim>,
+    claims: &[Claim],
     side: Side,
 ) -> Result<Option<State>, AllocError>
     ensures { IfOk result (λ next. Goes claims.now next (turn_side claims.now side (finished (sight scope.now) side.partial side.wait))) }
@@ -170,11 +169,11 @@ fn turn_side(
 fn step_side(
     alloc: Global,
     scope: &Scope,
-    claims: &mut Items<Claim>,
+    claims: &mut Vec<Claim>,
     side: Side,
     symbol: Symbol,
 ) -> Result<Option<State>, AllocError>
-    ensures { IfOk result (λ next. Goes claims.new next (step_side (sight scope.now) claims.old side symbol)) }
+    ensures { IfOk result (λ next. Goes claims.new.items next (step_side (sight scope.now) claims.old.items side symbol)) }
 {
     match symbol {
         Symbol::Semicolon => end_side(alloc, scope, claims, side),
@@ -201,14 +200,15 @@ fn step_side(
     }
 }
 
-fn step_state(
+/// What a sentence waits for after a symbol, or `None` where the symbol does not fit; then the claims are of no more use.
+pub fn step_state(
     alloc: Global,
     scope: &Scope,
-    claims: &mut Items<Claim>,
+    claims: &mut Vec<Claim>,
     state: State,
     symbol: Symbol,
 ) -> Result<Option<State>, AllocError>
-    ensures { IfOk result (λ next. Goes claims.new next (step_state (sight scope.now) claims.old state symbol)) }
+    ensures { IfOk result (λ next. Goes claims.new.items next (step_state (sight scope.now) claims.old.items state symbol)) }
 {
     match state {
         State::Side(side) => step_side(alloc, scope, claims, side, symbol),
@@ -216,15 +216,12 @@ fn step_state(
     }
 }
 
-fn parse_symbols(
-    alloc: Global,
-    scope: &Scope,
-    symbols: &[Symbol],
-) -> Result<Items<Claim>, ParseError>
+fn parse_symbols(alloc: Global, scope: &Scope, symbols: &[Symbol]) -> Result<Vec<Claim>, ParseError>
     requires { length symbols.now < 2 ^ 32 }
-    ensures { Parses result (parse_of (sight scope.now) symbols.now) }
+    ensures claims { IfOk result (λ claims. parse_of (sight scope.now) symbols.now ≡ Ok claims.items) }
+    ensures fault { IfErr result (λ e. FailsBy e (parse_of (sight scope.now) symbols.now)) }
 {
-    let mut claims = Items::new(alloc);
+    let mut claims = Vec::new(alloc);
     let mut state = State::Statement;
     for (at, symbol) in symbols.iter().enumerate() {
         match step_state(alloc, scope, &mut claims, state, *symbol) {
@@ -240,9 +237,10 @@ fn parse_symbols(
 }
 
 /// The claims of a sentence in their order, or the number of the symbol with which the symbols begin no sentence.
-pub fn parse(alloc: Global, scope: &Scope, symbols: &[Symbol]) -> Result<Items<Claim>, ParseError>
+pub fn parse(alloc: Global, scope: &Scope, symbols: &[Symbol]) -> Result<Vec<Claim>, ParseError>
     requires few { length symbols.now < 2 ^ 32 }
-    ensures { Parsed (sight scope.now) symbols.now result }
+    ensures claims { IfOk result (λ claims. Says (sight scope.now) symbols.now claims.items) }
+    ensures fault { IfErr result (λ e. IsFaultOf e symbols.now) }
 {
     parse_symbols(alloc, scope, symbols)
 }

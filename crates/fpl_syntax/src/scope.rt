@@ -5,6 +5,7 @@ use fpl_model::Generator;
 use fpl_numbers::Kind;
 
 /// How the names and numbers of a text are understood.
+#[derive(Drop)]
 pub struct Scope<'a> {
     pub kind: Kind,
     pub text: &'a [u8],

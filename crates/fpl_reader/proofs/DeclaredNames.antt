@@ -1,0 +1,123 @@
+-- The names that a text declares and uses are names.
+use Rattle.std.proofs.Common.{◌≡◌, ℕ, zero, suc, ◌+◌, ◌<◌, ◌≤◌, List, [], ◌∷◌, ◌++◌, length, map, get_or, Bool, true, false, ◌&&◌, ◌==◌, IsTrue, if◌then◌else◌, refl, ap, sym, ◌∙◌, subst, arith, append_assoc}
+use Rattle.std.specs.Prelude.{None, Some, codes, Contains}
+use Rattle.std.specs.List.{list_all}
+use Rattle.std.specs.Str.{bytes_eq}
+use Rattle.std.specs.declared.option.Option.{Option}
+use Rattle.std.proofs.lemmas.Slice.Eq.{bytes_eq-Decides}
+use Rattle.fpl_text.specs.Bytes.{is_word, most_name, reserved, IsName}
+use Rattle.fpl_lex.specs.declared.token.Token.{Token}
+use Rattle.fpl_lex.specs.declared.token.TokenKind.{TokenKind}
+use Rattle.fpl_lex.specs.declared.token.TokenKind.TheVariants as kinds
+use Rattle.fpl_model.specs.declared.presentation.Parity.{Parity}
+use Rattle.fpl_syntax.specs.declared.symbol.Symbol.{Symbol}
+use Rattle.fpl_syntax.specs.declared.symbol.Symbol.TheVariants as mark
+use Rattle.fpl_syntax.specs.declared.symbol.Word.{Word}
+use Rattle.fpl_syntax.specs.declared.symbol.Numeral.{Numeral}
+use Rattle.fpl_syntax.specs.Sight.{word_of}
+use Rattle.fpl_reader.specs.declared.survey.Event.{Event}
+use Rattle.fpl_reader.specs.declared.survey.Event.TheVariants.{FieldNamed, Declared, Used, Divided}
+use Rattle.fpl_reader.specs.declared.survey.DeclaredName.{DeclaredName}
+use Rattle.fpl_reader.specs.declared.survey.Track.{Track}
+use Rattle.fpl_reader.specs.declared.survey.Track.TheVariants as track
+use Rattle.fpl_reader.specs.Events.{declared_in, name_in}
+use Rattle.fpl_reader.specs.Reading.{name_of}
+use Rattle.fpl_reader.specs.Scan.{note, scan, event_list}
+use Rattle.fpl_reader.specs.Symbols.{word_symbol, mark_symbol, kind_symbol, symbol_of, symbols_of}
+use Rattle.fpl_reader.proofs.Words.{IsWordAt, AreWords}
+
+-- a word is none of the reserved ones, where it differs from each
+unequal : (word other : List ℕ) → bytes_eq word other ≡ false → other ≡ word → ⊥
+unequal word other e same = let t = (bytes_eq-Decides word other).1 (sym same) in cc
+
+free_of : (word : List ℕ) → bytes_eq word (codes "field") ≡ false → bytes_eq word (codes "even") ≡ false → bytes_eq word (codes "odd") ≡ false → bytes_eq word (codes "relation") ≡ false
+    → bytes_eq word (codes "ideal") ≡ false → bytes_eq word (codes "equal") ≡ false → Contains reserved word → ⊥
+free_of word a b c d e f (zero, inside, same) = unequal word (codes "field") a same
+free_of word a b c d e f (suc zero, inside, same) = unequal word (codes "even") b same
+free_of word a b c d e f (suc (suc zero), inside, same) = unequal word (codes "odd") c same
+free_of word a b c d e f (suc (suc (suc zero)), inside, same) = unequal word (codes "relation") d same
+free_of word a b c d e f (suc (suc (suc (suc zero))), inside, same) = unequal word (codes "ideal") e same
+free_of word a b c d e f (suc (suc (suc (suc (suc zero)))), inside, same) = unequal word (codes "equal") f same
+free_of word a b c d e f (suc (suc (suc (suc (suc (suc k))))), inside, same) = omega arith
+
+declared_in-append : (es fs : List Event) → declared_in (es ++ fs) ≡ declared_in es ++ declared_in fs
+declared_in-append [] fs = refl
+declared_in-append (e ∷ es) fs = ap (λ ds. name_in e ++ ds) (declared_in-append es fs) ∙ sym (append_assoc (name_in e) (declared_in es) (declared_in fs))
+
+module _ (text : List ℕ) where
+  abbrev pub IsNameAt : Word → Type 0
+  IsNameAt w = IsName (word_of text w.start w.end)
+
+  abbrev pub IsFine : Symbol → Type 0
+  IsFine (mark.Name w) = IsNameAt w
+  IsFine _ = Unit {0}
+
+  abbrev pub AreFine : List Symbol → Type 0
+  AreFine [] = Unit {0}
+  AreFine (s ∷ ss) = IsFine s × AreFine ss
+
+  choose : (t : Bool) (a b : Symbol) → IsFine a → (t ≡ false → IsFine b) → IsFine (if t then a else b)
+  choose true a b h k = h
+  choose false a b h k = k refl
+
+  word_fine : (word : List ℕ) (start end : ℕ) → IsTrue (is_word word) → length word ≤ most_name → word_of text start end ≡ word → IsFine (word_symbol word start end)
+  word_fine word start end spelled short same =
+      choose (bytes_eq word (codes "field")) _ _ tt (λ a.
+      choose (bytes_eq word (codes "even")) _ _ tt (λ b.
+      choose (bytes_eq word (codes "odd")) _ _ tt (λ c.
+      choose (bytes_eq word (codes "relation")) _ _ tt (λ d.
+      choose (bytes_eq word (codes "ideal")) _ _ tt (λ e.
+      choose (bytes_eq word (codes "equal")) _ _ tt (λ f.
+      subst IsName (sym same) (record { spelled = spelled; short = short; free = λ h. free_of word a b c d e f h })))))))
+
+  mark_fine : (b : ℕ) → IsFine (mark_symbol b)
+  mark_fine b =
+      choose (b == 59) _ _ tt (λ _. choose (b == 44) _ _ tt (λ _. choose (b == 58) _ _ tt (λ _. choose (b == 61) _ _ tt (λ _. choose (b == 43) _ _ tt (λ _. choose (b == 45) _ _ tt (λ _.
+      choose (b == 42) _ _ tt (λ _. choose (b == 47) _ _ tt (λ _. choose (b == 91) _ _ tt (λ _. choose (b == 93) _ _ tt (λ _. choose (b == 40) _ _ tt (λ _. tt)))))))))))
+
+  kind_fine : (start end : ℕ) (kind : TokenKind) → IsWordAt text start end kind → IsFine (kind_symbol text start end kind)
+  kind_fine start end kinds.Word h = word_fine (word_of text start end) start end h.0 h.1 refl
+  kind_fine start end (kinds.Number n) h = tt
+  kind_fine start end (kinds.Mark b) h = mark_fine b
+
+  pub symbols_fine : (ts : List Token) → AreWords text ts → AreFine (symbols_of text ts)
+  unfolding symbol_of
+  symbols_fine [] h = tt
+  symbols_fine (t ∷ ts) (h, hs) = (kind_fine t.start t.end t.kind h, symbols_fine ts hs)
+
+  abbrev IsFineTrack : Track → Type 0
+  IsFineTrack (track.Named parity w weight) = IsNameAt w
+  IsFineTrack _ = Unit {0}
+
+  abbrev pub AreNames : List DeclaredName → Type 0
+  AreNames [] = Unit {0}
+  AreNames (d ∷ ds) = IsName (name_of text d) × AreNames ds
+
+  abbrev IsFineNote : Option Event × Track → Type 0
+  IsFineNote s = AreNames (declared_in (event_list s.0)) × IsFineTrack s.1
+
+  note_fine : (t : Track) (symbol : Symbol) → IsFineTrack t → IsFine symbol → IsFineNote (note t symbol)
+  note_fine track.Outside (mark.Field place) h k = (tt, tt)
+  note_fine track.Outside symbol h k = (tt, tt)
+  note_fine (track.InField place) (mark.Name w) h k = (tt, tt)
+  note_fine (track.InField place) symbol h k = (tt, tt)
+  note_fine (track.Declaring parity) (mark.Name w) h k = (tt, k)
+  note_fine (track.Declaring parity) symbol h k = (tt, tt)
+  note_fine (track.Named parity w weight) mark.Comma h k = ((h, tt), tt)
+  note_fine (track.Named parity w weight) mark.Semicolon h k = ((h, tt), tt)
+  note_fine (track.Named parity w weight) symbol h k = (tt, h)
+  note_fine track.InClaim (mark.Name w) h k = (tt, tt)
+  note_fine track.InClaim symbol h k = (tt, tt)
+  note_fine track.AfterSlash (mark.Number d) h k = (tt, tt)
+  note_fine track.AfterSlash symbol h k = (tt, tt)
+
+  AreNames-append : (ds fs : List DeclaredName) → AreNames ds → AreNames fs → AreNames (ds ++ fs)
+  AreNames-append [] fs h k = k
+  AreNames-append (d ∷ ds) fs (h, hs) k = (h, AreNames-append ds fs hs k)
+
+  pub scan_fine : (t : Track) (symbols : List Symbol) → IsFineTrack t → AreFine symbols → AreNames (declared_in (scan t symbols))
+  scan_fine t [] h k = tt
+  scan_fine t (symbol ∷ symbols) h (k, ks) =
+      let s = note_fine t symbol h k in
+      subst AreNames (sym (declared_in-append (event_list (note t symbol).0) (scan (note t symbol).1 symbols)))
+      (AreNames-append (declared_in (event_list (note t symbol).0)) (declared_in (scan (note t symbol).1 symbols)) s.0 (scan_fine (note t symbol).1 symbols s.1 ks))

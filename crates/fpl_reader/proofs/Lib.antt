@@ -1,0 +1,13 @@
+pub mod Streams
+pub mod Scanning
+pub mod Twice
+pub mod Parsing
+pub mod Terms
+pub mod Elements
+pub mod Filling
+pub mod Words
+pub mod DeclaredNames
+pub mod Readings
+pub mod Counting
+pub mod Allowed
+pub mod ClaimTerms

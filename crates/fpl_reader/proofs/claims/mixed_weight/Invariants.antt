@@ -1,0 +1,6 @@
+use Rattle.std.proofs.Common.{◌≡◌, drop}
+use Rattle.fpl_reader.specs.Reading.{first_place, mixed_weight_of}
+use Rattle.fpl_reader.proofs.claims.mixed_weight.Given as goal
+
+abbrev pub invariant-loop-c : goal.invariant-loop-c
+invariant-loop-c l = first_place (mixed_weight_of l.p) l.claims ≡ first_place (mixed_weight_of l.p) (drop l.c-index l.claims)

@@ -1,0 +1,9 @@
+pub mod Answers
+pub mod Events
+pub mod Reading
+pub mod Scan
+pub mod Sentence
+pub mod Stream
+pub mod Symbols
+pub mod Terms
+pub mod Texts
