@@ -3,7 +3,7 @@ use Rattle.fpl_numbers.specs.declared.number.Kind.{Kind}
 use Rattle.fpl_numbers.specs.declared.number.Kind.TheVariants.{Prime}
 use Rattle.fpl_table.specs.Standard.{count_of}
 use Rattle.fpl_faithful.proofs.Fitting.{Always, prime_always}
-use Rattle.fpl_complete.proofs.Closing.{gather_fault, close_fault, again_fault, weighed, weighed_once, symbols_counted}
+use Rattle.fpl_complete.proofs.Closing.{again_fault, weighed, weighed_once, symbols_counted}
 use Rattle.fpl_complete.proofs.weight.close_weight.Goals as goal
 
 pub symbols-requires-clause-few : goal.symbols-requires-clause-few
@@ -23,4 +23,6 @@ returns-in-Ok-sweep_again-clause-value g c =
     c.in-Ok-gather.ensures.value c.in-Ok-close.ensures.value c.in-Ok-sweep_again.ensures.value
 
 pub returns-clause-value : goal.returns-clause-value
-returns-clause-value g c = ?
+returns-clause-value g c =
+    again_fault c.args.table.now c.args.p.now c.in-Ok-gather.echelon c.in-Ok-close.closed.rows c.in-Ok-close.closed.steps c.in-Err-sweep_again.fault
+    c.in-Ok-gather.ensures.value c.in-Ok-close.ensures.value c.in-Err-sweep_again.ensures.value

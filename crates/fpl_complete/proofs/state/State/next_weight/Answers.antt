@@ -64,11 +64,12 @@ returns-in-Err-Unfit-clause-limit g c =
 pub returns-in-Err-Unfit-clause-fractions : goal.returns-in-Err-Unfit-clause-fractions
 returns-in-Err-Unfit-clause-fractions g c = λ w op a b e.
     ap (λ (s : PlainState). s.presentation.field) (sym c.self.view_is)
-    ∙ unfit_fractions c.self.inside.table c.self.inside.presentation c.self.inside.presentation.field c.in-Err-Unfit.u c.self.invariant.holds.kind cc
+    ∙ unfit_fractions c.self.inside.table c.self.inside.presentation c.self.inside.presentation.field c.in-Err-Unfit.u c.self.invariant.holds.kind (rw c.in-Err-Unfit.field-0-is at c.in-Err-Unfit.ensures.value)
 
 pub push_weight-requires-clause-rows : goal.push_weight-requires-clause-rows
 push_weight-requires-clause-rows g c =
-    subst (λ (n : ℕ). AreRows c.self.inside.table.kind n c.in-Ok.closed.rows) (symbols_counted c.self.inside.table) c.in-Ok.ensures.closed.are_rows
+    let next : suc c.self.inside.table.weight ≡ c.self.inside.table.weight + 1 = omega arith in
+    subst (λ (n : ℕ). AreRows c.self.inside.table.kind n c.in-Ok.closed.rows) (symbols_counted c.self.inside.table ∙ ap (λ (w : ℕ). count_of c.self.inside.table w) next) c.in-Ok.ensures.closed.are_rows
 
 pub invariant_of-self : goal.invariant_of-self
 invariant_of-self g c =
