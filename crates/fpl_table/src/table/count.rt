@@ -12,7 +12,7 @@ use std::alloc::{AllocError, Global};
 
 impl<F: Field> Table<F> {
     /// The number of generators of weight `w`.
-    fn generator_count(&self, w: u32) -> u32
+    pub(super) fn generator_count(&self, w: u32) -> u32
         ensures value { result ≡ length (generator_cells self.now w) }
         ensures few { result ≤ 64 }
         ensures shape { HasShape self.now }

@@ -1,0 +1,10 @@
+//! Completion: a presentation's table, raised weight by weight.
+#![tactic(auto)]
+
+mod fault;
+mod rows;
+mod state;
+mod weight;
+
+pub use fault::RaiseFault;
+pub use state::State;
