@@ -1,5 +1,5 @@
 -- The parts of a weight's run make its whole.
-use Rattle.std.specs.Prelude.{ℕ, suc, ◌+◌, ◌≡◌, ◌≤◌, ◌<◌, List, length, Result, Ok, Err}
+use Rattle.std.specs.Prelude.{suc, ◌≡◌, List, length, Result, Ok, Err}
 use mathlib.Core.Path.{refl, sym, subst, ap, ◌∙◌}
 use Rattle.fpl_numbers.specs.declared.number.Num.{Num}
 use Rattle.fpl_numbers.specs.declared.number.Unfit.{Unfit}
@@ -15,7 +15,7 @@ use Rattle.fpl_algebra.specs.Symbols.{symbols, symbols_of}
 use Rattle.fpl_table.specs.Plain.{PlainTable, symbols_in}
 use Rattle.fpl_table.specs.Standard.{count_of}
 use Rattle.fpl_rewrite.specs.Origins.{origins_of}
-use Rattle.fpl_faithful.proofs.Fits.{ok_same, first_fits, part_fits}
+use Rattle.fpl_faithful.proofs.Fits.{part_fits}
 use Rattle.fpl_faithful.proofs.Fitting.{Always}
 use Rattle.fpl_completion.specs.Weight.{begun, gather, again, close_weight}
 use Rattle.fpl_completion.proofs.Fitting.{close_weight_fits}

@@ -68,7 +68,7 @@ module _ (T : PlainTable) (p : Presentation) where
   pub next_state : (n m : ℕ) (rows : List (List Num)) → IsState p T n → T.weight < 1000 → n + count_of T (suc T.weight) ≡ m → m ≤ 2000000 → Closes rows → IsState p (push_of T rows) m
   next_state n m rows s below sum few c = record {
     holds = subst (λ (rows : List (List Num)). Holds p (push_of T rows)) (sym c.rows_are)
-      (next_holds p T s.holds c.held c.run below (subst (λ (x : ℕ). x ≤ 2000000) (sym (symbols_counted T)) (few_next n m 2000000 sum few)));
+        (next_holds p T s.holds c.held c.run below (subst (λ (x : ℕ). x ≤ 2000000) (sym (symbols_counted T)) (few_next n m 2000000 sum few)));
     number = counts_pushed T s.holds.shape rows (suc T.weight) (omega arith) ∙ counted_next n m s sum;
     few = few;
   }

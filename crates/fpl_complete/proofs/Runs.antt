@@ -1,5 +1,5 @@
 -- What origins that are still to come make of an elimination, or of a sweep, as each is done.
-use Rattle.std.specs.Prelude.{ℕ, suc, ◌+◌, ◌≡◌, ◌<◌, List, [], ◌∷◌, length, Result, Ok, Err, Contains}
+use Rattle.std.specs.Prelude.{suc, ◌≡◌, List, [], ◌∷◌, Result, Ok, Err, Contains}
 use mathlib.Core.Path.{refl, sym, subst, ◌∙◌}
 use native.Mathlib.Omega.{arith}
 use Rattle.fpl_numbers.specs.declared.number.Num.{Num}

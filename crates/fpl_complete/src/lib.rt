@@ -2,7 +2,6 @@
 #![tactic(auto)]
 
 mod fault;
-mod rows;
 mod state;
 mod weight;
 

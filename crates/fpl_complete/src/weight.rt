@@ -10,11 +10,10 @@ ghost use Rattle.fpl_next.specs.Holds.{Holds};
 ghost use Rattle.fpl_rewrite.specs.Origins.{origins_of};
 ghost use Rattle.fpl_completion.specs.Weight.{begun, put_of, gather, again, close_weight};
 
-use crate::rows::row_of_origin;
 use fpl_echelon::{Closed, Echelon, sweep};
 use fpl_log::Origin;
 use fpl_model::Presentation;
-use fpl_rewrite::Origins;
+use fpl_rewrite::{Origins, origin_row};
 use fpl_rows::Rows;
 use fpl_scalar::{Fault, Field, Kind};
 use fpl_steps::Steps;
@@ -43,7 +42,7 @@ fn put<F: Field, L: Ledger>(
     ensures step { OnOk result (steps.new ≡ steps.old + 1) }
     ensures most { (steps.old ≤ steps.new) × (steps.new ≤ steps.old + 1) }
 {
-    match row_of_origin(alloc, table, p, symbols, origin) {
+    match origin_row(alloc, table, p, symbols, origin) {
         Ok(row) => match echelon.insert(row, origin, steps) {
             Ok(_) => Ok(()),
             Err(fault) => Err(fault),
@@ -99,7 +98,7 @@ fn sweep_one<F: Field>(
     requires closed { IsClosedList table.now.kind (length (symbols_in table.now)) rows.now }
     ensures value { (h : Held) → Gives result h (and_then (λ row. and_then (λ left. Ok h) (sweep_rows table.now.kind rows.now row)) (row_of_origin table.now p.now origin)) }
 {
-    match row_of_origin(alloc, table, p, symbols, origin) {
+    match origin_row(alloc, table, p, symbols, origin) {
         Ok(row) => match sweep(alloc, table.field(), rows, row) {
             Ok(_) => Ok(()),
             Err(fault) => Err(fault),

@@ -1,12 +1,11 @@
 -- Closed rows stand in ascending order of their leads, so their list follows from the table.
-use Rattle.std.specs.Prelude.{◌≡◌, ◌≢◌, ℕ, zero, suc, ◌+◌, ◌-◌, ◌<◌, ◌≤◌, List, [], ◌∷◌, ◌++◌, length, get_or, map, All, Option, Some, None, option_map, Ok, cond, true, false, Bool, nat_eq}
+use Rattle.std.specs.Prelude.{◌≡◌, ℕ, zero, suc, ◌+◌, ◌<◌, ◌≤◌, List, [], ◌∷◌, ◌++◌, length, map, Option, Some, None, option_map, Ok, true, false, nat_eq}
 use Rattle.std.specs.List.{find}
 use mathlib.Core.Path.{sym, refl, ap, ap₂, ◌∙◌, subst}
 use native.Mathlib.Omega.{arith}
 use native.Mathlib.Decide.{dec_lt}
-use Rattle.fpl_numbers.specs.declared.number.Num.{Num}
 use Rattle.fpl_numbers.specs.declared.number.Kind.{Kind}
-use Rattle.fpl_elimination.specs.Plain.{PivotRow, IsPivotRow, stands_at, Swept, Held, sweep_of, close_by, close_to}
+use Rattle.fpl_elimination.specs.Plain.{PivotRow, stands_at, Held, sweep_of, close_by, close_to}
 use Rattle.fpl_rows.proofs.Fits.{first_fits, part_fits, ok_same, some_same}
 
 -- leads from m + 1 on, ascending, the last at most n
@@ -61,12 +60,15 @@ module _ (X : Type 0) (f : PivotRow → X) where
       at_least : (p q : PivotRow) (qs : List PivotRow) → AscendsFrom q.lead n qs → Some (f p) ≡ option_map f (find (stands_at p.lead) (q ∷ qs)) → Dec (p.lead < q.lead) → q.lead ≤ p.lead
       at_least p q qs a e (yes l) = absurd (some_not_none (e ∙ ap (option_map f) (not_below p.lead n p.lead (q ∷ qs) (l, a) (omega arith))))
       at_least p q qs a e (no l) = omega arith
+
       leads : p.lead ≡ q.lead
       leads =
           let u = at_least p q qs k.1 (ap (option_map f) (sym (found_first p ps)) ∙ same p.lead h.0) (dec_lt p.lead q.lead) in
           let v = at_least q p ps h.1 (ap (option_map f) (sym (found_first q qs)) ∙ sym (same q.lead k.0)) (dec_lt q.lead p.lead) in omega arith
+
       first : f p ≡ f q
       first = some_same (ap (option_map f) (sym (found_first p ps)) ∙ same p.lead h.0 ∙ ap (λ w. option_map f (find (stands_at w) (q ∷ qs))) leads ∙ ap (option_map f) (found_first q qs))
+
       rest : (s : ℕ) → p.lead < s → option_map f (find (stands_at s) ps) ≡ option_map f (find (stands_at s) qs)
       rest s l =
           ap (option_map f) (sym (found_later p ps s l)) ∙ same s (let a = h.0 in omega arith) ∙ ap (option_map f) (found_later q qs s (let a = leads in omega arith))

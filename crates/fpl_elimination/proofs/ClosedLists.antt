@@ -1,7 +1,7 @@
 -- Ascending reduced pivot rows are a closed list of the same span.
-use Rattle.std.specs.Prelude.{◌≡◌, ◌≢◌, ℕ, zero, suc, ◌+◌, ◌-◌, ◌<◌, ◌≤◌, ◌↔◌, List, [], ◌∷◌, length, get_or, map, All, Option, Some, None, option_map, unwrap_or, Bool, true, false, cond}
+use Rattle.std.specs.Prelude.{◌≡◌, ◌≢◌, ℕ, zero, suc, ◌+◌, ◌-◌, ◌<◌, ◌↔◌, List, [], ◌∷◌, length, get_or, All, Option, Some, None, option_map, unwrap_or, Bool, true, false, cond}
 use Rattle.std.specs.List.{find}
-use mathlib.Core.Path.{sym, refl, ap, ap₂, ◌∙◌, subst}
+use mathlib.Core.Path.{sym, refl, ap, ◌∙◌, subst}
 use native.Mathlib.Omega.{arith}
 use native.Mathlib.Decide.{dec_lt}
 use Rattle.std.proofs.lemmas.List.{get_or-map, length-map}
@@ -10,20 +10,19 @@ use Rattle.fpl_linear.specs.Vector.{Vector}
 use Rattle.fpl_linear.specs.Lists.{vector_of}
 use Rattle.fpl_linear.specs.Span.{Spanned, InSpan, SpansKind}
 use Rattle.fpl_linear.specs.Closed.{IsClosed}
-use Rattle.fpl_linear.specs.Echelon.{Pivots, IsRow, HasLead, IsReduced}
+use Rattle.fpl_linear.specs.Echelon.{Pivots, IsRow, IsReduced}
 use Rattle.fpl_linear.proofs.Span.{spanned_one, in_span, kind_span_iff}
 use Rattle.fpl_numbers.specs.declared.number.Num.{Num}
 use Rattle.fpl_numbers.specs.declared.number.Kind.{Kind}
-use Rattle.fpl_numbers.specs.Numbers.{IsField, is_nought, residue}
+use Rattle.fpl_numbers.specs.Numbers.{IsField, is_nought}
 use Rattle.fpl_numbers.specs.Reads.{Reads}
-use Rattle.fpl_rows.specs.Positions.{lead_of}
 use Rattle.fpl_rows.specs.Meaning.{pivot_of}
-use Rattle.fpl_rows.proofs.Fits.{some_same, none_some, all_found}
+use Rattle.fpl_rows.proofs.Fits.{some_same, none_some}
 use Rattle.fpl_rows.proofs.Leads.{lead_found}
 use Rattle.fpl_elimination.specs.Plain.{PivotRow, IsPivotRow, stands_at, rows_of}
 use Rattle.fpl_elimination.specs.Spans.{table_of, InSpanAt}
 use Rattle.fpl_elimination.proofs.PivotRows.{found_lead}
-use Rattle.fpl_elimination.proofs.Ascending.{AscendsFrom, not_below, found_first, found_later}
+use Rattle.fpl_elimination.proofs.Ascending.{AscendsFrom, found_first, found_later}
 
 no_row : PivotRow
 no_row = record { lead = 0; step = 0; row = [] }
@@ -61,7 +60,7 @@ record AreRowsOf (K : Field) (at : Pivots K) (count : ℕ) (row : ℕ → Vector
 rows_of_pivots : (K : Field) (at : Pivots K) (count : ℕ) (row : ℕ → Vector K) (pivot : ℕ → ℕ) → AreRowsOf K at count row pivot → SpansKind K (IsRow K at) count row
 rows_of_pivots K at count row pivot h = record {
   each = λ u r. let f = h.all r.0 u r.1 in subst (InSpan K count row) (some_same (sym (h.there f.0 f.1.0) ∙ ap at f.1.1 ∙ r.1)) (in_span K count row f.0 f.1.0);
-  from = λ i l. spanned_one K (IsRow K at) (row i) (pivot i, h.there i l)
+  from = λ i l. spanned_one K (IsRow K at) (row i) (pivot i, h.there i l);
 }
 
 reduced_is_closed : (K : Field) (n : ℕ) (at : Pivots K) → IsReduced K n at → (count : ℕ) (row : ℕ → Vector K) (pivot : ℕ → ℕ) → AreRowsOf K at count row pivot →
@@ -71,9 +70,9 @@ reduced_is_closed K n at r count row pivot h = (
     leads = λ i l. (r.echelon.has_lead (pivot i) (row i) (h.there i l)).leads;
     above = λ i s l k. (r.echelon.has_lead (pivot i) (row i) (h.there i l)).above s k;
     ascend = h.ascend;
-    apart = λ i j l k d. r.apart (pivot i) (pivot j) (row i) (row j) (h.there i l) (h.there j k) (apart i j l k d (dec_lt i j))
+    apart = λ i j l k d. r.apart (pivot i) (pivot j) (row i) (row j) (h.there i l) (h.there j k) (apart i j l k d (dec_lt i j));
   },
-  λ v. let s = kind_span_iff K (IsRow K at) count row (rows_of_pivots K at count row pivot h) v in (s.1, s.0)
+  λ v. let s = kind_span_iff K (IsRow K at) count row (rows_of_pivots K at count row pivot h) v in (s.1, s.0),
 )
   where
     apart : (i j : ℕ) → i < count → j < count → i ≢ j → Dec (i < j) → pivot i ≢ pivot j
@@ -111,7 +110,7 @@ module _ (kind : Kind) (K : Field) (value : Num → K.Carrier) (reads : Reads ki
         let c = leads_ascend 0 n ps no_row i j ascends l (omega arith) in
         let d = (rows i no_row (omega arith)).from_one in
         omega arith;
-    all = λ s u e. found s u (find (stands_at (s + 1)) ps) refl e
+    all = λ s u e. found s u (find (stands_at (s + 1)) ps) refl e;
   }
     where
       found : (s : ℕ) (u : Vector K) (o : Option PivotRow) → find (stands_at (s + 1)) ps ≡ o → option_map (λ p. vector_of K value p.row) o ≡ Some u → (i : ℕ) × ((i < length (rows_of ps)) × (pivot_at i ≡ s))

@@ -1,38 +1,28 @@
 -- What the code of an elimination asks of pivot rows: the row that is found, the rows that are kept, the operation at which closing stops.
-use Rattle.std.specs.Prelude.{◌≡◌, ◌≢◌, ℕ, zero, suc, ◌+◌, ◌-◌, ◌<◌, ◌≤◌, List, [], ◌∷◌, ◌++◌, length, get_or, All, Option, Some, None, Result, Ok, Err}
+use Rattle.std.specs.Prelude.{◌≡◌, ℕ, zero, suc, ◌+◌, ◌<◌, ◌≤◌, List, [], ◌∷◌, length, All, Some, Ok, Err}
 use Rattle.std.specs.List.{find}
 use mathlib.Core.Path.{sym, refl, ap, ◌∙◌, subst}
 use native.Mathlib.Omega.{arith}
 use native.Mathlib.Decide.{ℕ_discrete}
-use Rattle.fpl_fields.specs.Field.{Field}
-use Rattle.fpl_linear.specs.Vector.{Vector, scale}
-use Rattle.fpl_linear.specs.Lists.{vector_of}
-use Rattle.fpl_linear.specs.Echelon.{HasLead}
-use Rattle.fpl_linear.proofs.Numbers.{times-nought}
 use Rattle.fpl_numbers.specs.declared.number.Num.{Num}
 use Rattle.fpl_numbers.specs.declared.number.Kind.{Kind}
 use Rattle.fpl_numbers.specs.declared.number.Unfit.{Unfit}
 use Rattle.fpl_numbers.specs.declared.number.Fault.{Fault}
 use Rattle.fpl_numbers.specs.declared.number.Fault.TheVariants.{NoMemory}
 use Rattle.fpl_numbers.specs.declared.number.Fault.TheVariants.{Unfit as Unfits}
-use Rattle.fpl_numbers.specs.Numbers.{IsField, IsElement, residue, inverse_of}
+use Rattle.fpl_numbers.specs.Numbers.{IsField}
 use Rattle.fpl_numbers.specs.Results.{Gives, IsFault, and_then}
 use Rattle.fpl_numbers.specs.Kinds.{field_of, number_of}
-use Rattle.fpl_numbers.specs.Reads.{Reads}
 use Rattle.fpl_numbers.proofs.KindReads.{kind_reads}
-use Rattle.fpl_scalar.specs.Vectors.{AreElements, scale_of}
-use Rattle.fpl_rows.specs.Positions.{lead_of}
-use Rattle.fpl_rows.proofs.Fits.{all_found, all_more, part_fits}
-use Rattle.fpl_rows.proofs.Leads.{lead_is}
-use Rattle.fpl_rows.proofs.Readings.{at_place, nought_past, scale_reads}
+use Rattle.fpl_scalar.specs.Vectors.{AreElements}
+use Rattle.fpl_rows.proofs.Fits.{all_found}
 use Rattle.fpl_log.specs.declared.step.Origin.{Origin}
-use Rattle.fpl_elimination.specs.Plain.{PivotRow, IsPivotRow, stands_at, Swept, Held, Elimination, Inserted, keep_of, insert_of, close_at, close_to, close_of, rows_of}
+use Rattle.fpl_elimination.specs.Plain.{PivotRow, IsPivotRow, stands_at, Held, Elimination, Inserted, insert_of, close_at, close_to, close_of, rows_of}
 use Rattle.fpl_elimination.specs.Spans.{SpansWith, ClosesTo}
-use Rattle.fpl_elimination.proofs.PivotRows.{pivot_row}
 use Rattle.fpl_elimination.proofs.Spans.{standing, insert_reads, close_reads, close_form}
 use Rattle.fpl_elimination.proofs.Ascending.{close_ascends}
 use Rattle.fpl_elimination.proofs.ClosedLists.{closed_list}
-use Rattle.fpl_rows.specs.Meaning.{IsRowOf, AreRows}
+use Rattle.fpl_rows.specs.Meaning.{AreRows}
 
 pub found_length : (kind : Kind) (n s : ℕ) (pivots : List PivotRow) (p : PivotRow) → All (IsPivotRow kind n) pivots → Some p ≡ find (stands_at s) pivots → n ≡ length p.row
 found_length kind n s pivots p h e = sym (all_found (IsPivotRow kind n) (stands_at s) pivots p h e).length_is
@@ -87,5 +77,5 @@ close_means e g listed all is =
     let c = closed_list e.kind (field_of e.kind) (number_of e.kind) reads listed e.size g.pivots f.rows (close_ascends e.kind e.held.pivots e.size (record { pivots = []; steps = e.held.steps }) g refl is) f.reduced in
     record {
       closed = record { are_rows = rows_are e.kind e.size g.pivots f.rows; closed = c.0 };
-      span = λ v. ((λ k. (f.span v).0 ((c.1 v).0 k)), (λ k. (c.1 v).1 ((f.span v).1 k)))
+      span = λ v. ((λ k. (f.span v).0 ((c.1 v).0 k)), (λ k. (c.1 v).1 ((f.span v).1 k)));
     }

@@ -1,5 +1,5 @@
 -- Pivot rows are an echelon.
-use Rattle.std.specs.Prelude.{◌≡◌, ◌≢◌, ℕ, zero, suc, ◌+◌, ◌-◌, ◌<◌, ◌≤◌, List, [], ◌∷◌, length, get_or, Option, Some, None, option_map, true, false, Bool, All, cond, nat_eq}
+use Rattle.std.specs.Prelude.{◌≡◌, ℕ, ◌+◌, ◌-◌, ◌<◌, ◌≤◌, List, [], ◌∷◌, length, Option, Some, None, option_map, true, false, Bool, All, cond, nat_eq}
 use Rattle.std.specs.List.{find}
 use mathlib.Core.Path.{sym, refl, ap, ◌∙◌, subst}
 use native.Mathlib.Omega.{arith}
@@ -7,10 +7,10 @@ use native.Mathlib.Decide.{dec_lt}
 use Rattle.fpl_fields.specs.Field.{Field}
 use Rattle.fpl_linear.specs.Vector.{Vector}
 use Rattle.fpl_linear.specs.Lists.{vector_of}
-use Rattle.fpl_linear.specs.Echelon.{Pivots, HasLead, IsEchelon}
+use Rattle.fpl_linear.specs.Echelon.{HasLead, IsEchelon}
 use Rattle.fpl_numbers.specs.declared.number.Num.{Num}
 use Rattle.fpl_numbers.specs.declared.number.Kind.{Kind}
-use Rattle.fpl_numbers.specs.Numbers.{IsElement, IsField, is_nought, residue}
+use Rattle.fpl_numbers.specs.Numbers.{IsField, residue}
 use Rattle.fpl_numbers.specs.Reads.{Reads}
 use Rattle.fpl_scalar.specs.Vectors.{AreElements}
 use Rattle.fpl_rows.proofs.Fits.{some_same, none_some, all_found}
@@ -34,7 +34,7 @@ module _ (kind : Kind) (K : Field) (value : Num → K.Carrier) (reads : Reads ki
   pub pivot_leads : (p : PivotRow) → IsPivotRow kind n p → HasLead K (p.lead - 1) (vector_of K value p.row)
   pivot_leads p h = record {
     leads = at_place kind K value reads p.row (p.lead - 1) (residue 0) (let a = h.from_one in let b = h.to_end in let c = h.length_is in omega arith) ∙ ap value h.leads ∙ one_is kind K value reads listed;
-    above = λ t l. go t (let a = h.from_one in omega arith) (dec_lt t n)
+    above = λ t l. go t (let a = h.from_one in omega arith) (dec_lt t n);
   }
     where
       go : (t : ℕ) → p.lead ≤ t → Dec (t < n) → vector_of K value p.row t ≡ K.nought
@@ -48,13 +48,13 @@ module _ (kind : Kind) (K : Field) (value : Num → K.Carrier) (reads : Reads ki
     from_one = one;
     to_end = end;
     leads = reads.apart _ _ (a (p.lead - 1) (residue 0) (omega arith)) (one_element kind listed) (sym (at_place kind K value reads p.row (p.lead - 1) (residue 0) (omega arith)) ∙ h.leads ∙ sym (one_is kind K value reads listed));
-    above = λ t l m. is_nought_from kind K value reads _ (a t (residue 0) (omega arith)) (sym (at_place kind K value reads p.row t (residue 0) (omega arith)) ∙ h.above t (omega arith))
+    above = λ t l m. is_nought_from kind K value reads _ (a t (residue 0) (omega arith)) (sym (at_place kind K value reads p.row t (residue 0) (omega arith)) ∙ h.above t (omega arith));
   }
 
   pub pivots_echelon : (pivots : List PivotRow) → All (IsPivotRow kind n) pivots → IsEchelon K n (table_of K value pivots)
   pivots_echelon pivots all = record {
     has_lead = λ s u e. (found s u (find (stands_at (s + 1)) pivots) refl e).0;
-    below = λ s u e. (found s u (find (stands_at (s + 1)) pivots) refl e).1
+    below = λ s u e. (found s u (find (stands_at (s + 1)) pivots) refl e).1;
   }
     where
       found : (s : ℕ) (u : Vector K) (o : Option PivotRow) → find (stands_at (s + 1)) pivots ≡ o → option_map (λ p. vector_of K value p.row) o ≡ Some u → HasLead K s u × (s < n)

@@ -1,6 +1,6 @@
 -- Closed rows taken off one after another leave what the row is less each of them as often as it has its pivot.
-use Rattle.std.specs.Prelude.{◌≡◌, ◌≢◌, ℕ, zero, suc, ◌+◌, ◌-◌, ◌<◌, ◌≤◌, ◌↔◌, List, [], ◌∷◌, length, get_or, Option, Some, None, Result, Ok, Err, true, false, Bool, All, unwrap_or, if◌then◌else◌}
-use mathlib.Core.Path.{sym, refl, ap, ap₂, ◌∙◌, fun_ext, subst}
+use Rattle.std.specs.Prelude.{◌≡◌, ℕ, zero, suc, ◌-◌, ◌<◌, ◌↔◌, List, [], ◌∷◌, length, get_or, Option, Some, None, Ok, true, false, Bool, unwrap_or, if◌then◌else◌}
+use mathlib.Core.Path.{sym, refl, ap, ap₂, ◌∙◌, subst}
 use native.Mathlib.Omega.{arith}
 use Rattle.fpl_fields.specs.Field.{Field}
 use Rattle.fpl_linear.specs.Vector.{Vector, vzero, vplus, scale, total}
@@ -19,10 +19,10 @@ use Rattle.fpl_numbers.proofs.KindReads.{kind_reads}
 use Rattle.fpl_scalar.specs.Vectors.{AreElements, axpy_of}
 use Rattle.fpl_rows.specs.Positions.{lead_of}
 use Rattle.fpl_rows.specs.Meaning.{IsRowOf, AreRows, IsClosedList, pivot_of}
-use Rattle.fpl_rows.proofs.Fits.{ok_same, none_some, first_fits, all_tail}
+use Rattle.fpl_rows.proofs.Fits.{ok_same, first_fits, all_tail}
 use Rattle.fpl_rows.proofs.Leads.{LeadIs, lead_is}
 use Rattle.fpl_rows.proofs.Readings.{IsFor, axpy_reads, at_place, all_nought}
-use Rattle.fpl_elimination.specs.Plain.{take_at, take_row, sweep_rows}
+use Rattle.fpl_elimination.specs.Plain.{take_at, sweep_rows}
 use Rattle.fpl_elimination.specs.Spans.{SweepsTo}
 
 module _ (K : Field) where
@@ -78,7 +78,7 @@ module _ (kind : Kind) (K : Field) (value : Num → K.Carrier) (reads : Reads ki
     leads = λ i l. c.leads (suc i) (omega arith);
     above = λ i s l m. c.above (suc i) s (omega arith) m;
     ascend = λ i j l m. c.ascend (suc i) (suc j) (omega arith) (omega arith);
-    apart = λ i j l m d. c.apart (suc i) (suc j) (omega arith) (omega arith) (λ e. d (omega arith))
+    apart = λ i j l m d. c.apart (suc i) (suc j) (omega arith) (omega arith) (λ e. d (omega arith));
   }
 
   -- a row with 1 somewhere has a lead
@@ -90,33 +90,38 @@ module _ (kind : Kind) (K : Field) (value : Num → K.Carrier) (reads : Reads ki
       go (Some s) e = (s, e)
 
   take_reads : (n : ℕ) (u w z : List Num) (s : ℕ) (v t : Vector K) → IsRowOf kind n u → lead_of u ≡ Some s → IsFor kind K value reads n (vplus K v (scale K (K.minus K.unit) t)) w → t (s - 1) ≡ K.nought →
-    take_at kind u (Some s) w ≡ Ok z → IsFor kind K value reads n (vplus K v (scale K (K.minus K.unit) (vplus K (scale K (v (s - 1)) (vector_of K value u)) t))) z
+      take_at kind u (Some s) w ≡ Ok z → IsFor kind K value reads n (vplus K v (scale K (K.minus K.unit) (vplus K (scale K (v (s - 1)) (vector_of K value u)) t))) z
   take_reads n u w z s v t is lead f none e = go (is_nought c) refl e
     where
       k : LeadIs u (length u) s
       k = lead_is u (length u) s lead
+
       c : Num
       c = get_or w (s - 1) (residue 0)
+
       c_below : s - 1 < length w
       c_below = (let a = k.from_one in let b = k.to_end in let d = is.length_is in let g = f.length_is in omega arith)
+
       c_in : IsElement kind c
       c_in = f.elements (s - 1) (residue 0) c_below
+
       c_is : v (s - 1) ≡ value c
       c_is = sym (less_same K v t (s - 1) none) ∙ ap (λ x. x (s - 1)) (sym f.vector) ∙ at_place kind K value reads w (s - 1) (residue 0) c_below
+
       go : (b : Bool) → is_nought c ≡ b → (if b then Ok w else axpy_of kind w (negative_of kind c) u) ≡ Ok z → IsFor kind K value reads n (vplus K v (scale K (K.minus K.unit) (vplus K (scale K (v (s - 1)) (vector_of K value u)) t))) z
       go true y g =
           subst (IsFor kind K value reads n _) (ok_same g)
-            (record { elements = f.elements; length_is = f.length_is; vector = f.vector ∙ none_more K v t (vector_of K value u) (v (s - 1)) (c_is ∙ reads.zero_is c c_in y) })
+          (record { elements = f.elements; length_is = f.length_is; vector = f.vector ∙ none_more K v t (vector_of K value u) (v (s - 1)) (c_is ∙ reads.zero_is c c_in y) })
       go false y g =
           let r = axpy_reads kind K value reads w u z (negative_of kind c) f.elements (reads.negative c c_in).0 is.elements (f.length_is ∙ sym is.length_is) g in
           record {
             elements = r.elements;
             length_is = r.length_is ∙ f.length_is;
-            vector = r.vector ∙ ap₂ (λ x a. vplus K x (scale K a (vector_of K value u))) f.vector ((reads.negative c c_in).1 ∙ ap K.minus (sym c_is)) ∙ one_more K v t (vector_of K value u) (v (s - 1))
+            vector = r.vector ∙ ap₂ (λ x a. vplus K x (scale K a (vector_of K value u))) f.vector ((reads.negative c c_in).1 ∙ ap K.minus (sym c_is)) ∙ one_more K v t (vector_of K value u) (v (s - 1));
           }
 
   rows_swept : (n : ℕ) (us : List (List Num)) (v w : List Num) → AreRows kind n us → Closes us → AreElements kind v → length v ≡ n → sweep_rows kind us v ≡ Ok w →
-    IsFor kind K value reads n (vplus K (vector_of K value v) (scale K (K.minus K.unit) (taken us (vector_of K value v)))) w
+      IsFor kind K value reads n (vplus K (vector_of K value v) (scale K (K.minus K.unit) (taken us (vector_of K value v)))) w
   unfolding taken
   rows_swept n [] v w rows closed a len e =
       subst (IsFor kind K value reads n _) (ok_same e) (record { elements = a; length_is = len; vector = sym (ap (vplus K (vector_of K value v)) (scale-vzero K _) ∙ vplus-vzero K _) })
@@ -127,9 +132,9 @@ module _ (kind : Kind) (K : Field) (value : Num → K.Carrier) (reads : Reads ki
       let s = lead_some u is.elements (closed.leads 0 (omega arith)) in
       let p : pivot_of u ≡ s.0 - 1 = ap (λ o. unwrap_or o 1 - 1) s.1 in
       let none : taken us (vector_of K value v) (s.0 - 1) ≡ K.nought =
-          subst (λ q. taken us (vector_of K value v) q ≡ K.nought) p (taken_at us (vector_of K value v) (pivot_of u) (λ i l. closed.apart (suc i) 0 (omega arith) (omega arith) (λ d. absurd (omega arith)))) in
+      subst (λ q. taken us (vector_of K value v) q ≡ K.nought) p (taken_at us (vector_of K value v) (pivot_of u) (λ i l. closed.apart (suc i) 0 (omega arith) (omega arith) (λ d. absurd (omega arith)))) in
       subst (λ q. IsFor kind K value reads n (vplus K (vector_of K value v) (scale K (K.minus K.unit) (vplus K (scale K (vector_of K value v q) (vector_of K value u)) (taken us (vector_of K value v))))) w) (sym p)
-        (take_reads n u f.0 w s.0 (vector_of K value v) (taken us (vector_of K value v)) is s.1 r none (ap (λ o. take_at kind u o f.0) (sym s.1) ∙ f.1.1))
+      (take_reads n u f.0 w s.0 (vector_of K value v) (taken us (vector_of K value v)) is s.1 r none (ap (λ o. take_at kind u o f.0) (sym s.1) ∙ f.1.1))
 
   -- a row has no lead exactly where its vector is 0
   lead_zero : (w : List Num) → AreElements kind w → (lead_of w ≡ None) ↔ (vector_of K value w ≡ vzero K)
@@ -151,8 +156,9 @@ sweep_means kind rows row left listed closed a e =
     let reads = kind_reads kind listed in
     let f = rows_swept kind K value reads (length row) rows row left closed.are_rows closed.closed a refl e in
     let is : vector_of K value left ≡ swept K (length rows) (λ i. vector_of K value (get_or rows i [])) (λ i. pivot_of (get_or rows i [])) (vector_of K value row) =
-        f.vector ∙ ap (λ w. vplus K (vector_of K value row) (scale K (K.minus K.unit) w)) (taken_is kind K value reads rows (vector_of K value row)) in
+    f.vector ∙ ap (λ w. vplus K (vector_of K value row) (scale K (K.minus K.unit) w)) (taken_is kind K value reads rows (vector_of K value row)) in
     let z = lead_zero kind K value reads left f.elements in
-    let i = swept_iff K (length rows) (λ i. vector_of K value (get_or rows i [])) (λ i. pivot_of (get_or rows i [])) closed.closed (vector_of K value row) in
-    (record { elements = f.elements; length_is = f.length_is },
-      record { is = is; zero = ((λ h. i.0 (sym is ∙ z.0 h)), (λ h. z.1 (is ∙ i.1 h))) })
+    let i = swept_iff K (length rows) (λ i. vector_of K value (get_or rows i [])) (λ i. pivot_of (get_or rows i [])) closed.closed (vector_of K value row) in (
+      record { elements = f.elements; length_is = f.length_is },
+      record { is = is; zero = ((λ h. i.0 (sym is ∙ z.0 h)), (λ h. z.1 (is ∙ i.1 h))) },
+    )

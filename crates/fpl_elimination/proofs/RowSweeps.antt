@@ -1,6 +1,6 @@
 -- Sweeping by rows from the last back: one row more, and where it stops.
-use Rattle.std.specs.Prelude.{◌≡◌, ℕ, zero, suc, ◌+◌, ◌<◌, ◌≤◌, List, [], ◌∷◌, length, get_or, drop, slice_get, Option, Some, None, Result, Ok, Err, All}
-use mathlib.Core.Path.{sym, refl, ap, ap₂, ◌∙◌, subst}
+use Rattle.std.specs.Prelude.{◌≡◌, ℕ, zero, suc, ◌<◌, ◌≤◌, List, [], ◌∷◌, length, get_or, drop, slice_get, Some, None, Ok, Err}
+use mathlib.Core.Path.{sym, ap, ◌∙◌, subst}
 use native.Mathlib.Omega.{arith}
 use Rattle.fpl_numbers.specs.declared.number.Num.{Num}
 use Rattle.fpl_numbers.specs.declared.number.Kind.{Kind}
@@ -47,4 +47,4 @@ pub sweep_stops : (kind : Kind) (rows : List (List Num)) (row left other : List 
 sweep_stops kind rows row left other j k NoMemory is e f g = tt
 sweep_stops kind rows row left other j k (Unfits u) is e f g =
     stops_at kind rows row k u
-      (ap (λ us. sweep_rows kind us row) (drop_at rows k other e) ∙ ap (and_then (λ w. take_row kind other w)) (ap (λ i. sweep_rows kind (drop i rows) row) (sym is) ∙ f) ∙ g)
+    (ap (λ us. sweep_rows kind us row) (drop_at rows k other e) ∙ ap (and_then (λ w. take_row kind other w)) (ap (λ i. sweep_rows kind (drop i rows) row) (sym is) ∙ f) ∙ g)

@@ -1,18 +1,15 @@
 -- Where a sweep fits, what is left of the row stands for the vector with the pivot rows taken off.
-use Rattle.std.specs.Prelude.{◌≡◌, ◌≢◌, ℕ, zero, suc, ◌+◌, ◌-◌, ◌<◌, ◌≤◌, List, [], ◌∷◌, ◌++◌, length, get_or, Option, Some, None, option_map, Result, Ok, Err, true, false, Bool, All, if◌then◌else◌}
+use Rattle.std.specs.Prelude.{◌≡◌, ℕ, zero, suc, ◌+◌, ◌<◌, ◌≤◌, List, [], ◌∷◌, ◌++◌, length, get_or, Option, Some, None, option_map, Ok, true, false, Bool, All, if◌then◌else◌}
 use Rattle.std.specs.List.{find}
-use mathlib.Core.Path.{sym, refl, ap, ap₂, ◌∙◌, fun_ext, subst}
+use mathlib.Core.Path.{sym, refl, ap, ap₂, ◌∙◌, subst}
 use native.Mathlib.Omega.{arith}
 use Rattle.fpl_fields.specs.Field.{Field}
-use Rattle.fpl_linear.specs.Vector.{Vector, vzero, vplus, scale}
-use Rattle.fpl_linear.specs.Echelon.{Pivots, take_off, reduce}
-use Rattle.fpl_linear.proofs.Numbers.{nought-plus, times-nought}
-use Rattle.fpl_linear.proofs.Vectors.{vplus_assoc, vplus_comm, vplus_left_comm, vplus-vzero, vzero-vplus, plus-scale, scale-nought}
+use Rattle.fpl_linear.specs.Vector.{Vector, vplus, scale}
+use Rattle.fpl_linear.specs.Echelon.{take_off, reduce}
+use Rattle.fpl_linear.proofs.Vectors.{vplus_assoc, vplus_comm, vplus_left_comm, vplus-vzero, plus-scale, scale-nought}
 use Rattle.fpl_linear.proofs.Echelon.{take_off_none}
 use Rattle.fpl_numbers.specs.declared.number.Num.{Num}
 use Rattle.fpl_numbers.specs.declared.number.Kind.{Kind}
-use Rattle.fpl_numbers.specs.declared.number.Unfit.{Unfit}
-use Rattle.fpl_numbers.specs.declared.number.Op.TheVariants.{Add, Mul}
 use Rattle.fpl_numbers.specs.Numbers.{IsElement, is_nought, residue, negative_of}
 use Rattle.fpl_numbers.specs.Results.{map_ok}
 use Rattle.fpl_log.specs.declared.terms.Term.{Term}
@@ -46,45 +43,49 @@ module _ (kind : Kind) (K : Field) (value : Num → K.Carrier) (reads : Reads ki
       ∙ ap (vplus K v) (vplus_left_comm K _ w _ ∙ ap (vplus K w) (sym (plus-scale K _ _ u) ∙ ap (λ a. scale K a u) (K.plus_comm _ _ ∙ K.plus-minus c) ∙ scale-nought K u) ∙ vplus-vzero K w)
 
   by_reads : (o : Option PivotRow) (n s : ℕ) (conclusion : ℕ → Vector K) (x y : Swept) → ((p : PivotRow) → Some p ≡ o → IsPivotRow kind n p) → s < n →
-    AreElements kind x.row → length x.row ≡ n → sweep_by kind o (get_or x.row s (residue 0)) x ≡ Ok y →
-    IsSwept n ((p : PivotRow) → Some p ≡ o → conclusion p.step ≡ vector_of K value p.row) conclusion (take_off K (option_map (λ p. vector_of K value p.row) o) s (vector_of K value x.row)) x y
+      AreElements kind x.row → length x.row ≡ n → sweep_by kind o (get_or x.row s (residue 0)) x ≡ Ok y →
+      IsSwept n ((p : PivotRow) → Some p ≡ o → conclusion p.step ≡ vector_of K value p.row) conclusion (take_off K (option_map (λ p. vector_of K value p.row) o) s (vector_of K value x.row)) x y
   unfolding take_off
   by_reads None n s conclusion x y h l a len e = subst (IsSwept n ((p : PivotRow) → Some p ≡ None → conclusion p.step ≡ vector_of K value p.row) conclusion (vector_of K value x.row) x) (ok_same e) (record { left = record { elements = a; length_is = len; vector = refl }; conserved = λ k. refl })
   by_reads (Some p) n s conclusion x y h l a len e = go (is_nought c) refl e
     where
       c : Num
       c = get_or x.row s (residue 0)
+
       u : Vector K
       u = vector_of K value p.row
+
       c_in : IsElement kind c
       c_in = a s (residue 0) (omega arith)
+
       is_c : vector_of K value x.row s ≡ value c
       is_c = at_place kind K value reads x.row s (residue 0) (omega arith)
+
       go : (b : Bool) → is_nought c ≡ b → (if b then Ok x else map_ok (λ row. taken_off x p c row) (axpy_of kind x.row (negative_of kind c) p.row)) ≡ Ok y →
-        IsSwept n ((q : PivotRow) → Some q ≡ Some p → conclusion q.step ≡ vector_of K value q.row) conclusion (vplus K (vector_of K value x.row) (scale K (K.minus (vector_of K value x.row s)) u)) x y
+          IsSwept n ((q : PivotRow) → Some q ≡ Some p → conclusion q.step ≡ vector_of K value q.row) conclusion (vplus K (vector_of K value x.row) (scale K (K.minus (vector_of K value x.row s)) u)) x y
       go true z f = subst (IsSwept n ((q : PivotRow) → Some q ≡ Some p → conclusion q.step ≡ vector_of K value q.row) conclusion (vplus K (vector_of K value x.row) (scale K (K.minus (vector_of K value x.row s)) u)) x) (ok_same f)
-        (record { left = record { elements = a; length_is = len; vector = sym (take_off_none K (Some u) s _ (is_c ∙ reads.zero_is c c_in z)) }; conserved = λ k. refl })
+          (record { left = record { elements = a; length_is = len; vector = sym (take_off_none K (Some u) s _ (is_c ∙ reads.zero_is c c_in z)) }; conserved = λ k. refl })
       go false z f =
           let r = part_fits _ (axpy_of kind x.row (negative_of kind c) p.row) y f in
           let k = axpy_reads kind K value reads x.row p.row r.0 (negative_of kind c) a (reads.negative c c_in).0 (h p refl).elements (len ∙ sym (h p refl).length_is) r.1.0 in
           let is_v : vector_of K value r.0 ≡ vplus K (vector_of K value x.row) (scale K (K.minus (value c)) u) = k.vector ∙ ap (λ w. vplus K (vector_of K value x.row) (scale K w u)) (reads.negative c c_in).1 in
           subst (IsSwept n ((q : PivotRow) → Some q ≡ Some p → conclusion q.step ≡ vector_of K value q.row) conclusion (vplus K (vector_of K value x.row) (scale K (K.minus (vector_of K value x.row s)) u)) x) (sym r.1.1)
-            (record {
-              left = record { elements = k.elements; length_is = k.length_is ∙ len; vector = is_v ∙ ap (λ w. vplus K (vector_of K value x.row) (scale K (K.minus w) u)) (sym is_c) };
-              conserved = λ k'. ap₂ (vplus K) is_v (terms-append conclusion x.terms (record { step = p.step; factor = c }) ∙ ap (λ w. vplus K (terms_sum K value conclusion x.terms) (scale K (value c) w)) (k' p refl)) ∙ moved_over (vector_of K value x.row) u (terms_sum K value conclusion x.terms) (value c)
-            })
+          (record {
+            left = record { elements = k.elements; length_is = k.length_is ∙ len; vector = is_v ∙ ap (λ w. vplus K (vector_of K value x.row) (scale K (K.minus w) u)) (sym is_c) };
+            conserved = λ k'. ap₂ (vplus K) is_v (terms-append conclusion x.terms (record { step = p.step; factor = c }) ∙ ap (λ w. vplus K (terms_sum K value conclusion x.terms) (scale K (value c) w)) (k' p refl)) ∙ moved_over (vector_of K value x.row) u (terms_sum K value conclusion x.terms) (value c);
+          })
 
   pub at_reads : (pivots : List PivotRow) (n s : ℕ) (conclusion : ℕ → Vector K) (x y : Swept) → All (IsPivotRow kind n) pivots → s < n →
-    AreElements kind x.row → length x.row ≡ n → sweep_at kind pivots s x ≡ Ok y →
-    IsSwept n (Cites conclusion pivots) conclusion (take_off K (table_of K value pivots s) s (vector_of K value x.row)) x y
+      AreElements kind x.row → length x.row ≡ n → sweep_at kind pivots s x ≡ Ok y →
+      IsSwept n (Cites conclusion pivots) conclusion (take_off K (table_of K value pivots s) s (vector_of K value x.row)) x y
   at_reads pivots n s conclusion x y h l a len e =
       let r = by_reads (find (stands_at (s + 1)) pivots) n s conclusion x y (λ p f. all_found (IsPivotRow kind n) (stands_at (s + 1)) pivots p h f) l a len e in
       record { left = r.left; conserved = λ k. r.conserved (λ p f. all_found (λ p. conclusion p.step ≡ vector_of K value p.row) (stands_at (s + 1)) pivots p k f) }
 
   -- a sweep: what is left is the vector reduced
   pub sweep_reads : (pivots : List PivotRow) (n m : ℕ) (conclusion : ℕ → Vector K) (x y : Swept) → All (IsPivotRow kind n) pivots → m ≤ n →
-    AreElements kind x.row → length x.row ≡ n → sweep_of kind pivots m x ≡ Ok y →
-    IsSwept n (Cites conclusion pivots) conclusion (reduce K (table_of K value pivots) m (vector_of K value x.row)) x y
+      AreElements kind x.row → length x.row ≡ n → sweep_of kind pivots m x ≡ Ok y →
+      IsSwept n (Cites conclusion pivots) conclusion (reduce K (table_of K value pivots) m (vector_of K value x.row)) x y
   unfolding reduce
   sweep_reads pivots n zero conclusion x y h l a len e = subst (IsSwept n (Cites conclusion pivots) conclusion (vector_of K value x.row) x) (ok_same e) (record { left = record { elements = a; length_is = len; vector = refl }; conserved = λ k. refl })
   sweep_reads pivots n (suc s) conclusion x y h l a len e =
@@ -93,5 +94,5 @@ module _ (kind : Kind) (K : Field) (value : Num → K.Carrier) (reads : Reads ki
       let r = sweep_reads pivots n s conclusion f.0 y h (omega arith) t.left.elements t.left.length_is f.1.1 in
       record {
         left = record { elements = r.left.elements; length_is = r.left.length_is; vector = r.left.vector ∙ ap (reduce K (table_of K value pivots) s) t.left.vector };
-        conserved = λ k. r.conserved k ∙ t.conserved k
+        conserved = λ k. r.conserved k ∙ t.conserved k;
       }

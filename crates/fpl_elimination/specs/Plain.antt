@@ -75,14 +75,14 @@ pub record Elimination : Type 0 where
 abbrev pub kept : Held → Origin → List Term → ℕ → Num → List Num → Held
 kept h origin terms s k row = record {
   pivots = h.pivots ++ (record { lead = s; step = length h.steps + 1; row = row }) ∷ [];
-  steps = h.steps ++ (Insert origin terms k) ∷ []
+  steps = h.steps ++ (Insert origin terms k) ∷ [];
 }
 
 abbrev pub keep_of : Kind → Held → Origin → Swept → Option ℕ → Result Held Unfit
 keep_of kind h origin x None = Ok (record { pivots = h.pivots; steps = h.steps ++ (Insert origin x.terms (residue 0)) ∷ [] })
 keep_of kind h origin x (Some s) =
     map_ok (λ row. kept h origin x.terms s (inverse_of kind (slice_index_or x.row (s - 1) (residue 0))) row)
-      (scale_of kind (inverse_of kind (slice_index_or x.row (s - 1) (residue 0))) x.row)
+    (scale_of kind (inverse_of kind (slice_index_or x.row (s - 1) (residue 0))) x.row)
 
 pub record Inserted : Type 0 where
   pub lead : Option ℕ
@@ -94,12 +94,12 @@ inserted_as lead h = record { lead = lead; held = h }
 abbrev pub insert_of : Elimination → List Num → Origin → Result Inserted Unfit
 insert_of e row origin =
     and_then (λ x. map_ok (λ h. inserted_as (lead_of x.row) h) (keep_of e.kind e.held origin x (lead_of x.row)))
-      (sweep_of e.kind e.held.pivots e.size (record { row = row; terms = [] }))
+    (sweep_of e.kind e.held.pivots e.size (record { row = row; terms = [] }))
 
 abbrev pub closed_with : Held → ℕ → PivotRow → Swept → Held
 closed_with h s p x = record {
   pivots = h.pivots ++ (record { lead = s + 1; step = length h.steps + 1; row = x.row }) ∷ [];
-  steps = h.steps ++ (Close p.step x.terms) ∷ []
+  steps = h.steps ++ (Close p.step x.terms) ∷ [];
 }
 
 -- the pivot row at place s, if there is one, is swept by the closed rows below

@@ -60,3 +60,8 @@ drop_all [] zero le = refl
 drop_all [] (suc i) le = refl
 drop_all (x ∷ xs) zero le = absurd (omega (arith, le))
 drop_all (x ∷ xs) (suc i) le = drop_all xs i (omega (arith, le))
+
+pub all_append : {A : Type 0} (P : A → Type 0) (xs ys : List A) → All P xs → All P ys → (k : ℕ) (d : A) → k < length (xs ++ ys) → P (get_or (xs ++ ys) k d)
+all_append P [] ys h p k d lt = p k d lt
+all_append P (x ∷ xs) ys h p zero d lt = h zero d (omega arith)
+all_append P (x ∷ xs) ys h p (suc k) d lt = all_append P xs ys (λ i e below. h (suc i) e (omega (arith, below))) p k d (omega (arith, lt))

@@ -8,8 +8,9 @@ use Rattle.fpl_algebra.specs.Table.{of_generator, of_pair, no_basis}
 use Rattle.fpl_table.specs.Plain.{PlainTable, plain_basis, generator_at, through, first_partner, partner_from}
 use Rattle.fpl_table.specs.Shape.{HasShape}
 use Rattle.fpl_table.specs.Push.{row_of_symbol, new_images, new_partners, new_entries}
-use Rattle.fpl_table.proofs.Lists.{drop_all}
-use Rattle.fpl_table.proofs.Cells.{before_other, after_other, within_is}
+use Rattle.fpl_table.proofs.Lists.{drop_all, nat_split}
+use Rattle.fpl_table.proofs.Cells.{before_other, after_other, within_is, from_within}
+use Rattle.fpl_table.proofs.Weights.{through_within}
 
 module _ (T : PlainTable) (rows : List (List Num)) where
   pub images_step : (g : ℕ) → g < length T.generators →
@@ -69,3 +70,19 @@ module _ (T : PlainTable) (rows : List (List Num)) where
         partners_skip i j (length T.basis - j) (omega arith)
         (λ k from below. let not = after_other T shape (suc T.weight) i lti above k (omega arith) (omega arith) in grind (arith, nat_tests))
         ∙ ap (λ b. new_partners T rows i b (drop b T.basis)) same ∙ ap (new_partners T rows i (length T.basis)) (drop_all T.basis (length T.basis) (omega arith))
+
+    partners_from : (k j : ℕ) → partner_from T i (suc T.weight) ≤ j → j + k ≡ through T (suc T.weight - (plain_basis T i).weight) → length (new_partners T rows i j (drop j T.basis)) ≡ k
+    partners_from zero j from to =
+        let all : through T (suc T.weight - (plain_basis T i).weight) ≤ length T.basis = through_within T shape (suc T.weight - (plain_basis T i).weight) in
+        ap length (partners_end j (omega arith) (omega arith))
+    partners_from (suc k) j from to =
+        let all : through T (suc T.weight - (plain_basis T i).weight) ≤ length T.basis = through_within T shape (suc T.weight - (plain_basis T i).weight) in
+        ap length (partners_more j (omega arith) from (omega arith)) ∙ ap suc (partners_from k (j + 1) (omega (arith, from)) (omega (arith, to)))
+
+    pub partners_length : length (new_partners T rows i 0 T.basis) ≡ through T (suc T.weight - (plain_basis T i).weight) - partner_from T i (suc T.weight)
+    partners_length =
+        let begin : partner_from T i (suc T.weight) ≤ length T.basis = from_within T shape (suc T.weight) i lti above in
+        elim (nat_split (partner_from T i (suc T.weight)) (through T (suc T.weight - (plain_basis T i).weight))) [
+          inl few ↦ ap length (partners_first begin) ∙ partners_from (through T (suc T.weight - (plain_basis T i).weight) - partner_from T i (suc T.weight)) (partner_from T i (suc T.weight)) (omega arith) (omega arith)
+        | inr none ↦ ap length (partners_first begin ∙ partners_end (partner_from T i (suc T.weight)) begin none) ∙ omega arith
+        ]

@@ -1,5 +1,4 @@
-use Rattle.std.proofs.Common.{◌≡◌, ◌≤◌, ◌+◌, ◌∙◌, ℕ, suc, sym, subst, arith, length}
-use Rattle.fpl_numbers.specs.declared.number.Kind.{Kind}
+use Rattle.std.proofs.Common.{◌≡◌, ◌≤◌, ◌+◌, ℕ, suc, sym, subst, arith}
 use Rattle.fpl_numbers.specs.declared.number.Kind.TheVariants.{Prime}
 use Rattle.fpl_table.specs.Standard.{count_of}
 use Rattle.fpl_faithful.proofs.Fitting.{Always, prime_always}

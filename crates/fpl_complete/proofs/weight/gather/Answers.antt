@@ -1,4 +1,4 @@
-use Rattle.std.proofs.Common.{suc, ◌≡◌, ◌+◌, ◌∙◌, List, ◌∷◌, ap, length, arith}
+use Rattle.std.proofs.Common.{suc, ◌≡◌, ◌∙◌, List, ◌∷◌, ap, length, arith}
 use Rattle.fpl_log.specs.declared.step.Origin.{Origin}
 use Rattle.fpl_rewrite.specs.Origins.{origins_of}
 use Rattle.fpl_rewrite.specs.Cursor.{to_come}

@@ -14,7 +14,7 @@ invariant-origins g l = record {
   listed : (o : Origin) → Contains (to_come l.table l.p l.origins) o → Contains (origins_of l.table l.p) o;
   done : gather l.table l.p (to_come l.table l.p l.origins) l.echelon ≡ gather l.table l.p (origins_of l.table l.p) (begun l.table);
   start : l.fn.steps ≤ l.steps;
-  count : l.steps + length (to_come l.table l.p l.origins) ≡ l.fn.steps + length (origins_of l.table l.p)
+  count : l.steps + length (to_come l.table l.p l.origins) ≡ l.fn.steps + length (origins_of l.table l.p);
 }
 
 abbrev pub decreases-origins : goal.decreases-origins

@@ -1,5 +1,4 @@
 use Rattle.std.proofs.Common.{◌≡◌, ◌∙◌, ◌∷◌}
-use Rattle.fpl_elimination.specs.Plain.{Held}
 use Rattle.fpl_rewrite.specs.Origins.{origins_of}
 use Rattle.fpl_rewrite.specs.Cursor.{to_come}
 use Rattle.fpl_completion.specs.Weight.{again}

@@ -10,7 +10,7 @@ abbrev pub invariant-origins : goal.invariant-origins
 invariant-origins g l = record {
   weight : l.origins.weight ≡ l.table.weight + 1;
   listed : (o : Origin) → Contains (to_come l.table l.p l.origins) o → Contains (origins_of l.table l.p) o;
-  done : (h : Held) → again l.table l.p l.rows (to_come l.table l.p l.origins) h ≡ again l.table l.p l.rows (origins_of l.table l.p) h
+  done : (h : Held) → again l.table l.p l.rows (to_come l.table l.p l.origins) h ≡ again l.table l.p l.rows (origins_of l.table l.p) h;
 }
 
 abbrev pub decreases-origins : goal.decreases-origins

@@ -1,13 +1,11 @@
-use Rattle.std.proofs.Common.{◌≡◌, ◌≤◌, ◌<◌, ◌+◌, ◌∙◌, ℕ, suc, ap, sym, subst, arith, length, List, Fits, w64}
-use Rattle.fpl_numbers.specs.declared.number.Num.{Num}
-use Rattle.fpl_rows.specs.Meaning.{AreRows, IsClosedList}
-use Rattle.fpl_table.specs.Plain.{PlainTable, symbols_in}
-use Rattle.fpl_table.specs.Push.{push_of}
+use Rattle.std.proofs.Common.{◌≡◌, ◌≤◌, ◌+◌, ◌∙◌, ℕ, suc, ap, sym, subst, arith}
+use Rattle.fpl_rows.specs.Meaning.{AreRows}
+use Rattle.fpl_table.specs.Plain.{PlainTable}
 use Rattle.fpl_table.specs.Standard.{count_of, count_through}
 use Rattle.fpl_completion.proofs.Counts.{counts_pushed}
 use Rattle.fpl_complete.specs.State.{PlainState, IsState}
 use Rattle.fpl_complete.proofs.Closing.{symbols_counted}
-use Rattle.fpl_complete.proofs.Raising.{Closes, closes, next_state, unfit_fractions, few_next, summed, counted, limit_here, limit_done, limit_memory, limit_overflow, count_small}
+use Rattle.fpl_complete.proofs.Raising.{closes, next_state, unfit_fractions, few_next, summed, counted, limit_here, limit_done, limit_memory, limit_overflow, count_small}
 use Rattle.fpl_complete.proofs.state.State.next_weight.Goals as goal
 
 pub overflow_add-count : goal.overflow_add-count

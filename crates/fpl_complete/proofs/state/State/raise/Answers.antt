@@ -11,13 +11,15 @@ returns-in-Err-clause-limit g c = λ w n e.
     let h = (c.in-Err.ensures.limit w n).0 e in
     let at : w ≡ s.table.weight + 1 = h.0 in
     let same = ap (λ (x : PlainState). x.table.weight) c.in-Err.ensures.unchanged in
-    let below : s.table.weight ≡ w - 1 = omega (arith, at) in
-    (record {
-      above = omega (arith, at, i.from);
-      to_end = omega (arith, at, c.loop-self-test.true, c.weight.ensures.value);
-      table = s.table;
-      below = subst (λ (p : Presentation). IsTableOf p (w - 1) s.table) i.presentation (subst (λ (v : ℕ). IsTableOf s.presentation v s.table) below c.weight.ensures.standard);
-      number = sym h.1;
-      passes = h.2;
-      least = λ v l k. i.within v l (omega (arith, at, k));
-    }, omega (arith, at, same))
+    let below : s.table.weight ≡ w - 1 = omega (arith, at) in (
+      record {
+        above = omega (arith, at, i.from);
+        to_end = omega (arith, at, c.loop-self-test.true, c.weight.ensures.value);
+        table = s.table;
+        below = subst (λ (p : Presentation). IsTableOf p (w - 1) s.table) i.presentation (subst (λ (v : ℕ). IsTableOf s.presentation v s.table) below c.weight.ensures.standard);
+        number = sym h.1;
+        passes = h.2;
+        least = λ v l k. i.within v l (omega (arith, at, k));
+      },
+      omega (arith, at, same),
+    )

@@ -8,7 +8,7 @@ invariant-loop-self g l = record {
   from : l.fn.self.table.weight ≤ l.self.table.weight;
   to : l.self.table.weight ≤ max l.fn.self.table.weight l.d;
   within : (v : ℕ) → l.fn.self.table.weight < v → v ≤ l.self.table.weight → count_through l.self.table v ≤ l.entries;
-  later : l.fn.steps ≤ l.steps
+  later : l.fn.steps ≤ l.steps;
 }
 
 abbrev pub decreases-loop-self : goal.decreases-loop-self
