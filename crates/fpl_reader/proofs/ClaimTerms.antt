@@ -8,7 +8,7 @@ use Rattle.fpl_model.specs.declared.expr.Expr.{Expr}
 use Rattle.fpl_model.specs.declared.expr.Expr as expr
 use Rattle.fpl_model.specs.declared.presentation.Generator.{Generator}
 use Rattle.fpl_model.specs.Meaning.{plain}
-use Rattle.fpl_model.specs.Sound.{IsTerm, count_tree}
+use Rattle.fpl_model.specs.Sound.{IsTerm, IsWithin, count_tree}
 use Rattle.fpl_model.proofs.Plain.{plain-Zero}
 use Rattle.fpl_syntax.specs.declared.symbol.Word.{Word}
 use Rattle.fpl_syntax.specs.declared.parser.Claim.{Claim}
@@ -22,7 +22,7 @@ use Rattle.fpl_reader.specs.Reading.{first_place, unknown_in, scope_of}
 use Rattle.fpl_reader.specs.Terms.{AreSidesTerms}
 use Rattle.fpl_reader.proofs.Allowed.{All-cons, All-none}
 use Rattle.fpl_reader.proofs.Elements.{coefficient_element}
-use Rattle.fpl_reader.proofs.Terms.{first_place-append, fine_sum, places_sum}
+use Rattle.fpl_reader.proofs.Terms.{first_place-append, fine_sum, within_term, places_sum}
 
 choose_least : (t : Bool) (a b c : ℕ) → a ≤ c → b ≤ c → (if t then a else b) ≤ c
 choose_least true a b c h k = h
@@ -35,20 +35,23 @@ number_bound (g ∷ gs) m n w e =
     choose_least (bytes_eq g.name w) n (number_from (n + 1) gs w) (m + suc (length gs)) (omega arith) (omega arith)
 
 module _ (text : List ℕ) (kind : Kind) (gs : List Generator) (known : IsTrue (is_field kind)) (size : ℕ) where
-  abbrev scope : Scope
+  abbrev pub scope : Scope
   scope = scope_of text kind gs
 
   numbered : (w : Word) → scope.number w ≤ length gs
   numbered w = let h = number_bound gs 0 1 (word_of text w.start w.end) (omega arith) in omega arith
 
-  abbrev AllKnown : List Event → Type 0
+  abbrev pub AllKnown : List Event → Type 0
   AllKnown es = first_place (unknown_in scope) es ≡ None
+
+  pub within : (s : Sum) → AllKnown (events_sum s) → IsWithin kind (length gs) (plain (expression_of scope s))
+  within s h = fine_sum scope (length gs) numbered (coefficient_element kind known) s h
 
   abbrev IsSide : Sum → Type 0
   IsSide s = IsTerm kind (length gs) (plain (expression_of scope s))
 
   side : (s : Sum) → AllKnown (events_sum s) → IsSide s
-  side s h = fine_sum scope (length gs) numbered (coefficient_element kind known) s h
+  side s h = within_term kind (length gs) (plain (expression_of scope s)) (within s h)
 
   one_side : (s : Sum) (c : Claim) → c.equation.left ≡ expression_of scope s → c.equation.right ≡ expr.Zero → AllKnown (events_sum s) → length (events_sum s) < 2 ^ 40 → AreSidesTerms kind (length gs) c
   one_side s c l r h few =

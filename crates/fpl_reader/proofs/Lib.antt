@@ -11,3 +11,6 @@ pub mod Readings
 pub mod Counting
 pub mod Allowed
 pub mod ClaimTerms
+pub mod Nesting
+pub mod Soundness
+pub mod OneAnswer

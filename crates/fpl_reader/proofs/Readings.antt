@@ -67,7 +67,7 @@ unless_some : (o : Option ℕ) (why : Reason) (a b : Option (ℕ × Reason)) (r 
 unless_some None why a b r h e = h e
 unless_some (Some place) why a b r h e = e
 
-unless_none : (o : Option ℕ) (why : Reason) (a : Option (ℕ × Reason)) → unless o why a ≡ None → (o ≡ None) × (a ≡ None)
+pub unless_none : (o : Option ℕ) (why : Reason) (a : Option (ℕ × Reason)) → unless o why a ≡ None → (o ≡ None) × (a ≡ None)
 unless_none None why a e = (refl, e)
 unless_none (Some place) why a e = cc
 
@@ -88,15 +88,18 @@ pub record IsAllowed (text : List ℕ) (fs : List FieldStatement) (ds : List Dec
   pub good_weights : bad_weight ds ≡ None
   pub few : too_many ds ≡ None
 
-pub early_none : (text : List ℕ) (fs : List FieldStatement) (ds : List DeclaredName) → early_refusal text fs ds None ≡ None → IsAllowed text fs ds
-early_none text fs ds e =
+pub early_none_rest : (text : List ℕ) (fs : List FieldStatement) (ds : List DeclaredName) (rest : Option (ℕ × Reason)) → early_refusal text fs ds rest ≡ None → IsAllowed text fs ds × (rest ≡ None)
+early_none_rest text fs ds rest e =
     let a = unless_none (no_field text fs) reason.NoField _ e in
     let b = unless_none (field_twice fs) reason.FieldTwice _ a.1 in
     let c = unless_none (bad_prime fs) reason.BadPrime _ b.1 in
     let d = unless_none (name_twice text [] ds) reason.NameTwice _ c.1 in
     let f = unless_none (bad_weight ds) reason.BadWeight _ d.1 in
     let g = unless_none (too_many ds) reason.TooManyGenerators _ f.1 in
-    record { some_field = a.0; one_field = b.0; good_prime = c.0; names_once = d.0; good_weights = f.0; few = g.0 }
+    (record { some_field = a.0; one_field = b.0; good_prime = c.0; names_once = d.0; good_weights = f.0; few = g.0 }, g.1)
+
+pub early_none : (text : List ℕ) (fs : List FieldStatement) (ds : List DeclaredName) → early_refusal text fs ds None ≡ None → IsAllowed text fs ds
+early_none text fs ds e = (early_none_rest text fs ds None e).0
 
 early_rest : (text : List ℕ) (fs : List FieldStatement) (ds : List DeclaredName) (rest : Option (ℕ × Reason)) → IsAllowed text fs ds → early_refusal text fs ds rest ≡ rest
 early_rest text fs ds rest a = rw (a.some_field, a.one_field, a.good_prime, a.names_once, a.good_weights, a.few) refl
@@ -216,3 +219,8 @@ text_utf8 text ds h e = subst (λ ds. All (λ d. IsUtf8 (name_of text d)) ds) (s
 pub read_err : (text : List ℕ) (r : ReaderError) → IsRefusal text r → Read text (Err r)
 read_err text (Refused place why) h = h
 read_err text NoMemory h = tt
+
+pub text_names_of : (text : List ℕ) (ts : List Token) → Reads text (Ok ts) → (ss : List Statement) → spelling ss ≡ symbols_of text ts → AreNames text (declared_in (events_of ss))
+text_names_of text ts lexed ss spelled =
+    subst (λ es. AreNames text (declared_in es)) (ap scan_of (sym spelled) ∙ sentence_scans ss)
+    (scan_fine text track.Outside (symbols_of text ts) tt (symbols_fine text ts (text_words text ts lexed)))

@@ -10,7 +10,7 @@ use Rattle.fpl_algebra.specs.Tree.{Tree, Trees, gen, none, sum_of, multiple, bra
 use Rattle.fpl_model.specs.declared.expr.Expr.{Expr}
 use Rattle.fpl_model.specs.declared.expr.Expr as expr
 use Rattle.fpl_model.specs.Meaning.{plain}
-use Rattle.fpl_model.specs.Sound.{IsTerm, AreTerms, count_tree, count_trees}
+use Rattle.fpl_model.specs.Sound.{IsTerm, AreTerms, IsWithin, AreWithin, count_tree, count_trees}
 use Rattle.fpl_model.proofs.Plain.{plain-Gen, plain-Zero, plain-Sum, plain-Times, plain-Br}
 use Rattle.fpl_syntax.specs.declared.symbol.Word.{Word}
 use Rattle.fpl_syntax.specs.declared.symbol.Numeral.{Numeral}
@@ -45,10 +45,10 @@ module _ (scope : Scope) (n : ℕ) (numbered : (w : Word) → scope.number w ≤
   Known es = first_place (unknown_in scope) es ≡ None
 
   abbrev Fine : Expr → Type 0
-  Fine e = IsTerm scope.kind n (plain e)
+  Fine e = IsWithin scope.kind n (plain e)
 
   abbrev AllFine : List Expr → Type 0
-  AllFine es = AreTerms scope.kind n (trees (map plain es))
+  AllFine es = AreWithin scope.kind n (trees (map plain es))
 
   fine_name : (w : Word) (t : Bool) → (scope.number w == 0) ≡ t → or_else (if t then Some w.start else None) None ≡ None → Fine (expr.Gen (scope.number w))
   fine_name w true e h = cc
@@ -69,7 +69,7 @@ module _ (scope : Scope) (n : ℕ) (numbered : (w : Word) → scope.number w ≤
   fine_total : (es : List Expr) → AllFine es → Fine (total es)
   fine_total [] h = rw plain-Zero tt
   fine_total (e ∷ []) h = h.0
-  fine_total (e ∷ f ∷ es) h = rw plain-Sum h
+  fine_total (e ∷ f ∷ es) h = rw plain-Sum (omega arith, h)
 
   mutual
     pub fine_sum : (s : Sum) → Known (events_sum s) → Fine (expression_of scope s)
@@ -92,6 +92,18 @@ module _ (scope : Scope) (n : ℕ) (numbered : (w : Word) → scope.number w ≤
         let k = first_place-append (unknown_in scope) (events_sum a) (events_sum b) h in
         rw plain-Br (fine_sum a k.0, fine_sum b k.1)
     fine_factor (group a) h = fine_sum a h
+
+mutual
+  pub within_term : (k : Kind) (n : ℕ) (t : Tree Num) → IsWithin k n t → IsTerm k n t
+  within_term k n (gen g) h = h
+  within_term k n none h = h
+  within_term k n (sum_of es) h = within_terms k n es h.1
+  within_term k n (multiple c e) h = (h.0, within_term k n e h.1)
+  within_term k n (bracket_of a b) h = (within_term k n a h.0, within_term k n b h.1)
+
+  within_terms : (k : Kind) (n : ℕ) (ts : Trees Num) → AreWithin k n ts → AreTerms k n ts
+  within_terms k n last h = tt
+  within_terms k n (more e es) h = (within_term k n e h.0, within_terms k n es h.1)
 
 -- how many places of generators there are
 

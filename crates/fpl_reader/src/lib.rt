@@ -13,4 +13,7 @@ mod symbols;
 mod tokens;
 
 pub use fault::{ReaderError, Reason};
-pub use reading::read;
+pub use reading::{one_answer, read};
+
+#[cfg(test)]
+mod tests;

@@ -1,11 +1,15 @@
 ghost use Rattle.std.specs.Prelude.{◌≡◌, ◌<◌, ◌≤◌, ◌^◌, None, Some, IfOk, length, map};
 ghost use Rattle.std.specs.Str.{IsUtf8};
+ghost use Rattle.std.specs.Prelude.{ℕ, List, ◌⊎◌};
+ghost use Rattle.fpl_model.specs.declared.presentation.Presentation.{Presentation as Presented};
+ghost use Rattle.fpl_reader.specs.declared.fault.Reason.{Reason as Refusal};
+ghost use Rattle.fpl_reader.specs.Reading.{HasPresentation, IsRefused};
 ghost use Rattle.std.specs.Prelude.{IsTrue, All};
 ghost use Rattle.fpl_syntax.specs.Kinds.{is_listed};
 ghost use Rattle.fpl_reader.specs.Events.{fields_in, declared_in};
 ghost use Rattle.fpl_reader.specs.Stream.{IsLexable};
 ghost use Rattle.fpl_reader.specs.Texts.{text_tokens, text_events};
-ghost use Rattle.fpl_model.specs.Sound.{HaveWeights};
+ghost use Rattle.fpl_model.specs.Sound.{HaveWeights, IsSound};
 ghost use Rattle.fpl_syntax.specs.Sight.{sight};
 ghost use Rattle.fpl_reader.specs.Terms.{AreSidesTerms};
 ghost use Rattle.fpl_reader.specs.Answers.{IsLexicalRefusal, IsRefusal, bare_of};
@@ -175,8 +179,7 @@ fn read_sentence(alloc: Global, text: &[u8], p: Presentation) -> Result<Presenta
     }
 }
 
-/// The presentation that a text is. `Refused` comes exactly where it is none.
-pub fn read(alloc: Global, text: &[u8]) -> Result<Presentation, ReaderError>
+fn read_text(alloc: Global, text: &[u8]) -> Result<Presentation, ReaderError>
     requires { length text.now < 2 ^ 32 }
     ensures { Read text.now result }
 {
@@ -198,3 +201,20 @@ pub fn read(alloc: Global, text: &[u8]) -> Result<Presentation, ReaderError>
         bare(alloc, kind_of(fields.as_slice()), generators),
     )
 }
+
+/// The presentation that a text is, which is sound. `Refused` comes exactly where it is none.
+pub fn read(alloc: Global, text: &[u8]) -> Result<Presentation, ReaderError>
+    requires { length text.now < 2 ^ 32 }
+    ensures read { Read text.now result }
+    ensures sound { IfOk result (λ p. IsSound p) }
+{
+    read_text(alloc, text)
+}
+
+/// A text is one presentation, or has one refusal, and not both.
+pub fn one_answer()
+    ensures presentation { (text : List ℕ) (p q : Presented) → HasPresentation text p → HasPresentation text q → p ≡ q }
+    ensures refusal { (text : List ℕ) (a b : ℕ) (v w : Refusal) → IsRefused text a v → IsRefused text b w → (a ≡ b) × (v ≡ w) }
+    ensures apart { (text : List ℕ) (p : Presented) (place : ℕ) (why : Refusal) → HasPresentation text p → IsRefused text place why → ⊥ }
+    ensures some { (text : List ℕ) → ((p : Presented) × HasPresentation text p) ⊎ ((place : ℕ) × (why : Refusal) × IsRefused text place why) }
+{}

@@ -160,6 +160,23 @@ sentence_wrong front (symbol ∷ after) symbols e wrong s = wrong (s.0, after, s
 pub fault_apart : {symbols : List Symbol} {k : ℕ} → IsFaultAt k symbols → IsSentence symbols → ⊥
 fault_apart {symbols} r s = sentence_wrong r.front r.after symbols r.whole r.wrong s
 
+-- the parse is that of the sentence, or of the fault
+
+module _ (scope : Scope) where
+  sentence_outcome : (symbols : List Symbol) (ss : List Statement) (answer : Result (List Claim) ℕ) → spelling ss ≡ symbols → Outcome scope symbols answer → answer ≡ Ok (claims_of scope ss)
+  sentence_outcome symbols ss (Ok claims) e h = ap Ok (one_claims scope h (record { sentence = ss; spelled = e; claimed = refl }))
+  sentence_outcome symbols ss (Err k) e h = absurd (fault_apart h (ss, e))
+
+  pub parse_sentence : (symbols : List Symbol) (ss : List Statement) → spelling ss ≡ symbols → parse_of scope symbols ≡ Ok (claims_of scope ss)
+  parse_sentence symbols ss e = sentence_outcome symbols ss (parse_of scope symbols) e (outcome scope symbols)
+
+  fault_outcome : (symbols : List Symbol) (k : ℕ) (answer : Result (List Claim) ℕ) → IsFaultAt k symbols → Outcome scope symbols answer → answer ≡ Err k
+  fault_outcome symbols k (Ok claims) f h = absurd (fault_apart f (h.sentence, h.spelled))
+  fault_outcome symbols k (Err j) f h = ap Err (one_fault h f)
+
+  pub parse_fault : (symbols : List Symbol) (k : ℕ) → IsFaultAt k symbols → parse_of scope symbols ≡ Err k
+  parse_fault symbols k f = fault_outcome symbols k (parse_of scope symbols) f (outcome scope symbols)
+
 -- a scope of no names
 unfoldable no_names : Scope
 no_names = record { kind = Rational; number = λ w. 0 }
