@@ -5,8 +5,6 @@ mod shape;
 mod symbol;
 mod symbols;
 mod table;
-#[cfg(test)]
-mod tests;
 
 pub use symbol::{Basis, PairSign, Symbol};
 pub use symbols::Symbols;
