@@ -1,8 +1,8 @@
 -- The text of a table. Basis elements and generators count from 0 here, and from 1 in the text.
+--   names_of: the names of a presentation's generators, in order of declaration
 --   text_of n line: the texts of 0, .., n - 1, one after the other
 --   basis_name, pair_name: bI and [bI,bJ]
---   monomial_text: the bracket tree in generators of what a symbol stands for, from those of the basis elements before
---   monomials: the bracket trees of the first n basis elements
+--   tree_text: a bracket tree, in the names of its generators
 --   basis_line: bI weight W PARITY = TREE
 --   is_within: whether a generator's weight is at most the table's
 --   image_line: NAME = COMBINATION, for a generator within the table's weight
@@ -10,15 +10,26 @@
 --   has_value: whether a symbol is a pair whose entry isn't 0
 --   brackets_of: the regular pairs through the table's weight whose entry isn't 0, by weight, then in lexicographic order
 --   bracket_line: [bI,bJ] = COMBINATION
+--   head_text, count_line: the lines with the field, the weight and the size of the basis; and with another size
+--   HasElements: the numbers of images and entries are canonical and fit
+--   IsEntry: a symbol of code that is a generator, or a regular pair through the table's weight
 --   table_text: the field and the weight; the basis; the images, by declaration; the brackets
-use Rattle.std.specs.Prelude.{ℕ, zero, suc, ◌+◌, List, [], ◌∷◌, ◌++◌, length, get_or, filter, count_by, Bool, true, false, not, nat_le, if◌then◌else◌, codes, decimal}
-use Rattle.std.specs.List.{list_all}
-use Rattle.fpl_numbers.specs.Numbers.{is_nought}
-use Rattle.fpl_algebra.specs.Tree.{Generator, no_generator}
+use Rattle.std.specs.Prelude.{ℕ, zero, suc, ◌+◌, ◌-◌, ◌≤◌, All, List, [], ◌∷◌, ◌++◌, length, get_or, map, filter, count_by, Bool, false, nat_le, is_some, if◌then◌else◌, codes, decimal}
+use Rattle.fpl_numbers.specs.declared.number.Num.{Num}
+use Rattle.fpl_rows.specs.Positions.{lead_of}
+use Rattle.fpl_algebra.specs.Tree.{Tree, gen, none, sum_of, multiple, bracket_of, Generator}
 use Rattle.fpl_algebra.specs.Table.{Symbol, of_generator, of_pair}
 use Rattle.fpl_algebra.specs.Symbols.{symbols_of}
-use Rattle.fpl_table.specs.Plain.{PlainTable, plain_basis, image_row, entry_row, table_in, shell_in}
+use Rattle.fpl_model.specs.declared.presentation.Presentation.{Presentation}
+use Rattle.fpl_table.specs.declared.symbol.Symbol as code
+use Rattle.fpl_table.specs.declared.symbol.Symbol.TheVariants.{Gen, Pair}
+use Rattle.fpl_scalar.specs.Vectors.{AreElements}
+use Rattle.fpl_table.specs.Plain.{PlainTable, plain_basis, first_partner, generator_at, image_row, entry_row, table_in, shell_in}
+use Rattle.fpl_table.specs.Shape.{basis_trees}
 use Rattle.fpl_print.specs.Combinations.{field_text, parity_text, combination_text}
+
+abbrev pub names_of : Presentation → List (List ℕ)
+names_of p = map (λ g. g.name) p.generators
 
 abbrev pub text_of : ℕ → (ℕ → List ℕ) → List ℕ
 text_of zero line = []
@@ -30,25 +41,25 @@ basis_name i = codes "b" ++ decimal (i + 1)
 abbrev pub pair_name : ℕ → ℕ → List ℕ
 pair_name i j = codes "[" ++ basis_name i ++ codes "," ++ basis_name j ++ codes "]"
 
-abbrev pub monomial_text : (names before : List (List ℕ)) → Symbol → List ℕ
-monomial_text names before (of_generator g) = get_or names g []
-monomial_text names before (of_pair i j) = codes "[" ++ get_or before i [] ++ codes "," ++ get_or before j [] ++ codes "]"
-
-abbrev pub monomials : (names : List (List ℕ)) → PlainTable → ℕ → List (List ℕ)
-monomials names T zero = []
-monomials names T (suc n) = monomials names T n ++ monomial_text names (monomials names T n) (plain_basis T n).symbol ∷ []
+-- the trees of basis elements have generators, counted from 1, and brackets alone
+abbrev pub tree_text : (names : List (List ℕ)) → Tree Num → List ℕ
+tree_text names (gen g) = get_or names (g - 1) []
+tree_text names (bracket_of a b) = codes "[" ++ tree_text names a ++ codes "," ++ tree_text names b ++ codes "]"
+tree_text names none = []
+tree_text names (sum_of es) = []
+tree_text names (multiple c e) = []
 
 abbrev pub basis_line : (names : List (List ℕ)) → PlainTable → ℕ → List ℕ
 basis_line names T i =
     basis_name i ++ codes " weight " ++ decimal (plain_basis T i).weight ++ codes " " ++ parity_text (plain_basis T i).parity ++ codes " = "
-    ++ monomial_text names (monomials names T i) (plain_basis T i).symbol ++ codes "\n"
+    ++ tree_text names (get_or (basis_trees T) i none) ++ codes "\n"
 
 abbrev pub is_within : PlainTable → Generator → Bool
 is_within T g = nat_le g.weight T.weight
 
 abbrev pub image_line : (names : List (List ℕ)) → PlainTable → ℕ → List ℕ
 image_line names T g =
-    if is_within T (get_or T.generators g no_generator) then get_or names g [] ++ codes " = " ++ combination_text basis_name (image_row T g) ++ codes "\n" else []
+    if is_within T (generator_at T g) then get_or names g [] ++ codes " = " ++ combination_text basis_name (image_row T g) ++ codes "\n" else []
 
 abbrev pub symbols_through : PlainTable → ℕ → List Symbol
 symbols_through T zero = []
@@ -56,7 +67,7 @@ symbols_through T (suc w) = symbols_through T w ++ symbols_of (shell_in T.kind T
 
 abbrev pub has_value : PlainTable → Symbol → Bool
 has_value T (of_generator g) = false
-has_value T (of_pair i j) = not (list_all is_nought (entry_row T i j))
+has_value T (of_pair i j) = is_some (lead_of (entry_row T i j))
 
 abbrev pub brackets_of : PlainTable → List Symbol
 brackets_of T = filter (has_value T) (symbols_through T T.weight)
@@ -69,13 +80,26 @@ abbrev pub bracket_lines : PlainTable → List Symbol → List ℕ
 bracket_lines T [] = []
 bracket_lines T (x ∷ xs) = bracket_line T x ++ bracket_lines T xs
 
+abbrev pub head_text : PlainTable → List ℕ
+head_text T = codes "table " ++ field_text T.kind ++ codes " through " ++ decimal T.weight ++ codes "\nbasis " ++ decimal (length T.basis) ++ codes "\n"
+
+abbrev pub count_line : (word : List ℕ) → ℕ → List ℕ
+count_line word n = word ++ decimal n ++ codes "\n"
+
 abbrev pub table_text : (names : List (List ℕ)) → PlainTable → List ℕ
 table_text names T =
-    codes "table " ++ field_text T.kind ++ codes " through " ++ decimal T.weight
-    ++ codes "\nbasis " ++ decimal (length T.basis) ++ codes "\n"
+    head_text T
     ++ text_of (length T.basis) (basis_line names T)
-    ++ codes "images " ++ decimal (count_by (is_within T) T.generators) ++ codes "\n"
+    ++ count_line (codes "images ") (count_by (is_within T) T.generators)
     ++ text_of (length T.generators) (image_line names T)
-    ++ codes "brackets " ++ decimal (length (brackets_of T)) ++ codes "\n"
-    ++ bracket_lines T (brackets_of T)
+    ++ (count_line (codes "brackets ") (length (brackets_of T)) ++ bracket_lines T (brackets_of T))
     ++ codes "end\n"
+
+abbrev pub HasElements : PlainTable → Type 0
+HasElements T = All (λ rows. All (AreElements T.kind) rows) T.images × All (λ level. All (λ rows. All (AreElements T.kind) rows) level) T.entries
+
+abbrev pub IsEntry : PlainTable → code.Symbol → Type 0
+IsEntry T (Gen g) = Unit {0}
+IsEntry T (Pair i j) =
+    (1 ≤ i) × (i ≤ length T.basis) × (1 ≤ j) × (j ≤ length T.basis) × (first_partner T (i - 1) ≤ j - 1)
+    × ((plain_basis T (i - 1)).weight + (plain_basis T (j - 1)).weight ≤ T.weight)

@@ -2,3 +2,6 @@
 #![tactic(auto)]
 
 mod combinations;
+mod table;
+
+pub use table::table_text;

@@ -1,4 +1,6 @@
 pub mod Cubes
+pub mod Listed
+pub mod Nought
 pub mod Onward
 pub mod Relations
 pub mod Thirds

@@ -1,5 +1,6 @@
 -- The relations of a sound presentation, one after the other.
-use Rattle.std.proofs.Common.{◌≡◌, ◌<◌, ◌≤◌, ◌+◌, ◌^◌, ℕ, zero, suc, List, [], ◌∷◌, length, drop, get_or, map, true, false, Bool, refl, sym, ap, ap₂, ◌∙◌, arith}
+use Rattle.std.proofs.Common.{◌≡◌, ◌<◌, ◌≤◌, ◌+◌, ◌-◌, ◌^◌, ℕ, zero, suc, List, [], ◌∷◌, length, drop, get_or, map, true, false, Bool, cond, refl, sym, ap, ap₂, ◌∙◌, arith}
+use Rattle.std.proofs.lemmas.Bool.Decides.{nat_tests}
 use Rattle.std.proofs.lemmas.List.Sums.{sum-map, sum_by-cons, get_or-le-sum_by}
 use Rattle.std.specs.Prelude.{nat_eq, sum, sum_by}
 use Rattle.fpl_numbers.specs.declared.number.Num.{Num}
@@ -15,6 +16,7 @@ use Rattle.fpl_model.proofs.Terms.{term_within}
 use Rattle.fpl_log.specs.declared.step.Origin.TheVariants.{Relation}
 use Rattle.fpl_table.specs.Plain.{PlainTable}
 use Rattle.fpl_table.specs.Shape.{Agrees}
+use Rattle.fpl_rewrite.specs.Rows.{has_weight, counts, relation_row_of, equation_row}
 use Rattle.fpl_rewrite.specs.Origins.{relation_weight, relations_from, is_exactly}
 
 -- weights are those of the generators, whatever the numbers
@@ -100,3 +102,19 @@ left_term p at q sound lt is = (let h = sound.relations at q lt in rw (sym is) a
 
 pub right_term : (p : model.Presentation) (at : ℕ) (q : Equation) → IsSound p → at < length p.relations → q ≡ get_or p.relations at q → IsTerm p.field (length p.generators) (plain q.right)
 right_term p at q sound lt is = (let h = sound.relations at q lt in rw (sym is) at (term_within p.field (length p.generators) (plain (get_or p.relations at q).right) h.1.0))
+
+pub counts_by : (T : PlainTable) (p : model.Presentation) (t : Tree Num) → Agrees T p → counts T t ≡ has_weight (weight_of (presentation_in p) (in_field p.field t))
+counts_by T p t agrees = ap has_weight (weight_alike T.kind p.field (record { generators = T.generators; relations = [] }) (presentation_in p) agrees.1 t)
+
+not_one : (n : ℕ) → nat_eq (suc (suc n)) 1 ≡ false
+not_one n = grind (arith, nat_tests)
+
+row_at : (T : PlainTable) (qs : List Equation) (at : ℕ) (q : Equation) → at < length qs → q ≡ get_or qs at q → equation_row T qs (suc at) ≡ relation_row_of T q
+row_at T [] at q lt is = absurd (omega arith)
+row_at T (x ∷ qs) zero q lt is = ap (relation_row_of T) (sym is)
+row_at T (x ∷ qs) (suc at) q lt is =
+    let e : suc (suc at) - 1 ≡ suc at = omega arith in
+    ap (λ b. cond b (relation_row_of T x) (equation_row T qs (suc (suc at) - 1))) (not_one at) ∙ ap (equation_row T qs) e ∙ row_at T qs at q (omega arith) is
+
+pub relation_row_at : (T : PlainTable) (qs : List Equation) (r : ℕ) (q : Equation) → 1 ≤ r → r ≤ length qs → q ≡ get_or qs (r - 1) q → equation_row T qs r ≡ relation_row_of T q
+relation_row_at T qs r q l m is = let e : r ≡ suc (r - 1) = omega arith in ap (equation_row T qs) e ∙ row_at T qs (r - 1) q (omega arith) is

@@ -6,17 +6,11 @@ use Rattle.fpl_algebra.specs.Symbols.{joined, is_odd, symbols_of}
 use Rattle.fpl_algebra.specs.Tree.{no_generator}
 use Rattle.fpl_table.specs.declared.shape.Shape.{Shape}
 use Rattle.fpl_table.specs.Whole.{shape_in}
-use Rattle.fpl_table.proofs.Lists.{map_at}
+use Rattle.fpl_table.proofs.Lists.{map_at, nat_split}
 use Rattle.fpl_table.specs.Plain.{PlainTable, through, first_partner, partner_from, plain_basis, generator_at, table_in, shell_in}
-use Rattle.fpl_table.specs.Shape.{HasShape}
-use Rattle.fpl_table.specs.Cells.{generator_cell, generator_cells, pair_cell, pair_cells}
-use Rattle.fpl_table.proofs.Weights.{through_below, through_above, through_within}
-
-nat_split : (a b : ℕ) → (a < b) ⊎ (b ≤ a)
-nat_split zero zero = inr (omega arith)
-nat_split zero (suc b) = inl (omega arith)
-nat_split (suc a) zero = inr (omega arith)
-nat_split (suc a) (suc b) = elim (nat_split a b) [ inl h ↦ inl (omega (arith, h)) | inr h ↦ inr (omega (arith, h)) ]
+use Rattle.fpl_table.specs.Shape.{HasShape, partners}
+use Rattle.fpl_table.specs.Cells.{generator_cell, generator_cells, pair_cell, pair_cells, pairs_to}
+use Rattle.fpl_table.proofs.Weights.{through_below, through_above, through_heavier, through_within}
 
 -- lists joined one after the other
 pub joined_one : (n : ℕ) (f : ℕ → List Symbol) → joined (n + 1) f ≡ joined n f ++ f n
@@ -69,25 +63,32 @@ module _ (T : PlainTable) (shape : HasShape T) (w i : ℕ) (lti : i < length T.b
   cell_other : (j : ℕ) → (plain_basis T i).weight + (plain_basis T j).weight ≢ w → pair_cell T w i j ≡ []
   cell_other j not = grind (arith, nat_tests)
 
-  pub cell_before : (j : ℕ) → j < length T.basis → j < partner_from T i w → pair_cell T w i j ≡ []
-  cell_before j ltj below =
+  pub before_other : (j : ℕ) → j < length T.basis → j < partner_from T i w → (j < first_partner T i) ⊎ ((plain_basis T i).weight + (plain_basis T j).weight ≢ w)
+  before_other j ltj below =
       elim (nat_split j (first_partner T i)) [
-        inl small ↦ cell_irregular j small
-      | inr large ↦ cell_other j (λ is. let h : (plain_basis T j).weight ≤ w - (plain_basis T i).weight - 1 = through_below T shape (w - (plain_basis T i).weight - 1) j (omega arith) in omega arith)
+        inl small ↦ inl small
+      | inr large ↦ inr (λ is. let h : (plain_basis T j).weight ≤ w - (plain_basis T i).weight - 1 = through_below T shape (w - (plain_basis T i).weight - 1) j (omega arith) in omega arith)
       ]
 
-  pub cell_after : (j : ℕ) → j < length T.basis → through T (w - (plain_basis T i).weight) ≤ j → pair_cell T w i j ≡ []
-  cell_after j ltj from =
-      cell_other j (λ is. let h : j < through T (w - (plain_basis T i).weight) = through_above T shape (w - (plain_basis T i).weight) j ltj (omega arith) in omega arith)
+  pub after_other : (j : ℕ) → j < length T.basis → through T (w - (plain_basis T i).weight) ≤ j → (plain_basis T i).weight + (plain_basis T j).weight ≢ w
+  after_other j ltj from is = let h : j < through T (w - (plain_basis T i).weight) = through_above T shape (w - (plain_basis T i).weight) j ltj (omega arith) in omega arith
 
-  pub cell_within : (j : ℕ) → partner_from T i w ≤ j → j < through T (w - (plain_basis T i).weight) → pair_cell T w i j ≡ of_pair i j ∷ []
-  cell_within j from below =
+  pub within_is : (j : ℕ) → partner_from T i w ≤ j → j < through T (w - (plain_basis T i).weight) → (plain_basis T i).weight + (plain_basis T j).weight ≡ w
+  within_is j from below =
       let in_all : through T (w - (plain_basis T i).weight) ≤ length T.basis = through_within T shape (w - (plain_basis T i).weight) in
       let light : (plain_basis T j).weight ≤ w - (plain_basis T i).weight = through_below T shape (w - (plain_basis T i).weight) j below in
       let heavy : (plain_basis T j).weight ≤ w - (plain_basis T i).weight - 1 → j < through T (w - (plain_basis T i).weight - 1) =
           through_above T shape (w - (plain_basis T i).weight - 1) j (omega arith) in
-      let is : (plain_basis T i).weight + (plain_basis T j).weight ≡ w = grind arith in
-      cell_regular j is (omega arith)
+      grind arith
+
+  cell_before : (j : ℕ) → j < length T.basis → j < partner_from T i w → pair_cell T w i j ≡ []
+  cell_before j ltj below = elim (before_other j ltj below) [ inl small ↦ cell_irregular j small | inr not ↦ cell_other j not ]
+
+  cell_after : (j : ℕ) → j < length T.basis → through T (w - (plain_basis T i).weight) ≤ j → pair_cell T w i j ≡ []
+  cell_after j ltj from = cell_other j (after_other j ltj from)
+
+  pub cell_within : (j : ℕ) → partner_from T i w ≤ j → j < through T (w - (plain_basis T i).weight) → pair_cell T w i j ≡ of_pair i j ∷ []
+  cell_within j from below = cell_regular j (within_is j from below) (omega arith)
 
   pub from_within : partner_from T i w ≤ length T.basis
   from_within =
@@ -129,10 +130,6 @@ module _ (T : PlainTable) (shape : HasShape T) (w i : ℕ) (lti : i < length T.b
 pub row_above : (T : PlainTable) → HasShape T → (w i : ℕ) → i < length T.basis → w ≤ (plain_basis T i).weight → pair_cells T w i ≡ []
 row_above T shape w i lti above =
     joined_none (pair_cell T w i) (length T.basis) (λ j ltj. let h : 1 ≤ (plain_basis T j).weight = shape.heavy j ltj in grind (arith, nat_tests))
-
--- the pairs of weight w whose first basis element stands before place i
-abbrev pub pairs_to : PlainTable → ℕ → ℕ → List Symbol
-pairs_to T w i = joined i (pair_cells T w)
 
 module _ (T : PlainTable) (shape : HasShape T) (w : ℕ) where
   pub pairs_first : pairs_to T w 0 ≡ []

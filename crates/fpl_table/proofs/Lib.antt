@@ -6,3 +6,7 @@ pub mod Cells
 pub mod Numbering
 pub mod Light
 pub mod Padded
+pub mod Leads
+pub mod Places
+pub mod NewRows
+pub mod Pushed

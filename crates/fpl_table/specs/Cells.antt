@@ -1,6 +1,7 @@
 -- The symbols of a weight, part by part.
 --
 --   generator_cells T w   the generators of weight w, ascending
+--   pairs_to T w i        the regular pairs of weight w whose first basis element stands before place i
 --   pair_cells T w i      the regular pairs (i, j) of weight w, by ascending j
 use Rattle.std.specs.Prelude.{ℕ, List, [], ◌∷◌, ◌+◌, length, cond, true, false, nat_eq, nat_lt}
 use Rattle.fpl_algebra.specs.Table.{Symbol, of_generator, of_pair}
@@ -19,3 +20,6 @@ pair_cell T w i j =
 
 abbrev pub pair_cells : PlainTable → ℕ → ℕ → List Symbol
 pair_cells T w i = joined (length T.basis) (pair_cell T w i)
+
+abbrev pub pairs_to : PlainTable → ℕ → ℕ → List Symbol
+pairs_to T w i = joined i (pair_cells T w)

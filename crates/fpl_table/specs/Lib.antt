@@ -6,4 +6,5 @@ pub mod Standard
 pub mod Truncate
 pub mod Whole
 pub mod Cells
+pub mod Leads
 pub mod Numbering

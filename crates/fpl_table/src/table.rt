@@ -10,6 +10,9 @@ ghost use Rattle.fpl_table.specs.Whole.{pair_in, IsPairWithin, IsPairRegular, sh
 
 mod count;
 mod entry;
+mod leads;
+mod push;
+mod solve;
 mod bracket;
 mod value;
 

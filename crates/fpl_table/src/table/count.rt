@@ -12,7 +12,7 @@ use std::alloc::{AllocError, Global};
 
 impl<F: Field> Table<F> {
     /// The number of generators of weight `w`.
-    fn generator_count(&self, w: u32) -> u32
+    pub(super) fn generator_count(&self, w: u32) -> u32
         ensures value { result ≡ length (generator_cells self.now w) }
         ensures few { result ≤ 64 }
         ensures shape { HasShape self.now }
@@ -72,7 +72,7 @@ impl<F: Field> Table<F> {
     }
 
     /// The symbols of weight `w`, in their order.
-    pub(crate) fn symbol_list(&self, alloc: Global, w: u32) -> Result<Vec<Symbol>, AllocError>
+    pub fn symbol_list(&self, alloc: Global, w: u32) -> Result<Vec<Symbol>, AllocError>
         requires { w ≤ self.now.weight + 1 }
         ensures value { IfOk result (λ list. map symbol_in list.items ≡ symbols_of (shell_in self.now.kind self.now) (table_in self.now.kind self.now) w) }
         ensures numbered { IfOk result (λ list. All IsNumbered list.items) }

@@ -1,6 +1,6 @@
 use Rattle.std.proofs.Common.{◌≡◌, ◌≤◌, ◌+◌, ◌*◌, length}
 use Rattle.fpl_table.specs.Cells.{generator_cells}
-use Rattle.fpl_table.proofs.Cells.{pairs_to}
+use Rattle.fpl_table.specs.Cells.{pairs_to}
 use Rattle.fpl_table.proofs.table.Table.symbol_count.Given as goal
 
 abbrev pub invariant-loop-i : goal.invariant-loop-i

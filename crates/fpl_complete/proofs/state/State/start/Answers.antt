@@ -1,0 +1,9 @@
+use Rattle.std.proofs.Common.{subst, sym, refl, arith}
+use Rattle.fpl_table.specs.Plain.{PlainTable}
+use Rattle.fpl_next.proofs.Holding.{start_holds}
+use Rattle.fpl_complete.specs.State.{IsState}
+use Rattle.fpl_complete.proofs.state.State.start.Goals as goal
+
+pub invariant_of-result : goal.invariant_of-result
+invariant_of-result g c =
+    subst (λ (T : PlainTable). IsState c.args.p T 0) (sym c.in_ok-table.ensures) (record { holds = start_holds c.args.p c.requires.sound; number = refl; few = omega arith })

@@ -1,0 +1,9 @@
+//! Completion: a presentation's table, raised weight by weight.
+#![tactic(auto)]
+
+mod fault;
+mod state;
+mod weight;
+
+pub use fault::RaiseFault;
+pub use state::State;

@@ -1,0 +1,177 @@
+ghost use Rattle.std.specs.Prelude.{◌≡◌, ◌≤◌, ◌<◌, ◌+◌, ◌↔◌, ℕ, max, length, Ok, Err, IfOk, OnOk, OnErr, IsErrOf};
+ghost use Rattle.fpl_numbers.specs.declared.number.Num.{Num};
+ghost use Rattle.fpl_numbers.specs.declared.number.Op.{Op};
+ghost use Rattle.fpl_numbers.specs.declared.number.Kind.{Kind};
+ghost use Rattle.fpl_rows.specs.Meaning.{AreRows};
+ghost use Rattle.fpl_model.specs.Sound.{IsSound};
+ghost use Rattle.fpl_table.specs.Push.{push_of};
+ghost use Rattle.fpl_table.specs.Standard.{start_of, count_of, count_through, IsTableOf, PassesAt};
+ghost use Rattle.fpl_rewrite.specs.Origins.{origins_of};
+ghost use Rattle.fpl_completion.specs.Weight.{next_of};
+ghost use Rattle.fpl_complete.specs.State.{PassesAfter, unfit_of};
+
+use crate::RaiseFault;
+use crate::weight::close_weight;
+use fpl_model::Presentation;
+use fpl_rows::Rows;
+use fpl_scalar::{Fault, Field};
+use fpl_steps::Steps;
+use fpl_table::Table;
+use std::alloc::{AllocError, Global};
+use std::marker::Model;
+use std::sync::ledger::Ledger;
+
+/// A presentation, and its table through a weight.
+#[derive(Drop)]
+pub struct State<F: Field> {
+    alloc: Global,
+    presentation: Presentation,
+    table: Table<F>,
+    /// How many symbols there are of the weights from 1 to the table's.
+    count: u64,
+}
+
+impl<F: Field> Model for State<F> {
+    ghost use Rattle.fpl_complete.specs.State.{PlainState, IsState};
+    ghost use Rattle.fpl_model.specs.contracts.expr.Expr as e;
+    ghost use Rattle.std.specs.Coded.{codes};
+
+    ghost Value = { PlainState };
+
+    ghost coded = { Prim.hlevel (codes, e.the_row.coded) };
+
+    ghost view = { λ s. record { presentation = s.presentation; table = s.table } };
+
+    ghost invariant = { λ s. IsState s.presentation s.table s.count };
+}
+
+fn push_weight<F: Field>(table: &mut Table<F>, _rows: &Rows<F>) -> Result<(), AllocError>
+    requires below { table.old.weight < 1000 }
+    requires few { count_of table.old (table.old.weight + 1) ≤ 2000000 }
+    requires rows { AreRows table.old.kind (count_of table.old (table.old.weight + 1)) _rows.now }
+    ensures value { OnOk result (table.new ≡ push_of table.old _rows.now) }
+    ensures unchanged { OnErr result (table.new ≡ table.old) }
+{
+    let _ = table.weight();
+    Err(AllocError)
+}
+
+impl<F: Field> State<F> {
+    /// The table of a sound presentation through weight 0. The field is of its kind.
+    pub fn start(alloc: Global, field: F, p: Presentation) -> Result<State<F>, AllocError>
+        requires kind { F.kind_of field ≡ p.field }
+        requires sound { IsSound p }
+        ensures { IfOk result (λ s. s ≡ record { presentation = p; table = start_of p }) }
+    {
+        let table = Table::start(alloc, field, &p)?;
+        Ok(State {
+            alloc,
+            presentation: p,
+            table,
+            count: 0,
+        })
+    }
+
+    pub fn table(&self) -> &Table<F>
+        ensures same { result.now ≡ self.now.table }
+        ensures standard { IsTableOf self.now.presentation self.now.table.weight self.now.table }
+    {
+        &self.table
+    }
+
+    pub fn presentation(&self) -> &Presentation
+        ensures same { result.now ≡ self.now.presentation }
+        ensures sound { IsSound self.now.presentation }
+    {
+        &self.presentation
+    }
+
+    pub fn weight(&self) -> u32
+        ensures value { result ≡ self.now.table.weight }
+        ensures standard { IsTableOf self.now.presentation self.now.table.weight self.now.table }
+    {
+        self.table.weight()
+    }
+
+    /// Adds the next weight.
+    ///
+    /// `Limit` comes, before any operation, exactly where the symbols of the weights from 1 to
+    /// the new one number more than `entries`; `Overflow` names the first operation that does
+    /// not fit, over fractions alone. After a refusal the state is unchanged.
+    /// Each origin takes one step.
+    pub fn next_weight<L: Ledger>(
+        &mut self,
+        entries: u64,
+        steps: &mut Steps<L>,
+    ) -> Result<(), RaiseFault>
+        requires weight { self.old.table.weight < 1000 }
+        requires entries { entries ≤ 2000000 }
+        ensures presentation { self.new.presentation ≡ self.old.presentation }
+        ensures next { OnOk result (next_of self.old.table self.old.presentation ≡ Ok self.new.table) }
+        ensures weight { OnOk result (self.new.table.weight ≡ self.old.table.weight + 1) }
+        ensures within { OnOk result (count_through self.new.table self.new.table.weight ≤ entries) }
+        ensures counts { OnOk result ((v : ℕ) → v ≤ self.old.table.weight + 1 → count_through self.new.table v ≡ count_through self.old.table v) }
+        ensures limit { (w c : ℕ) → IsErrOf result (RaiseFault.Limit w c) ↔ ((w ≡ self.old.table.weight + 1) × (c ≡ count_through self.old.table w) × (entries < c)) }
+        ensures overflow { (w : ℕ) (op : Op) (a b : Num) → IsErrOf result (RaiseFault.Overflow w op a b) → (w ≡ self.old.table.weight + 1) × (next_of self.old.table self.old.presentation ≡ Err (unfit_of op a b)) }
+        ensures fractions { (w : ℕ) (op : Op) (a b : Num) → IsErrOf result (RaiseFault.Overflow w op a b) → self.old.presentation.field ≡ Kind.Rational }
+        ensures unchanged { OnErr result (self.new ≡ self.old) }
+        ensures step { OnOk result (steps.new ≡ steps.old + length (origins_of self.old.table self.old.presentation)) }
+        ensures most { (steps.old ≤ steps.new) × (steps.new ≤ steps.old + length (origins_of self.old.table self.old.presentation)) }
+        ensures before { (w c : ℕ) → IsErrOf result (RaiseFault.Limit w c) → steps.new ≡ steps.old }
+    {
+        let weight = self.table.weight() + 1;
+        let count = self.count + self.table.symbol_count(weight);
+        if count > entries {
+            return Err(RaiseFault::Limit { weight, count });
+        }
+        let closed = match close_weight(self.alloc, &self.table, &self.presentation, steps) {
+            Ok(closed) => closed,
+            Err(Fault::NoMemory) => return Err(RaiseFault::NoMemory),
+            Err(Fault::Unfit(u)) => {
+                return Err(RaiseFault::Overflow {
+                    weight,
+                    op: u.op,
+                    a: u.a,
+                    b: u.b,
+                });
+            }
+        };
+        match push_weight(&mut self.table, &closed.rows) {
+            Ok(()) => {
+                self.count = count;
+                Ok(())
+            }
+            Err(_) => Err(RaiseFault::NoMemory),
+        }
+    }
+    /// Adds weights up to `d`, if the table has not come so far.
+    ///
+    /// A refusal names the weight that was refused, and the table then has all weights below
+    /// it: `Limit` the least weight at which the symbols number more than `entries`, with their
+    /// number; `Overflow` the first operation that does not fit, over fractions alone.
+    pub fn raise<L: Ledger>(
+        &mut self,
+        d: u32,
+        entries: u64,
+        steps: &mut Steps<L>,
+    ) -> Result<(), RaiseFault>
+        requires weight { d ≤ 1000 }
+        requires entries { entries ≤ 2000000 }
+        ensures presentation { self.new.presentation ≡ self.old.presentation }
+        ensures weight { OnOk result (self.new.table.weight ≡ max self.old.table.weight d) }
+        ensures reached { (self.old.table.weight ≤ self.new.table.weight) × (self.new.table.weight ≤ max self.old.table.weight d) }
+        ensures within { (v : ℕ) → self.old.table.weight < v → v ≤ self.new.table.weight → count_through self.new.table v ≤ entries }
+        ensures limit { (w c : ℕ) → IsErrOf result (RaiseFault.Limit w c) → PassesAfter self.old.presentation self.old.table.weight d entries w c × (w ≡ self.new.table.weight + 1) }
+        ensures overflow { (w : ℕ) (op : Op) (a b : Num) → IsErrOf result (RaiseFault.Overflow w op a b) → (w ≡ self.new.table.weight + 1) × (w ≤ d) × (next_of self.new.table self.new.presentation ≡ Err (unfit_of op a b)) }
+        ensures fractions { (w : ℕ) (op : Op) (a b : Num) → IsErrOf result (RaiseFault.Overflow w op a b) → self.old.presentation.field ≡ Kind.Rational }
+        ensures steps { steps.old ≤ steps.new }
+    {
+        while self.weight() < d {
+            match self.next_weight(entries, steps) {
+                Ok(()) => {}
+                Err(fault) => return Err(fault),
+            }
+        }
+        Ok(())
+    }
+}

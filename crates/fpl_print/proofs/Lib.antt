@@ -1,0 +1,4 @@
+pub mod Trees
+pub mod Terms
+pub mod Entries
+pub mod OneText

@@ -1,0 +1,6 @@
+use Rattle.std.proofs.Common.{◌≡◌, ◌++◌}
+use Rattle.fpl_print.specs.TableText.{names_of, text_of, image_line}
+use Rattle.fpl_print.proofs.table.push_images.Given as goal
+
+abbrev pub invariant-loop-g : goal.invariant-loop-g
+invariant-loop-g g l = l.out.items ≡ l.initial.out.items ++ text_of l.g (image_line (names_of l.p) l.table)

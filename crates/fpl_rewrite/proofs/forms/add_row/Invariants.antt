@@ -1,0 +1,12 @@
+use Rattle.std.proofs.Common.{◌≡◌, ◌++◌, length, drop, take}
+use Rattle.fpl_numbers.specs.Results.{map_ok}
+use Rattle.fpl_scalar.specs.Vectors.{AreElements}
+use Rattle.fpl_table.specs.Value.{add_row}
+use Rattle.fpl_rewrite.proofs.forms.add_row.Given as goal
+
+abbrev pub invariant-loop-s : goal.invariant-loop-s
+invariant-loop-s g l = record {
+  elements : AreElements l.table.kind l.sum;
+  whole : length l.sum ≡ length l.initial.sum;
+  left : add_row l.table.kind l.initial.sum l.x ≡ map_ok (λ rest. take l.s l.sum ++ rest) (add_row l.table.kind (drop l.s l.sum) (drop l.s l.x));
+}

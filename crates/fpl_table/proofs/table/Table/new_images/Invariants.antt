@@ -1,0 +1,14 @@
+use Rattle.std.proofs.Common.{◌≡◌, All, ◌+◌, ◌≤◌, ◌++◌, length, drop}
+use Rattle.fpl_algebra.specs.Symbols.{joined}
+use Rattle.fpl_table.specs.Cells.{generator_cell}
+use Rattle.fpl_table.specs.Shape.{IsRowUpTo}
+use Rattle.fpl_table.specs.Push.{new_images}
+use Rattle.fpl_table.proofs.table.Table.new_images.Given as goal
+
+abbrev pub invariant-loop-g : goal.invariant-loop-g
+invariant-loop-g g l = record {
+  few : l.place ≤ l.g;
+  place : l.place ≡ length (joined l.g (generator_cell l.self (l.self.weight + 1)));
+  left : l.images.items ++ new_images l.self l.rows l.g (drop l.g l.self.generators) ≡ new_images l.self l.rows 0 l.self.generators;
+  whole : All (IsRowUpTo l.self.kind (length l.self.basis + length l.free)) l.images.items;
+}

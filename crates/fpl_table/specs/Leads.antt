@@ -1,0 +1,66 @@
+-- The leads of closed rows, by place.
+--
+--   row_by rows k              row k, counted from 1; none for 0
+--   AreLeads rows n leads      for each place below n the number of the first row that it leads, or 0
+--   number_solved kind s row t the number at place t of the symbol at place s: itself, where it leads no row, else minus its row's
+--   IsSolved T rows leads free the rows, their leads by place, and the places that lead none
+--   numbers_solved T rows s free  the numbers of the symbol at place s at some places
+--   basis_of T x               the basis element of the next weight that stands for a symbol
+--   IsNext T rows free ..      what the next weight adds
+--   trees_of T free            the bracket trees of the symbols at some places
+use Rattle.std.specs.Prelude.{ℕ, zero, suc, ◌≡◌, ◌<◌, ◌≤◌, List, [], length, map, get_or, All, ◌+◌, cond, nat_eq, Option, Some, None}
+use Rattle.fpl_numbers.specs.declared.number.Num.{Num}
+use Rattle.fpl_numbers.specs.declared.number.Kind.{Kind}
+use Rattle.fpl_numbers.specs.Numbers.{residue, negative_of}
+use Rattle.fpl_algebra.specs.Tree.{Tree}
+use Rattle.fpl_algebra.specs.Symbols.{no_symbol, symbol_parity}
+use Rattle.fpl_algebra.specs.Table.{Symbol, Basis}
+use Rattle.fpl_rows.specs.Meaning.{AreRows}
+use Rattle.fpl_table.specs.Plain.{PlainTable, symbols_in, table_in, shell_in}
+use Rattle.fpl_table.specs.Shape.{IsRowUpTo, IsNumbered, basis_trees, symbol_tree_in}
+use Rattle.fpl_table.specs.Push.{row_with_lead, free_of, new_basis, new_images, new_entries}
+use Rattle.fpl_table.specs.declared.symbol.Symbol as code
+
+abbrev pub row_by : List (List Num) → ℕ → Option (List Num)
+row_by rows zero = None
+row_by rows (suc k) = Some (get_or rows k [])
+
+pub record AreLeads (rows : List (List Num)) (n : ℕ) (leads : List ℕ) : Type 0 where
+  pub count : length leads ≡ n
+  pub within : (s : ℕ) → s < n → get_or leads s 0 ≤ length rows
+  pub rows_are : (s : ℕ) → s < n → row_by rows (get_or leads s 0) ≡ row_with_lead rows s
+
+abbrev pub number_solved : Kind → ℕ → Option (List Num) → ℕ → Num
+number_solved kind s None t = cond (nat_eq t s) (residue 1) (residue 0)
+number_solved kind s (Some row) t = negative_of kind (get_or row t (residue 0))
+
+-- the basis element that stands for a symbol of the next weight
+abbrev pub basis_of : PlainTable → Symbol → Basis
+basis_of T x = record { weight = suc T.weight; parity = symbol_parity (shell_in T.kind T) (table_in T.kind T) x; symbol = x }
+
+abbrev pub trees_of : PlainTable → List ℕ → List (Tree Num)
+trees_of T free = map (λ s. symbol_tree_in (basis_trees T) (get_or (symbols_in T) s no_symbol)) free
+
+-- the closed rows over the symbols of the next weight, with their leads by place and the places that lead none
+pub record IsSolved (T : PlainTable) (rows : List (List Num)) (leads free : List ℕ) : Type 0 where
+  pub below : T.weight < 1000
+  pub few : length (symbols_in T) ≤ 2000000
+  pub are_rows : AreRows T.kind (length (symbols_in T)) rows
+  pub are_leads : AreLeads rows (length (symbols_in T)) leads
+  pub free_is : free ≡ free_of T rows
+
+-- the numbers of a symbol over the new basis elements
+abbrev pub numbers_solved : PlainTable → List (List Num) → ℕ → List ℕ → List Num
+numbers_solved T rows s free = map (number_solved T.kind s (row_with_lead rows s)) free
+
+-- what the next weight adds: its basis elements with their bracket trees and symbols, how many basis elements there are then, images and entries
+pub record IsNext (T : PlainTable) (rows : List (List Num)) (free : List ℕ) (basis : List Basis) (trees : List (Tree Num)) (codes : List code.Symbol)
+    (count : ℕ) (images : List (List Num)) (entries : List (List (List Num))) : Type 0 where
+  pub basis_is : basis ≡ map (new_basis T) free
+  pub trees_are : trees ≡ trees_of T free
+  pub numbered : All IsNumbered codes
+  pub count_is : count ≡ length T.basis + length free
+  pub images_are : images ≡ new_images T rows 0 T.generators
+  pub images_whole : All (IsRowUpTo T.kind (length T.basis + length free)) images
+  pub entries_are : entries ≡ new_entries T rows 0 T.basis
+  pub entries_whole : All (λ partners. All (IsRowUpTo T.kind (length T.basis + length free)) partners) entries
