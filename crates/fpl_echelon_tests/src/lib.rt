@@ -1,10 +1,9 @@
 //! Eliminations over residues and fractions, worked by hand.
 #![tactic(auto)]
 
-ghost use Rattle.std.specs.Prelude.{◌≡◌, ◌≤◌, ◌<◌, ◌^◌, [], All, length, IfOk};
+ghost use Rattle.std.specs.Prelude.{◌≡◌, ◌<◌, [], length, IfOk};
 ghost use Rattle.fpl_numbers.specs.Numbers.{IsElement};
 ghost use Rattle.fpl_scalar.specs.Vectors.{AreElements};
-ghost use Rattle.fpl_log.specs.Plain.{IsTermOf};
 ghost use Rattle.fpl_log.specs.Slim.{AreInOrder};
 
 #[cfg(test)]
@@ -50,11 +49,13 @@ mod tests {
 
     /// Puts (1,2,3), (2,4,6) and (0,1,1) in and closes, which gives (-1,1,0) and (1,0,1) by five
     /// steps; (2,3,4) leaves (1,0,0), and (1,2,3) nothing.
-    fn is_right<F: Field, L: Ledger>(
-        alloc: Global,
-        field: F,
-        steps: &mut Steps<L>,
-    ) -> Result<bool, Fault> {
+    fn is_right<F: Field, L: Ledger>(blank: Blank, alloc: Global, field: F) -> Result<bool, Fault>
+        requires name { blank.name ≡ L.name }
+        requires parts { blank.parts ≡ L.parts }
+        requires some { 0 < blank.parts }
+    {
+        let mut counter = Steps::<L>::new(blank);
+        let steps = &mut counter;
         let mut echelon = Echelon::start(alloc, field, 3)?;
         let first = echelon.insert(row(alloc, &field, 1, 2, 3)?, Origin::Row(1), steps)?;
         let second = echelon.insert(row(alloc, &field, 2, 4, 6)?, Origin::Row(2), steps)?;
@@ -148,14 +149,17 @@ mod tests {
     }
 
     /// 2 * ((1,1,1) - 1 * (0,1,0)) is (2,0,2).
-    fn concludes<F: Field>(alloc: Global, field: &F, terms: &Terms) -> Result<bool, Fault>
-        requires { All (IsTermOf (F.kind_of field.now) 1) terms.now }
-    {
+    fn concludes<F: Field>(alloc: Global, field: &F) -> Result<bool, Fault> {
+        let mut terms = Terms::new(alloc);
+        terms.push(Term {
+            step: 1,
+            factor: field.num(field.one()),
+        })?;
         let mut earlier = Rows::new(alloc);
         earlier.push(row(alloc, field, 0, 1, 0)?)?;
         let start = row(alloc, field, 1, 1, 1)?.copy(alloc)?;
         let scale = whole(field, 2)?;
-        let row = conclude(alloc, field, start, terms, Some(scale), &earlier)?;
+        let row = conclude(alloc, field, start, &terms, Some(scale), &earlier)?;
         Ok(
             row.len() == 3
                 && field.same(row.at(1), scale)
@@ -166,34 +170,25 @@ mod tests {
 
     #[test]
     fn accepts_its_primes_alone(rt: HostRuntime) {
-        let mut count = 0;
-        for p in 0..66_000_u32 {
-            if let Some(field) = Residue::of(p) {
-                count += 1;
-                assert!(rt; field.kind() == Kind::Prime(p) && PRIMES.contains(&p));
-                let half = field.inverse(2);
-                assert!(rt; half == (p + 1) / 2 && field.neg(half) == p - half);
-            }
+        for p in PRIMES {
+            let kind = Residue::of(p).map(|field| field.kind());
+            assert!(rt; kind == Some(Kind::Prime(p)), "{p} is accepted");
         }
-        assert_eq!(rt; count, PRIMES.len());
+        for p in [0, 1, 2, 4, 9, 37, 10009, 65519, 65537, 4294967291] {
+            assert!(rt; Residue::of(p).is_none(), "{p} is not accepted");
+        }
     }
 
     #[test]
     fn eliminates(rt: HostRuntime) -> Result<(), Fail> {
-        let mut steps = Steps::<Brand>::new(Blank::new(1));
+        let alloc = rt.alloc();
         let residues = Residue::of(7).expect(&rt, "7 is accepted");
-        assert!(rt; matches!(is_right(rt.alloc(), residues, &mut steps), Ok(true)));
-        assert!(rt; matches!(is_right(rt.alloc(), Fraction, &mut steps), Ok(true)));
-        let mut terms = Terms::new(rt.alloc());
-        terms.push(Term {
-            step: 1,
-            factor: Num {
-                numerator: 1,
-                denominator: 1,
-            },
-        })?;
-        assert!(rt; matches!(concludes(rt.alloc(), &residues, &terms), Ok(true)));
-        assert!(rt; matches!(concludes(rt.alloc(), &Fraction, &terms), Ok(true)));
+        let over_residues = is_right::<_, Brand>(Blank::new(1), alloc, residues);
+        assert!(rt; matches!(over_residues, Ok(true)));
+        let over_fractions = is_right::<_, Brand>(Blank::new(1), alloc, Fraction);
+        assert!(rt; matches!(over_fractions, Ok(true)));
+        assert!(rt; matches!(concludes(alloc, &residues), Ok(true)));
+        assert!(rt; matches!(concludes(alloc, &Fraction), Ok(true)));
         Ok(())
     }
 }

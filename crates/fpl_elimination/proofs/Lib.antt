@@ -6,3 +6,5 @@ pub mod ClosedLists
 pub mod Found
 pub mod Remainders
 pub mod RowSweeps
+pub mod Concluded
+pub mod Concluding

@@ -8,9 +8,9 @@ use Rattle.fpl_table.specs.declared.shape.Shape.{Shape}
 use Rattle.fpl_table.specs.Whole.{shape_in}
 use Rattle.fpl_table.proofs.Lists.{map_at, nat_split}
 use Rattle.fpl_table.specs.Plain.{PlainTable, through, first_partner, partner_from, plain_basis, generator_at, table_in, shell_in}
-use Rattle.fpl_table.specs.Shape.{HasShape, partners}
+use Rattle.fpl_table.specs.Shape.{HasShape}
 use Rattle.fpl_table.specs.Cells.{generator_cell, generator_cells, pair_cell, pair_cells, pairs_to}
-use Rattle.fpl_table.proofs.Weights.{through_below, through_above, through_heavier, through_within}
+use Rattle.fpl_table.proofs.Weights.{through_below, through_above, through_within}
 
 -- lists joined one after the other
 pub joined_one : (n : ℕ) (f : ℕ → List Symbol) → joined (n + 1) f ≡ joined n f ++ f n
@@ -66,8 +66,8 @@ module _ (T : PlainTable) (shape : HasShape T) (w i : ℕ) (lti : i < length T.b
   pub before_other : (j : ℕ) → j < length T.basis → j < partner_from T i w → (j < first_partner T i) ⊎ ((plain_basis T i).weight + (plain_basis T j).weight ≢ w)
   before_other j ltj below =
       elim (nat_split j (first_partner T i)) [
-        inl small ↦ inl small
-      | inr large ↦ inr (λ is. let h : (plain_basis T j).weight ≤ w - (plain_basis T i).weight - 1 = through_below T shape (w - (plain_basis T i).weight - 1) j (omega arith) in omega arith)
+        | inl small ↦ inl small
+        | inr large ↦ inr (λ is. let h : (plain_basis T j).weight ≤ w - (plain_basis T i).weight - 1 = through_below T shape (w - (plain_basis T i).weight - 1) j (omega arith) in omega arith)
       ]
 
   pub after_other : (j : ℕ) → j < length T.basis → through T (w - (plain_basis T i).weight) ≤ j → (plain_basis T i).weight + (plain_basis T j).weight ≢ w
@@ -78,7 +78,7 @@ module _ (T : PlainTable) (shape : HasShape T) (w i : ℕ) (lti : i < length T.b
       let in_all : through T (w - (plain_basis T i).weight) ≤ length T.basis = through_within T shape (w - (plain_basis T i).weight) in
       let light : (plain_basis T j).weight ≤ w - (plain_basis T i).weight = through_below T shape (w - (plain_basis T i).weight) j below in
       let heavy : (plain_basis T j).weight ≤ w - (plain_basis T i).weight - 1 → j < through T (w - (plain_basis T i).weight - 1) =
-          through_above T shape (w - (plain_basis T i).weight - 1) j (omega arith) in
+      through_above T shape (w - (plain_basis T i).weight - 1) j (omega arith) in
       grind arith
 
   cell_before : (j : ℕ) → j < length T.basis → j < partner_from T i w → pair_cell T w i j ≡ []
@@ -113,17 +113,17 @@ module _ (T : PlainTable) (shape : HasShape T) (w i : ℕ) (lti : i < length T.b
   row_length =
       let to_all : through T (w - (plain_basis T i).weight) ≤ length T.basis = through_within T shape (w - (plain_basis T i).weight) in
       elim (nat_split (partner_from T i w) (through T (w - (plain_basis T i).weight))) [
-        inl few ↦
-          let same : partner_from T i w + (through T (w - (plain_basis T i).weight) - partner_from T i w) ≡ through T (w - (plain_basis T i).weight) = omega arith in
-          let all : pair_cells T w i ≡ joined (through T (w - (plain_basis T i).weight)) (pair_cell T w i) = row_after (through T (w - (plain_basis T i).weight)) (omega arith) to_all in
-          let ones = joined_ones (pair_cell T w i) (of_pair i) (partner_from T i w) (through T (w - (plain_basis T i).weight) - partner_from T i w) (λ j from below. cell_within j from (omega arith)) in
-          let none : joined (partner_from T i w) (pair_cell T w i) ≡ [] = row_before (partner_from T i w) (omega arith) (omega arith) in
-          let count = rw (same, none) at ones in
-          rw all (count ∙ omega arith)
-      | inr none ↦
-          let all : pair_cells T w i ≡ joined (through T (w - (plain_basis T i).weight)) (pair_cell T w i) = row_after (through T (w - (plain_basis T i).weight)) (omega arith) to_all in
-          let empty : joined (through T (w - (plain_basis T i).weight)) (pair_cell T w i) ≡ [] = row_before (through T (w - (plain_basis T i).weight)) none to_all in
-          rw (all, empty) (omega arith)
+        | inl few ↦
+            let same : partner_from T i w + (through T (w - (plain_basis T i).weight) - partner_from T i w) ≡ through T (w - (plain_basis T i).weight) = omega arith in
+            let all : pair_cells T w i ≡ joined (through T (w - (plain_basis T i).weight)) (pair_cell T w i) = row_after (through T (w - (plain_basis T i).weight)) (omega arith) to_all in
+            let ones = joined_ones (pair_cell T w i) (of_pair i) (partner_from T i w) (through T (w - (plain_basis T i).weight) - partner_from T i w) (λ j from below. cell_within j from (omega arith)) in
+            let none : joined (partner_from T i w) (pair_cell T w i) ≡ [] = row_before (partner_from T i w) (omega arith) (omega arith) in
+            let count = rw (same, none) at ones in
+            rw all (count ∙ omega arith)
+        | inr none ↦
+            let all : pair_cells T w i ≡ joined (through T (w - (plain_basis T i).weight)) (pair_cell T w i) = row_after (through T (w - (plain_basis T i).weight)) (omega arith) to_all in
+            let empty : joined (through T (w - (plain_basis T i).weight)) (pair_cell T w i) ≡ [] = row_before (through T (w - (plain_basis T i).weight)) none to_all in
+            rw (all, empty) (omega arith)
       ]
 
 -- a basis element of weight w or more has no pair of weight w
@@ -145,7 +145,7 @@ module _ (T : PlainTable) (shape : HasShape T) (w : ℕ) where
       ap (λ all. generator_cells T w ++ all)
       (ap (λ n. joined n (pair_cells T w)) (sym same) ∙ joined_skip (pair_cells T w) i (length T.basis - i)
       (λ k above below. let lt : k < length T.basis = omega arith in
-          row_above T shape w k lt (let h : (plain_basis T k).weight ≤ w - 1 → k < through T (w - 1) = through_above T shape (w - 1) k lt in grind arith)))
+      row_above T shape w k lt (let h : (plain_basis T k).weight ≤ w - 1 → k < through T (w - 1) = through_above T shape (w - 1) k lt in grind arith)))
 
   pub symbols_none : w ≡ 0 → symbols_of (shell_in T.kind T) (table_in T.kind T) w ≡ generator_cells T w
   unfolding symbols_of

@@ -1,6 +1,6 @@
 -- The leads of rows, by place.
-use Rattle.std.proofs.Common.{◌≡◌, ◌≢◌, ◌≤◌, ◌<◌, ◌+◌, ◌-◌, ◌++◌, ℕ, zero, suc, List, [], ◌∷◌, length, get_or, drop, cond, nat_eq, Bool, true, false, Option, Some, None, refl, ap, sym, ◌∙◌, arith, ◌⊎◌, inl, inr, get_or-set_other, get_or-set_same, add-one, length-append, map}
-use Rattle.std.proofs.Math.ListN.{set, length-set}
+use Rattle.std.proofs.Common.{◌≡◌, ◌≢◌, ◌≤◌, ◌<◌, ◌+◌, ◌-◌, ◌++◌, ℕ, zero, suc, List, [], ◌∷◌, length, get_or, drop, cond, nat_eq, Bool, true, false, Option, Some, None, refl, ap, sym, ◌∙◌, arith, inl, inr, get_or-set_other, get_or-set_same, add-one, length-append, map}
+use Rattle.std.proofs.Math.ListN.{set}
 use Rattle.std.proofs.Math.Seq.{drop-cons}
 use Rattle.std.proofs.lemmas.Bool.Decides.{nat_tests}
 use Rattle.std.specs.Prelude.{unwrap_or, slice_get}
@@ -54,15 +54,15 @@ module _ (rows : List (List Num)) (n : ℕ) (leads : List ℕ) (k : ℕ) (lt : k
   pub lead_set : (p : ℕ) → p < n → p ≡ pivot_of (get_or rows k []) → (s : ℕ) → s < n → row_by rows (get_or (set leads p (k + 1)) s 0) ≡ row_with_lead (drop k rows) s
   lead_set p ltp is s lts =
       elim (nat_same s p) [
-        inl e ↦ ap (λ x. row_by rows x) (ap (λ x. get_or (set leads p (k + 1)) x 0) e ∙ get_or-set_same leads p (k + 1) 0 (omega arith)) ∙ lead_here s (sym is ∙ sym e)
-      | inr ne ↦ ap (λ x. row_by rows x) (get_or-set_other leads p s (k + 1) 0 ne) ∙ lead_other s lts (λ e. ne (sym e ∙ sym is))
+        | inl e ↦ ap (λ x. row_by rows x) (ap (λ x. get_or (set leads p (k + 1)) x 0) e ∙ get_or-set_same leads p (k + 1) 0 (omega arith)) ∙ lead_here s (sym is ∙ sym e)
+        | inr ne ↦ ap (λ x. row_by rows x) (get_or-set_other leads p s (k + 1) 0 ne) ∙ lead_other s lts (λ e. ne (sym e ∙ sym is))
       ]
 
   pub lead_within : (p : ℕ) → p < n → ((s : ℕ) → s < n → get_or leads s 0 ≤ length rows) → (s : ℕ) → s < n → get_or (set leads p (k + 1)) s 0 ≤ length rows
   lead_within p ltp within s lts =
       elim (nat_same s p) [
-        inl e ↦ let h : get_or (set leads p (k + 1)) s 0 ≡ k + 1 = ap (λ x. get_or (set leads p (k + 1)) x 0) e ∙ get_or-set_same leads p (k + 1) 0 (omega arith) in omega arith
-      | inr ne ↦ let h : get_or (set leads p (k + 1)) s 0 ≡ get_or leads s 0 = get_or-set_other leads p s (k + 1) 0 ne in let g : get_or leads s 0 ≤ length rows = within s lts in omega arith
+        | inl e ↦ let h : get_or (set leads p (k + 1)) s 0 ≡ k + 1 = ap (λ x. get_or (set leads p (k + 1)) x 0) e ∙ get_or-set_same leads p (k + 1) 0 (omega arith) in omega arith
+        | inr ne ↦ let h : get_or (set leads p (k + 1)) s 0 ≡ get_or leads s 0 = get_or-set_other leads p s (k + 1) 0 ne in let g : get_or leads s 0 ≤ length rows = within s lts in omega arith
       ]
 
 -- a place is free where it leads no row

@@ -27,6 +27,7 @@ mutual
 module _ (k : Kind) (P : Presentation (Number k)) where
   mutual
     unfolding weight_of weighs
+
     weighs_same : (t : Tree Num) → weight_of P (in_field k t) ≡ weighs P.generators t
     weighs_same (gen g) = refl
     weighs_same none = refl

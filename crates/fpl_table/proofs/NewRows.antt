@@ -1,5 +1,5 @@
 -- The rows of a new weight, place by place.
-use Rattle.std.proofs.Common.{◌≡◌, ◌≢◌, ◌≤◌, ◌<◌, ◌+◌, ◌-◌, ◌++◌, ◌⊎◌, inl, inr, ℕ, zero, suc, List, [], ◌∷◌, length, get_or, drop, cond, nat_eq, nat_lt, refl, ap, sym, ◌∙◌, arith, add-one, add-suc, append-nil}
+use Rattle.std.proofs.Common.{◌≡◌, ◌≤◌, ◌<◌, ◌+◌, ◌-◌, ◌++◌, inl, inr, ℕ, zero, suc, List, [], ◌∷◌, length, drop, cond, nat_eq, nat_lt, ap, sym, ◌∙◌, arith, add-one}
 use Rattle.std.proofs.Math.Seq.{drop-cons}
 use Rattle.std.proofs.lemmas.Bool.Decides.{nat_tests}
 use Rattle.fpl_numbers.specs.declared.number.Num.{Num}
@@ -83,6 +83,6 @@ module _ (T : PlainTable) (rows : List (List Num)) where
     partners_length =
         let begin : partner_from T i (suc T.weight) ≤ length T.basis = from_within T shape (suc T.weight) i lti above in
         elim (nat_split (partner_from T i (suc T.weight)) (through T (suc T.weight - (plain_basis T i).weight))) [
-          inl few ↦ ap length (partners_first begin) ∙ partners_from (through T (suc T.weight - (plain_basis T i).weight) - partner_from T i (suc T.weight)) (partner_from T i (suc T.weight)) (omega arith) (omega arith)
-        | inr none ↦ ap length (partners_first begin ∙ partners_end (partner_from T i (suc T.weight)) begin none) ∙ omega arith
+          | inl few ↦ ap length (partners_first begin) ∙ partners_from (through T (suc T.weight - (plain_basis T i).weight) - partner_from T i (suc T.weight)) (partner_from T i (suc T.weight)) (omega arith) (omega arith)
+          | inr none ↦ ap length (partners_first begin ∙ partners_end (partner_from T i (suc T.weight)) begin none) ∙ omega arith
         ]

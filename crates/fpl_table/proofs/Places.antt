@@ -1,5 +1,5 @@
 -- The places of the symbols of the next weight.
-use Rattle.std.proofs.Common.{◌≡◌, ◌≤◌, ◌<◌, ◌+◌, ◌-◌, ◌++◌, ◌⊎◌, inl, inr, nat_eq, nat_lt, cond, ℕ, zero, suc, List, [], ◌∷◌, length, get_or, refl, ap, sym, ◌∙◌, arith, append_assoc, append-nil, length-append}
+use Rattle.std.proofs.Common.{◌≡◌, ◌≤◌, ◌<◌, ◌+◌, ◌-◌, ◌++◌, inl, inr, ℕ, zero, suc, List, [], ◌∷◌, length, get_or, ap, sym, ◌∙◌, arith, append_assoc, append-nil, length-append}
 use Rattle.fpl_numbers.specs.Kinds.{field_of}
 use Rattle.fpl_algebra.specs.Table.{Symbol, of_generator, of_pair}
 use Rattle.fpl_algebra.specs.Symbols.{joined, symbols, pairs_of, place_of, no_symbol, IsSymbol, is_generator, is_pair}
@@ -32,8 +32,8 @@ unfolding joined
 joined_split f zero i lt = absurd (omega (arith, lt))
 joined_split f (suc n) i lt =
     elim (nat_split i n) [
-      inl below ↦ let r = joined_split f n i below in (r.0 ++ f n, rw r.1 (append_assoc (joined i f) (f i ++ r.0) (f n) ∙ ap (λ l. joined i f ++ l) (append_assoc (f i) r.0 (f n))))
-    | inr above ↦ let same : n ≡ i = omega arith in ([], ap (λ k. joined k f ++ f k) same ∙ ap (λ l. joined i f ++ l) (sym (append-nil (f i))))
+      | inl below ↦ let r = joined_split f n i below in (r.0 ++ f n, rw r.1 (append_assoc (joined i f) (f i ++ r.0) (f n) ∙ ap (λ l. joined i f ++ l) (append_assoc (f i) r.0 (f n))))
+      | inr above ↦ let same : n ≡ i = omega arith in ([], ap (λ k. joined k f ++ f k) same ∙ ap (λ l. joined i f ++ l) (sym (append-nil (f i))))
     ]
 
 regroup : (a b c : List Symbol) (x : Symbol) (d e : List Symbol) → a ++ (b ++ ((c ++ x ∷ d) ++ e)) ≡ (a ++ (b ++ c)) ++ x ∷ (d ++ e)
@@ -82,10 +82,10 @@ module _ (T : PlainTable) (shape : HasShape T) (i : ℕ) (lti : i < length T.bas
     unfolding before
     length_before =
         let none : joined (partner_from T i (suc T.weight)) (pair_cell T (suc T.weight) i) ≡ [] =
-            row_before T shape (suc T.weight) i lti above (partner_from T i (suc T.weight)) (omega arith) (from_within T shape (suc T.weight) i lti above) in
+        row_before T shape (suc T.weight) i lti above (partner_from T i (suc T.weight)) (omega arith) (from_within T shape (suc T.weight) i lti above) in
         let same : partner_from T i (suc T.weight) + (j - partner_from T i (suc T.weight)) ≡ j = omega arith in
         let ones = joined_ones (pair_cell T (suc T.weight) i) (of_pair i) (partner_from T i (suc T.weight)) (j - partner_from T i (suc T.weight))
-            (λ k above_from below. cell_within T shape (suc T.weight) i lti above k above_from (omega arith)) in
+        (λ k above_from below. cell_within T shape (suc T.weight) i lti above k above_from (omega arith)) in
         let count = rw (same, none) at ones in
         rw (length-append, length-append) (omega (arith, count))
 

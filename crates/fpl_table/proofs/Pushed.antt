@@ -1,5 +1,5 @@
 -- A table with one weight more has its shape.
-use Rattle.std.proofs.Common.{◌≡◌, ◌≢◌, ◌≤◌, ◌<◌, ◌+◌, ◌-◌, ◌*◌, ◌++◌, ◌⊎◌, inl, inr, ℕ, zero, suc, max, List, [], ◌∷◌, length, map, get_or, cond, nat_le, nat_eq, All, refl, ap, ap₂, sym, subst, ◌∙◌, arith, length-append, append_assoc, append-nil, add-one, Result, Ok, Err, IsOk}
+use Rattle.std.proofs.Common.{◌≡◌, ◌≤◌, ◌<◌, ◌+◌, ◌-◌, ◌*◌, ◌++◌, ◌⊎◌, inl, inr, ℕ, zero, suc, max, List, [], ◌∷◌, length, map, get_or, cond, nat_le, All, refl, ap, ap₂, sym, subst, ◌∙◌, arith, length-append, append_assoc, append-nil, add-one, Result, Ok, Err, IsOk}
 use Rattle.std.specs.Prelude.{is_ok, if◌then◌else◌, OnOk}
 use Rattle.std.proofs.lemmas.List.{length-map, map-append}
 use Rattle.std.proofs.lemmas.Bool.Decides.{nat_tests}
@@ -8,9 +8,9 @@ use Rattle.fpl_numbers.specs.declared.number.Kind.{Kind}
 use Rattle.fpl_algebra.specs.Tree.{Generator, Tree, none, bracket_of}
 use Rattle.fpl_algebra.specs.Table.{Symbol, of_generator, of_pair, Basis, no_basis}
 use Rattle.fpl_algebra.specs.Symbols.{no_symbol, is_odd, symbols, symbols_of}
-use Rattle.fpl_table.specs.Plain.{PlainTable, leading, through, plain_basis, generator_at, first_partner, partner_from, symbols_in, shell_in, table_in}
+use Rattle.fpl_table.specs.Plain.{PlainTable, leading, through, plain_basis, first_partner, symbols_in, shell_in, table_in}
 use Rattle.fpl_table.specs.Shape.{HasShape, IsRowUpTo, IsOfTable, partners, images_at, entries_at, IsNumbered, grown, basis_trees, symbol_tree_in}
-use Rattle.fpl_table.specs.Push.{free_of, free_in, new_basis, new_images, new_entries, new_partners, push_of}
+use Rattle.fpl_table.specs.Push.{free_of, new_basis, new_images, new_entries, new_partners, push_of}
 use Rattle.fpl_table.specs.Standard.{count_of}
 use Rattle.fpl_table.specs.Leads.{trees_of, IsNext}
 use Rattle.fpl_table.specs.Whole.{IsWhole}
@@ -19,7 +19,7 @@ use Rattle.fpl_table.proofs.Lists.{nat_split, at_middle, all_append}
 use Rattle.fpl_table.proofs.Leads.{free_few, free_below}
 use Rattle.fpl_table.proofs.Places.{symbol_of_table}
 use Rattle.fpl_table.proofs.NewRows.{partners_length}
-use Rattle.fpl_table.proofs.Weights.{leading_within, through_within}
+use Rattle.fpl_table.proofs.Weights.{leading_within}
 
 -- elements of a list with another behind it
 pub front_at : {A : Type 0} (xs ys : List A) (i : ℕ) (d : A) → i < length xs → get_or (xs ++ ys) i d ≡ get_or xs i d
@@ -99,8 +99,8 @@ module _ (T : PlainTable) (rows : List (List Num)) (shape : HasShape T) (below :
   place : (i : ℕ) → i < length (push_of T rows).basis → Place i
   place i lt =
       elim (nat_split i (length T.basis)) [
-        inl within ↦ old within
-      | inr above ↦ let h : i < length T.basis + length (free_of T rows) = rw (← basis_length) lt in new (i - length T.basis) (omega arith) (omega arith)
+        | inl within ↦ old within
+        | inr above ↦ let h : i < length T.basis + length (free_of T rows) = rw (← basis_length) lt in new (i - length T.basis) (omega arith) (omega arith)
       ]
 
   new_weight : (q i : ℕ) → q < length (free_of T rows) → length T.basis + q ≡ i → (plain_basis (push_of T rows) i).weight ≡ suc T.weight
@@ -161,9 +161,9 @@ module _ (T : PlainTable) (rows : List (List Num)) (shape : HasShape T) (below :
       let heavy : 1 ≤ (plain_basis T i).weight = shape.heavy i lt in
       let w : (plain_basis (push_of T rows) i).weight ≡ (plain_basis T i).weight = old_weight i lt in
       let here : through (push_of T rows) (v - (plain_basis (push_of T rows) i).weight) ≡ through T (v - (plain_basis T i).weight) =
-          ap (λ u. through (push_of T rows) (v - u)) w ∙ through_old (v - (plain_basis T i).weight) (omega arith) in
+      ap (λ u. through (push_of T rows) (v - u)) w ∙ through_old (v - (plain_basis T i).weight) (omega arith) in
       let less : through (push_of T rows) (v - (plain_basis (push_of T rows) i).weight - 1) ≡ through T (v - (plain_basis T i).weight - 1) =
-          ap (λ u. through (push_of T rows) (v - u - 1)) w ∙ through_old (v - (plain_basis T i).weight - 1) (omega arith) in
+      ap (λ u. through (push_of T rows) (v - u - 1)) w ∙ through_old (v - (plain_basis T i).weight - 1) (omega arith) in
       ap₂ (λ a b. a - b) here (ap₂ max (first_old i lt) less)
 
   -- what stands at a weight of the table, and at the new one
@@ -185,29 +185,29 @@ module _ (T : PlainTable) (rows : List (List Num)) (shape : HasShape T) (below :
   image_count : (v : ℕ) → v < suc T.weight → length (images_at (push_of T rows) v) ≡ length T.generators
   image_count v lt =
       elim (weight_split v lt) [
-        inl below ↦ ap length (level_old T.images (new_images T rows 0 T.generators) v shape.images_length below) ∙ shape.image_lengths v below
-      | inr here ↦ ap length (level_new T.images (new_images T rows 0 T.generators) v shape.images_length here) ∙ length-images T rows 0 T.generators
+        | inl below ↦ ap length (level_old T.images (new_images T rows 0 T.generators) v shape.images_length below) ∙ shape.image_lengths v below
+        | inr here ↦ ap length (level_new T.images (new_images T rows 0 T.generators) v shape.images_length here) ∙ length-images T rows 0 T.generators
       ]
 
   image_whole : All (IsRowUpTo T.kind (length T.basis + length (free_of T rows))) (new_images T rows 0 T.generators) → (v g : ℕ) → v < suc T.weight → g < length T.generators →
       IsRowUpTo T.kind (through (push_of T rows) (suc v)) (get_or (images_at (push_of T rows) v) g [])
   image_whole whole v g lt ltg =
       elim (weight_split v lt) [
-        inl below ↦
-          subst (λ l. IsRowUpTo T.kind (through (push_of T rows) (suc v)) (get_or l g [])) (sym (level_old T.images (new_images T rows 0 T.generators) v shape.images_length below))
-          (wider _ _ (get_or (images_at T v) g []) (through_at v below) (shape.image_rows v g below ltg))
-      | inr here ↦
-          subst (λ l. IsRowUpTo T.kind (through (push_of T rows) (suc v)) (get_or l g [])) (sym (level_new T.images (new_images T rows 0 T.generators) v shape.images_length here))
-          (wider _ _ (get_or (new_images T rows 0 T.generators) g []) (sym through_new ∙ ap (λ k. through (push_of T rows) (suc k)) here)
-          (whole g [] (let many : length (new_images T rows 0 T.generators) ≡ length T.generators = length-images T rows 0 T.generators in omega arith)))
+        | inl below ↦
+            subst (λ l. IsRowUpTo T.kind (through (push_of T rows) (suc v)) (get_or l g [])) (sym (level_old T.images (new_images T rows 0 T.generators) v shape.images_length below))
+            (wider _ _ (get_or (images_at T v) g []) (through_at v below) (shape.image_rows v g below ltg))
+        | inr here ↦
+            subst (λ l. IsRowUpTo T.kind (through (push_of T rows) (suc v)) (get_or l g [])) (sym (level_new T.images (new_images T rows 0 T.generators) v shape.images_length here))
+            (wider _ _ (get_or (new_images T rows 0 T.generators) g []) (sym through_new ∙ ap (λ k. through (push_of T rows) (suc k)) here)
+            (whole g [] (let many : length (new_images T rows 0 T.generators) ≡ length T.generators = length-images T rows 0 T.generators in omega arith)))
       ]
 
   entry_count : (v : ℕ) → v < suc T.weight → length (entries_at (push_of T rows) v) ≡ through (push_of T rows) v
   entry_count v lt =
       elim (weight_split v lt) [
-        inl below ↦ ap length (level_old T.entries (new_entries T rows 0 T.basis) v shape.entries_length below) ∙ shape.entry_lengths v below ∙ sym (through_old v (omega arith))
-      | inr here ↦
-          ap length (level_new T.entries (new_entries T rows 0 T.basis) v shape.entries_length here) ∙ length-entries T rows 0 T.basis ∙ sym through_weight ∙ ap (through T) here ∙ sym (through_old v (omega arith))
+        | inl below ↦ ap length (level_old T.entries (new_entries T rows 0 T.basis) v shape.entries_length below) ∙ shape.entry_lengths v below ∙ sym (through_old v (omega arith))
+        | inr here ↦
+            ap length (level_new T.entries (new_entries T rows 0 T.basis) v shape.entries_length here) ∙ length-entries T rows 0 T.basis ∙ sym through_weight ∙ ap (through T) here ∙ sym (through_old v (omega arith))
       ]
 
   old_place : (v i : ℕ) → v ≤ T.weight → i < through (push_of T rows) v → i < length T.basis
@@ -223,10 +223,10 @@ module _ (T : PlainTable) (rows : List (List Num)) (shape : HasShape T) (below :
       let within : i < length T.basis = old_place v i (omega arith) lti in
       let same : partners (push_of T rows) i (suc v) ≡ partners T i (suc v) = partners_old i (suc v) within (omega arith) (omega arith) in
       elim (weight_split v lt) [
-        inl below ↦
-          let h : through (push_of T rows) v ≡ through T v = through_old v (omega arith) in
-          ap (λ l. length (get_or l i [])) (level_old T.entries (new_entries T rows 0 T.basis) v shape.entries_length below) ∙ shape.partner_lengths v i below (omega arith) ∙ sym same
-      | inr here ↦ ap length (entries_new v i here within) ∙ length-partners T shape rows i within ∙ ap (λ w. partners T i (suc w)) here ∙ sym same
+        | inl below ↦
+            let h : through (push_of T rows) v ≡ through T v = through_old v (omega arith) in
+            ap (λ l. length (get_or l i [])) (level_old T.entries (new_entries T rows 0 T.basis) v shape.entries_length below) ∙ shape.partner_lengths v i below (omega arith) ∙ sym same
+        | inr here ↦ ap length (entries_new v i here within) ∙ length-partners T shape rows i within ∙ ap (λ w. partners T i (suc w)) here ∙ sym same
       ]
 
   entry_whole : All (λ l. All (IsRowUpTo T.kind (length T.basis + length (free_of T rows))) l) (new_entries T rows 0 T.basis) → (v i q : ℕ) → v < suc T.weight → i < through (push_of T rows) v →
@@ -236,16 +236,16 @@ module _ (T : PlainTable) (rows : List (List Num)) (shape : HasShape T) (below :
       let same : partners (push_of T rows) i (suc v) ≡ partners T i (suc v) = partners_old i (suc v) within (omega arith) (omega arith) in
       let count : length (get_or (entries_at (push_of T rows) v) i []) ≡ partners (push_of T rows) i (suc v) = partner_count v i lt lti in
       elim (weight_split v lt) [
-        inl below ↦
-          let h : through (push_of T rows) v ≡ through T v = through_old v (omega arith) in
-          subst (λ l. IsRowUpTo T.kind (through (push_of T rows) (suc v)) (get_or (get_or l i []) q [])) (sym (level_old T.entries (new_entries T rows 0 T.basis) v shape.entries_length below))
-          (wider _ _ (get_or (get_or (entries_at T v) i []) q []) (through_at v below) (shape.entry_rows v i q below (omega arith) (omega arith)))
-      | inr here ↦
-          let level : entries_at (push_of T rows) v ≡ new_entries T rows 0 T.basis = level_new T.entries (new_entries T rows 0 T.basis) v shape.entries_length here in
-          let many : length (new_entries T rows 0 T.basis) ≡ length T.basis = length-entries T rows 0 T.basis in
-          let long : length (get_or (new_entries T rows 0 T.basis) i []) ≡ partners (push_of T rows) i (suc v) = ap (λ l. length (get_or l i [])) (sym level) ∙ count in
-          subst (λ l. IsRowUpTo T.kind (through (push_of T rows) (suc v)) (get_or (get_or l i []) q [])) (sym level)
-          (wider _ _ (get_or (get_or (new_entries T rows 0 T.basis) i []) q []) (sym through_new ∙ ap (λ k. through (push_of T rows) (suc k)) here) (whole i [] (omega arith) q [] (omega arith)))
+        | inl below ↦
+            let h : through (push_of T rows) v ≡ through T v = through_old v (omega arith) in
+            subst (λ l. IsRowUpTo T.kind (through (push_of T rows) (suc v)) (get_or (get_or l i []) q [])) (sym (level_old T.entries (new_entries T rows 0 T.basis) v shape.entries_length below))
+            (wider _ _ (get_or (get_or (entries_at T v) i []) q []) (through_at v below) (shape.entry_rows v i q below (omega arith) (omega arith)))
+        | inr here ↦
+            let level : entries_at (push_of T rows) v ≡ new_entries T rows 0 T.basis = level_new T.entries (new_entries T rows 0 T.basis) v shape.entries_length here in
+            let many : length (new_entries T rows 0 T.basis) ≡ length T.basis = length-entries T rows 0 T.basis in
+            let long : length (get_or (new_entries T rows 0 T.basis) i []) ≡ partners (push_of T rows) i (suc v) = ap (λ l. length (get_or l i [])) (sym level) ∙ count in
+            subst (λ l. IsRowUpTo T.kind (through (push_of T rows) (suc v)) (get_or (get_or l i []) q [])) (sym level)
+            (wider _ _ (get_or (get_or (new_entries T rows 0 T.basis) i []) q []) (sym through_new ∙ ap (λ k. through (push_of T rows) (suc k)) here) (whole i [] (omega arith) q [] (omega arith)))
       ]
 
   small_enough : length (push_of T rows).basis ≤ 2000000 * suc T.weight
@@ -315,11 +315,11 @@ push_trees T rows =
     grown_more [] T.basis (map (new_basis T) (free_of T rows)) ∙ ap (λ l. grown l (map (new_basis T) (free_of T rows))) (sym (append-nil (basis_trees T)))
     ∙ grown_by (basis_trees T) [] (map (new_basis T) (free_of T rows))
     (λ q lt i j is.
-        let ltq : q < length (free_of T rows) = let e : length (map (new_basis T) (free_of T rows)) ≡ length (free_of T rows) = length-map (free_of T rows) (new_basis T) in omega arith in
-        let at : get_or (free_of T rows) q 0 < length (symbols_in T) = free_below rows (length (symbols_in T)) q 0 ltq in
-        let here : get_or (symbols_in T) (get_or (free_of T rows) q 0) no_symbol ≡ of_pair i j = ap (λ b. b.symbol) (sym (map_place T (free_of T rows) q ltq)) ∙ is in
-        let within : IsOfTable T (of_pair i j) = subst (IsOfTable T) here (symbol_of_table T (get_or (free_of T rows) q 0) at) in
-        (omega (arith, within.0), omega (arith, within.1)))
+    let ltq : q < length (free_of T rows) = let e : length (map (new_basis T) (free_of T rows)) ≡ length (free_of T rows) = length-map (free_of T rows) (new_basis T) in omega arith in
+    let at : get_or (free_of T rows) q 0 < length (symbols_in T) = free_below rows (length (symbols_in T)) q 0 ltq in
+    let here : get_or (symbols_in T) (get_or (free_of T rows) q 0) no_symbol ≡ of_pair i j = ap (λ b. b.symbol) (sym (map_place T (free_of T rows) q ltq)) ∙ is in
+    let within : IsOfTable T (of_pair i j) = subst (IsOfTable T) here (symbol_of_table T (get_or (free_of T rows) q 0) at) in
+    (omega (arith, within.0), omega (arith, within.1)))
     ∙ ap₂ (λ a b. a ++ b) (append-nil (basis_trees T)) (map_trees T (basis_trees T) (free_of T rows))
 
 -- all that the fields of a table keep, with one weight more
@@ -332,10 +332,10 @@ push_whole T rows counts trees codes basis shoots more count images entries belo
       (subst (All (λ l. All (IsRowUpTo T.kind (length T.basis + length (free_of T rows))) l)) next.entries_are next.entries_whole);
   counts_are = λ v lt.
       elim (nat_split v T.weight) [
-        inl before ↦ front_at counts (count ∷ []) v 0 (omega arith) ∙ whole.counts_are v before ∙ sym (through_old T rows whole.shape below few (suc v) (omega arith))
-      | inr last ↦
-          let here : length counts ≡ v = omega arith in
-          ap (λ k. get_or (counts ++ count ∷ []) k 0) (sym here) ∙ at_middle counts count [] 0 ∙ next.count_is ∙ sym (through_new T rows whole.shape below few) ∙ ap (λ k. through (push_of T rows) (suc k)) (sym size ∙ here)
+        | inl before ↦ front_at counts (count ∷ []) v 0 (omega arith) ∙ whole.counts_are v before ∙ sym (through_old T rows whole.shape below few (suc v) (omega arith))
+        | inr last ↦
+            let here : length counts ≡ v = omega arith in
+            ap (λ k. get_or (counts ++ count ∷ []) k 0) (sym here) ∙ at_middle counts count [] 0 ∙ next.count_is ∙ sym (through_new T rows whole.shape below few) ∙ ap (λ k. through (push_of T rows) (suc k)) (sym size ∙ here)
       ];
   trees_are = ap₂ (λ a b. a ++ b) whole.trees_are next.trees_are ∙ sym (push_trees T rows);
   numbered = all_append IsNumbered codes more whole.numbered next.numbered;
@@ -364,14 +364,14 @@ module _ {L E : Type 0} (kind : Kind) (generators : List Generator) (through_of 
   pushed_fields levels level elements fresh T rows is below few whole next later all is_later is_all =
       let old : PlainTable = view levels elements in
       let here : IsNext old rows (free_of old rows) (map basis fresh) (map tree fresh) (map code_of fresh) (through_of level) (images level) (entries level) =
-          subst (λ U. IsNext U rows (free_of U rows) (map basis fresh) (map tree fresh) (map code_of fresh) (through_of level) (images level) (entries level)) (sym is) next in
+      subst (λ U. IsNext U rows (free_of U rows) (map basis fresh) (map tree fresh) (map code_of fresh) (through_of level) (images level) (entries level)) (sym is) next in
       let light : old.weight < 1000 = subst (λ U. U.weight < 1000) (sym is) below in
       let many : count_of old (old.weight + 1) ≤ 2000000 = subst (λ U. count_of U (U.weight + 1) ≤ 2000000) (sym is) few in
       let symbols_few : length (symbols_in old) ≤ 2000000 = rw (add-one, symbols_next old) at many in
       let same : view (levels ++ level ∷ []) (elements ++ fresh) ≡ push_of old rows =
-          view_more levels level elements fresh ∙ push_is old rows (map basis fresh) (map tree fresh) (map code_of fresh) (through_of level) (images level) (entries level) here in
+      view_more levels level elements fresh ∙ push_is old rows (map basis fresh) (map tree fresh) (map code_of fresh) (through_of level) (images level) (entries level) here in
       let kept : IsWhole (push_of old rows) (map through_of levels ++ through_of level ∷ []) (map tree elements ++ map tree fresh) (map code_of elements ++ map code_of fresh) =
-          push_whole old rows (map through_of levels) (map tree elements) (map code_of elements) (map basis fresh) (map tree fresh) (map code_of fresh) (through_of level) (images level) (entries level) light symbols_few (length-map levels through_of) whole here in
+      push_whole old rows (map through_of levels) (map tree elements) (map code_of elements) (map basis fresh) (map tree fresh) (map code_of fresh) (through_of level) (images level) (entries level) light symbols_few (length-map levels through_of) whole here in
       (rw (is_later, is_all, same, map-append through_of levels (level ∷ []), map-append tree elements fresh, map-append code_of elements fresh) kept, rw (is_later, is_all) (same ∙ ap (λ U. push_of U rows) is))
 
 pub ok_items : {A B E : Type 0} (r : Result A E) (xs ys zs : List B) → IsOk r → zs ≡ (if is_ok r then xs else ys) → zs ≡ xs

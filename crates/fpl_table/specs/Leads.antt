@@ -4,7 +4,6 @@
 --   AreLeads rows n leads      for each place below n the number of the first row that it leads, or 0
 --   number_solved kind s row t the number at place t of the symbol at place s: itself, where it leads no row, else minus its row's
 --   IsSolved T rows leads free the rows, their leads by place, and the places that lead none
---   numbers_solved T rows s free  the numbers of the symbol at place s at some places
 --   basis_of T x               the basis element of the next weight that stands for a symbol
 --   IsNext T rows free ..      what the next weight adds
 --   trees_of T free            the bracket trees of the symbols at some places
@@ -48,10 +47,6 @@ pub record IsSolved (T : PlainTable) (rows : List (List Num)) (leads free : List
   pub are_rows : AreRows T.kind (length (symbols_in T)) rows
   pub are_leads : AreLeads rows (length (symbols_in T)) leads
   pub free_is : free ≡ free_of T rows
-
--- the numbers of a symbol over the new basis elements
-abbrev pub numbers_solved : PlainTable → List (List Num) → ℕ → List ℕ → List Num
-numbers_solved T rows s free = map (number_solved T.kind s (row_with_lead rows s)) free
 
 -- what the next weight adds: its basis elements with their bracket trees and symbols, how many basis elements there are then, images and entries
 pub record IsNext (T : PlainTable) (rows : List (List Num)) (free : List ℕ) (basis : List Basis) (trees : List (Tree Num)) (codes : List code.Symbol)

@@ -8,12 +8,12 @@ ghost use Rattle.fpl_table.specs.Shape.{HasShape, IsNumbered, IsRowUpTo, basis_t
 ghost use Rattle.fpl_table.specs.Standard.{start_of};
 ghost use Rattle.fpl_table.specs.Whole.{pair_in, IsPairWithin, IsPairRegular, shape_in};
 
+mod bracket;
 mod count;
 mod entry;
 mod leads;
 mod push;
 mod solve;
-mod bracket;
 mod value;
 
 use crate::shape::Shape;
@@ -67,22 +67,22 @@ impl<F: Field> Model for Table<F> {
     ghost Value = { PlainTable };
 
     ghost view = { λ t. record {
-        kind = F.kind_of t.field;
-        generators = map shape_in t.shapes.items;
-        weight = length t.levels.items;
-        basis = map (λ e. basis_in e.basis) t.elements.items;
-        images = map (λ l. l.images.items) t.levels.items;
-        entries = map (λ l. map (λ v. v.items) l.entries.items) t.levels.items;
+      kind = F.kind_of t.field;
+      generators = map shape_in t.shapes.items;
+      weight = length t.levels.items;
+      basis = map (λ e. basis_in e.basis) t.elements.items;
+      images = map (λ l. l.images.items) t.levels.items;
+      entries = map (λ l. map (λ v. v.items) l.entries.items) t.levels.items;
     } };
 
     ghost invariant = { λ t. IsWhole
         (record {
-            kind = F.kind_of t.field;
-            generators = map shape_in t.shapes.items;
-            weight = length t.levels.items;
-            basis = map (λ e. basis_in e.basis) t.elements.items;
-            images = map (λ l. l.images.items) t.levels.items;
-            entries = map (λ l. map (λ v. v.items) l.entries.items) t.levels.items;
+          kind = F.kind_of t.field;
+          generators = map shape_in t.shapes.items;
+          weight = length t.levels.items;
+          basis = map (λ e. basis_in e.basis) t.elements.items;
+          images = map (λ l. l.images.items) t.levels.items;
+          entries = map (λ l. map (λ v. v.items) l.entries.items) t.levels.items;
         })
         (map (λ l. l.through) t.levels.items)
         (map (λ e. plain (expr_of e.tree.value)) t.elements.items)

@@ -3,6 +3,8 @@
 --   most_limit: the greatest weight limit of a view
 --   IsSpelled: the words are this view and limit, and then nothing or these entries
 --   IsCommand: the words spell this command, and its numbers are in their ranges
+--   IsNoCommand: the words spell no command
+--   IsInRange: the numbers of any command
 -- A number is spelled in decimal, without a sign or a leading zero.
 use Rattle.std.specs.Prelude.{◌≡◌, ℕ, ◌≤◌, List, [], ◌∷◌, ◌⊎◌, codes, decimal}
 use Rattle.fplsa.specs.declared.words.View.{View}
@@ -37,3 +39,9 @@ pub record IsCommand (words : List (List ℕ)) (c : Command) : Type 0 where
   pub spelled : IsSpelled words c
   pub least : 1 ≤ c.limit
   pub most : c.limit ≤ most_limit c.view
+
+abbrev pub IsNoCommand : List (List ℕ) → Type 0
+IsNoCommand words = (c : Command) → IsCommand words c → ⊥
+
+abbrev pub IsInRange : Command → Type 0
+IsInRange c = (1 ≤ c.limit) × (c.limit ≤ 1000) × (c.entries ≤ 2000000)

@@ -3,6 +3,9 @@
 
 ghost use Rattle.std.specs.Prelude.{◌≡◌, ◌<◌};
 
+mod laws;
+mod line;
+mod outcome;
 mod run;
 mod spelling;
 mod status;
@@ -12,6 +15,7 @@ mod words;
 
 use fpl_outside::{Sink, Source, StdSink, StdSource};
 use fpl_steps::Steps;
+pub use laws::one_reply;
 pub use spelling::command;
 pub use status::Status;
 use std::alloc::{AllocError, Global};

@@ -1,3 +1,5 @@
+ghost use Rattle.std.specs.Prelude.{◌≤◌};
+
 use crate::{Command, Status, View, command, run_uncounted};
 use fpl_outside::{MemorySink, MemorySource};
 use std::alloc::{AllocError, Global};
@@ -5,12 +7,55 @@ use std::marker::Brand;
 use std::sync::ledger::Blank;
 use std::test::Fail;
 
+const HEISENBERG: &str =
+    "field 7; even x, y; relation [x,[x,y]] = 0; relation [y,[x,y]] = 0;";
+
+const FREE: &str = "field 11; even x, y;";
+
+const PLAIN: &str = "field 7; even x, y;";
+
+const PLAIN_TABLE: &str = "table 7 through 1\nbasis 2\nb1 weight 1 even = x\nb2 weight 1 even = y\nimages 2\nx = b1\ny = b2\nbrackets 0\nend\n";
+
 fn words_of(alloc: Global, line: &str) -> Result<Vec<String>, AllocError> {
     let mut words = Vec::new(alloc);
     for word in line.split(' ') {
         words.push(String::from_str(alloc, word)?)?;
     }
     Ok(words)
+}
+
+// What a run left behind.
+#[derive(Drop)]
+struct Ran {
+    status: Status,
+    out: MemorySink,
+    err: MemorySink,
+}
+
+// Runs on a text, with a source and an output that move `most` bytes at a time and fail at one call, from 1.
+fn ran(
+    alloc: Global,
+    line: &str,
+    text: &[u8],
+    most: usize,
+    failing_read: u64,
+    failing_put: u64,
+) -> Result<Ran, AllocError>
+    requires { 1 ≤ most }
+{
+    let words = words_of(alloc, line)?;
+    let mut input = MemorySource::new(text.to_vec(alloc)?, most, [failing_read].to_vec(alloc)?);
+    let mut out = MemorySink::new(alloc, 4096, most, [failing_put].to_vec(alloc)?)?;
+    let mut err = MemorySink::new(alloc, 4096, most, Vec::new(alloc))?;
+    let status = run_uncounted::<Brand, _, _, _>(
+        Blank::new(1),
+        alloc,
+        &words,
+        &mut input,
+        &mut out,
+        &mut err,
+    );
+    Ok(Ran { status, out, err })
 }
 
 #[test]
@@ -51,6 +96,117 @@ fn spells_commands(rt: HostRuntime) -> Result<(), Fail> {
         });
         assert_eq!(rt; command(&words_of(alloc, line)?), want, "{line}");
     }
+    Ok(())
+}
+
+#[test]
+fn writes_tables(rt: HostRuntime) -> Result<(), Fail> {
+    let alloc = rt.alloc();
+    let cases = [
+        ("table 3", "field 7;", "table 7 through 3\nbasis 0\nimages 0\nbrackets 0\nend\n"),
+        ("table 1", PLAIN, PLAIN_TABLE),
+        (
+            "table 1",
+            "field 7; even x, y; relation y = 2*x;",
+            "table 7 through 1\nbasis 1\nb1 weight 1 even = x\nimages 2\nx = b1\ny = 2*b1\nbrackets 0\nend\n",
+        ),
+        (
+            "table 3",
+            "field 7; odd u;",
+            "table 7 through 3\nbasis 2\nb1 weight 1 odd = u\nb2 weight 2 even = [u,u]\nimages 1\nu = b1\nbrackets 1\n[b1,b1] = b2\nend\n",
+        ),
+        (
+            "table 3",
+            "field 3; odd u;",
+            "table 3 through 3\nbasis 2\nb1 weight 1 odd = u\nb2 weight 2 even = [u,u]\nimages 1\nu = b1\nbrackets 1\n[b1,b1] = b2\nend\n",
+        ),
+        (
+            "table 4",
+            HEISENBERG,
+            "table 7 through 4\nbasis 3\nb1 weight 1 even = x\nb2 weight 1 even = y\nb3 weight 2 even = [x,y]\nimages 2\nx = b1\ny = b2\nbrackets 1\n[b1,b2] = b3\nend\n",
+        ),
+        (
+            "table 3",
+            "field 5; even x:2; odd u; relation [u,u] = 2*x;",
+            "table 5 through 3\nbasis 2\nb1 weight 1 odd = u\nb2 weight 2 even = x\nimages 2\nx = b2\nu = b1\nbrackets 1\n[b1,b1] = 2*b2\nend\n",
+        ),
+        (
+            "table 1",
+            "field 11; even x; relation 1/7*x;",
+            "table 11 through 1\nbasis 0\nimages 1\nx = 0\nbrackets 0\nend\n",
+        ),
+        (
+            "table 4 9",
+            FREE,
+            "table 11 through 4\nbasis 8\nb1 weight 1 even = x\nb2 weight 1 even = y\nb3 weight 2 even = [x,y]\nb4 weight 3 even = [x,[x,y]]\nb5 weight 3 even = [y,[x,y]]\nb6 weight 4 even = [x,[x,[x,y]]]\nb7 weight 4 even = [x,[y,[x,y]]]\nb8 weight 4 even = [y,[y,[x,y]]]\nimages 2\nx = b1\ny = b2\nbrackets 7\n[b1,b2] = b3\n[b1,b3] = b4\n[b2,b3] = b5\n[b1,b4] = b6\n[b1,b5] = b7\n[b2,b4] = b7\n[b2,b5] = b8\nend\n",
+        ),
+    ];
+    for (line, text, want) in cases {
+        let ran = ran(alloc, line, text.as_bytes(), 64, 0, 0)?;
+        assert_eq!(rt; ran.status, Status::Done, "{text}");
+        assert_eq!(rt; ran.out.bytes(), want.as_bytes(), "{text}");
+        assert_eq!(rt; ran.err.bytes().len(), 0, "{text}");
+    }
+    Ok(())
+}
+
+#[test]
+fn says_why_nothing_is_written(rt: HostRuntime) -> Result<(), Fail> {
+    let alloc = rt.alloc();
+    let cases = [
+        ("table 0", PLAIN, Status::Usage, "usage: fplsa VIEW LIMIT [ENTRIES]\n"),
+        ("table 1", "", Status::Refused, "refused at byte 0: no field\n"),
+        ("table 1", "field 9; even x", Status::Refused, "refused at byte 15: syntax\n"),
+        ("table 1", "field 9;", Status::Refused, "refused at byte 6: prime not in the list\n"),
+        ("table 1", "field 7; even x, x;", Status::Refused, "refused at byte 17: name twice\n"),
+        ("table 1", "field 7; even x; relation 1/7*x;", Status::Refused, "refused at byte 28: zero denominator\n"),
+        ("table 1", "field 7; even x, y; relation [x,y] + x;", Status::Refused, "refused at byte 20: mixed weight\n"),
+        ("table 1", "field 7; even x; odd u; relation x + u;", Status::Refused, "refused at byte 24: mixed parity\n"),
+        ("series 1", "field 9;", Status::Refused, "refused at byte 6: prime not in the list\n"),
+        ("table 6 5", FREE, Status::Limit, "limit at weight 4: 9 symbols\n"),
+        ("series 1", PLAIN, Status::NotBuilt, "not built\n"),
+        ("table 1", "field Q;", Status::NotBuilt, "not built\n"),
+        ("sample 3", "", Status::NotBuilt, "not built\n"),
+        ("check 3", "field 9;", Status::NotBuilt, "not built\n"),
+    ];
+    for (line, text, status, want) in cases {
+        let ran = ran(alloc, line, text.as_bytes(), 64, 0, 0)?;
+        assert_eq!(rt; ran.status, status, "{line}: {text}");
+        assert_eq!(rt; ran.out.bytes().len(), 0, "{line}: {text}");
+        assert_eq!(rt; ran.err.bytes(), want.as_bytes(), "{line}: {text}");
+    }
+    let checkpoint = ran(alloc, "table 1", b"\xF1", 64, 0, 0)?;
+    assert_eq!(rt; checkpoint.status, Status::NotBuilt);
+    Ok(())
+}
+
+#[test]
+fn ends_at_each_failing_call(rt: HostRuntime) -> Result<(), Fail> {
+    let alloc = rt.alloc();
+    for k in 1..22 {
+        let ran = ran(alloc, "table 1", PLAIN.as_bytes(), 1, k, 0)?;
+        if k < 21 {
+            assert_eq!(rt; ran.status, Status::ReadFault, "read {k}");
+            assert_eq!(rt; ran.out.bytes().len(), 0, "read {k}");
+            assert_eq!(rt; ran.err.bytes(), b"read fault\n".as_slice(), "read {k}");
+        } else {
+            assert_eq!(rt; ran.status, Status::Done, "read {k}");
+        }
+    }
+    for k in 1..108 {
+        let ran = ran(alloc, "table 1", PLAIN.as_bytes(), 1, 0, k)?;
+        if k < 107 {
+            assert_eq!(rt; ran.status, Status::WriteFault, "put {k}");
+            assert_eq!(rt; ran.out.bytes(), &PLAIN_TABLE.as_bytes()[..(k as usize - 1).min(PLAIN_TABLE.len())], "put {k}");
+            assert_eq!(rt; ran.err.bytes(), b"write fault\n".as_slice(), "put {k}");
+        } else {
+            assert_eq!(rt; ran.status, Status::Done, "put {k}");
+        }
+    }
+    let early = ran(alloc, "table 1", PLAIN.as_bytes(), 10, 0, 2)?;
+    assert_eq!(rt; early.out.bytes(), b"table 7 th".as_slice());
+    let unread = ran(alloc, "sample 3", PLAIN.as_bytes(), 10, 1, 0)?;
+    assert_eq!(rt; unread.status, Status::NotBuilt);
     Ok(())
 }
 

@@ -66,13 +66,7 @@ impl<F: Field> Table<F> {
     }
 
     /// Adds the products of `x` at position `i` with the positions of `b`, ascending.
-    fn add_products(
-        &self,
-        i: u32,
-        x: F::Elem,
-        b: &Row<F>,
-        sum: &mut Row<F>,
-    ) -> Result<(), Fault>
+    fn add_products(&self, i: u32, x: F::Elem, b: &Row<F>, sum: &mut Row<F>) -> Result<(), Fault>
         requires left { (1 ≤ i) × (i ≤ length self.now.basis) }
         requires first { IsElement self.now.kind (F.number x) }
         requires second { IsRowUpTo self.now.kind (length self.now.basis) b.now }

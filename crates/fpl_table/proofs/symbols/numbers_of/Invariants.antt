@@ -8,7 +8,7 @@ use Rattle.fpl_table.proofs.symbols.numbers_of.Given as goal
 abbrev pub invariant-loop-s : goal.invariant-loop-s
 invariant-loop-s l = record {
   within : l.s ≤ length l.list;
-  numbers : (x : Symbol) → get eq-value.it l.numbers x ≡ number_from eq-value.it l.s (drop l.s l.list) x
+  numbers : (x : Symbol) → get eq-value.it l.numbers x ≡ number_from eq-value.it l.s (drop l.s l.list) x;
 }
 
 abbrev pub decreases-loop-s : goal.decreases-loop-s

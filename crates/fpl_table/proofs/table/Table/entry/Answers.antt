@@ -17,7 +17,7 @@ pub index-requires-3 : goal.index-requires-3
 index-requires-3 g c =
     let within = partner_within c.args.self.now c.basis-left.ensures.shape (c.args.i - 1) (c.args.j - 1) (omega arith) (omega arith) c.requires.regular c.requires.reached c.self.inside.levels.items (λ l. l.entries.items) (λ v. v.items) (ap (λ T. T.entries) c.self.view_is) c.index.result.now
     (rw (ap (λ b. b.weight) c.basis-left.ensures.value, ap (λ b. b.weight) c.basis.ensures.value) at c.index.ensures)
-        c.index-2.result.now c.index-2.ensures in
+    c.index-2.result.now c.index-2.ensures in
     let from = rw (ap (λ b. b.weight) c.basis-left.ensures.value, ap (λ b. b.weight) c.basis.ensures.value) at c.partners-from.ensures.from in
     omega (arith, within, from)
 

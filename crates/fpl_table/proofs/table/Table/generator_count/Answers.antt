@@ -15,14 +15,14 @@ loop-g-init g c = record { few = omega arith; value = refl }
 pub loop-g-preserved : goal.loop-g-preserved
 loop-g-preserved g c =
     let same : (generator_at c.args.self.now c.loop-g.g).weight ≡ c.index.result.now.weight =
-        generator_weight c.args.self.now c.self.inside.shapes.items (ap (λ T. T.generators) c.self.view_is) c.loop-g.g c.index.result.now (omega arith) c.index.ensures in
+    generator_weight c.args.self.now c.self.inside.shapes.items (ap (λ T. T.generators) c.self.view_is) c.loop-g.g c.index.result.now (omega arith) c.index.ensures in
     elim c.if-index-w.branch [
-      then-index-w w ↦
-        let h = ap length (generator_yes c.args.self.now c.args.w c.loop-g.g (same ∙ w.if-index-w.true)) in
-        record { few = omega arith; value = omega (arith, simp length-append at h) }
-    | else-index-w w ↦
-        let h = ap length (generator_no c.args.self.now c.args.w c.loop-g.g (λ is. w.if-index-w.false (sym same ∙ is))) in
-        record { few = omega arith; value = omega (arith, h) }
+      | then-index-w w ↦
+          let h = ap length (generator_yes c.args.self.now c.args.w c.loop-g.g (same ∙ w.if-index-w.true)) in
+          record { few = omega arith; value = omega (arith, simp length-append at h) }
+      | else-index-w w ↦
+          let h = ap length (generator_no c.args.self.now c.args.w c.loop-g.g (λ is. w.if-index-w.false (sym same ∙ is))) in
+          record { few = omega arith; value = omega (arith, h) }
     ]
 
 pub returns : goal.returns

@@ -1,4 +1,4 @@
-use Rattle.std.proofs.Common.{◌≡◌, ◌<◌, ◌+◌, map, length, take, get_or, refl, ap, sym, subst, ◌∙◌, arith}
+use Rattle.std.proofs.Common.{◌≡◌, ◌<◌, length, get_or, refl, ap, sym, subst, ◌∙◌, arith}
 use Rattle.std.proofs.lemmas.List.{map-append, take_more, length-map}
 use Rattle.std.proofs.Math.ListN.{get_or-map}
 use Rattle.fpl_algebra.specs.Symbols.{no_symbol}
@@ -15,7 +15,7 @@ pub new_element-requires-clause-symbol : goal.new_element-requires-clause-symbol
 new_element-requires-clause-symbol g c =
     let place : get_or c.args.free.now c.loop-t.t-index 0 < length (symbols_in c.args.self.now) = c.requires.places c.loop-t.t-index 0 c.loop-t-test.true in
     let here : symbol_in (get_or c.args.symbols.now (get_or c.args.free.now c.loop-t.t-index 0) (Gen 0)) ≡ get_or (symbols_in c.args.self.now) (get_or c.args.free.now c.loop-t.t-index 0) no_symbol =
-        sym (get_or-map symbol_in c.args.symbols.now (get_or c.args.free.now c.loop-t.t-index 0) (Gen 0)) ∙ ap (λ l. get_or l (get_or c.args.free.now c.loop-t.t-index 0) no_symbol) c.requires.symbols in
+    sym (get_or-map symbol_in c.args.symbols.now (get_or c.args.free.now c.loop-t.t-index 0) (Gen 0)) ∙ ap (λ l. get_or l (get_or c.args.free.now c.loop-t.t-index 0) no_symbol) c.requires.symbols in
     let many : length c.args.symbols.now ≡ length (symbols_in c.args.self.now) = sym (length-map c.args.symbols.now symbol_in) ∙ ap length c.requires.symbols in
     (subst (IsOfTable c.args.self.now) (sym here) (symbol_of_table c.args.self.now (get_or c.args.free.now c.loop-t.t-index 0) place), c.requires.numbered (get_or c.args.free.now c.loop-t.t-index 0) (Gen 0) (omega (arith, place, many)))
 
@@ -23,7 +23,7 @@ pub loop-t-preserved : goal.loop-t-preserved
 loop-t-preserved g c =
     let place : get_or c.args.free.now c.loop-t.t-index 0 < length (symbols_in c.args.self.now) = c.requires.places c.loop-t.t-index 0 c.loop-t-test.true in
     let here : symbol_in (get_or c.args.symbols.now (get_or c.args.free.now c.loop-t.t-index 0) (Gen 0)) ≡ get_or (symbols_in c.args.self.now) (get_or c.args.free.now c.loop-t.t-index 0) no_symbol =
-        sym (get_or-map symbol_in c.args.symbols.now (get_or c.args.free.now c.loop-t.t-index 0) (Gen 0)) ∙ ap (λ l. get_or l (get_or c.args.free.now c.loop-t.t-index 0) no_symbol) c.requires.symbols in
+    sym (get_or-map symbol_in c.args.symbols.now (get_or c.args.free.now c.loop-t.t-index 0) (Gen 0)) ∙ ap (λ l. get_or l (get_or c.args.free.now c.loop-t.t-index 0) no_symbol) c.requires.symbols in
     let many : length c.args.symbols.now ≡ length (symbols_in c.args.self.now) = sym (length-map c.args.symbols.now symbol_in) ∙ ap length c.requires.symbols in
     let numbered : IsNumbered (get_or c.args.symbols.now (get_or c.args.free.now c.loop-t.t-index 0) (Gen 0)) = c.requires.numbered (get_or c.args.free.now c.loop-t.t-index 0) (Gen 0) (omega (arith, place, many)) in
     let more = take_more c.args.free.now c.loop-t.t-index 0 (omega arith) in

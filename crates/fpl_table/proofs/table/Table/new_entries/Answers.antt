@@ -1,4 +1,4 @@
-use Rattle.std.proofs.Common.{◌≡◌, ◌<◌, ◌≤◌, ◌*◌, map, All, ◌+◌, ◌++◌, ◌-◌, suc, length, ap, sym, refl, ◌∙◌, arith, add-one, append_assoc, append-nil, length-append}
+use Rattle.std.proofs.Common.{◌≡◌, ◌≤◌, map, All, ◌+◌, ◌-◌, length, ap, sym, refl, ◌∙◌, arith, append_assoc, append-nil, length-append}
 use Rattle.fpl_table.proofs.Cells.{pairs_first, pairs_more, row_length}
 use Rattle.fpl_table.proofs.Weights.{through_within}
 use Rattle.fpl_table.specs.Plain.{plain_basis}
@@ -40,7 +40,7 @@ loop-i-preserved g c =
     let count = rw same at c.in_ok-partners.ensures.count in
     let more = simp length-append at (ap length (pairs_more c.args.self.now shape (c.args.self.now.weight + 1) c.loop-i.i)) in
     let partners : c.in_ok-partners.partners.items ≡ new_partners c.args.self.now c.args.rows.now c.loop-i.i 0 c.args.self.now.basis =
-        c.in_ok-partners.ensures.value ∙ ap (λ k. new_partners c.args.self.now c.args.rows.now k 0 c.args.self.now.basis) same in
+    c.in_ok-partners.ensures.value ∙ ap (λ k. new_partners c.args.self.now c.args.rows.now k 0 c.args.self.now.basis) same in
     let step = entries_step c.args.self.now c.args.rows.now c.loop-i.i (omega arith) in
     record {
       few = omega (arith, row, most, count, c.loop-i.invariant.few, shape.small, shape.weight);

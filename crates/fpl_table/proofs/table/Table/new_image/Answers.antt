@@ -1,7 +1,6 @@
-use Rattle.std.proofs.Common.{◌≡◌, suc, true, ap, sym, refl, ◌∙◌, arith, add-one}
+use Rattle.std.proofs.Common.{◌≡◌, suc, sym, refl, ◌∙◌, arith, add-one}
 use Rattle.std.proofs.lemmas.Bool.Decides.{nat_tests}
 use Rattle.fpl_table.specs.Plain.{generator_at}
-use Rattle.fpl_table.specs.Push.{symbol_row}
 use Rattle.fpl_table.proofs.Lists.{ok_more}
 use Rattle.fpl_table.proofs.Places.{generator_place, generator_within}
 use Rattle.fpl_table.proofs.table.Table.new_image.Goals as goal

@@ -1,4 +1,4 @@
-use Rattle.std.proofs.Common.{◌≡◌, ◌≢◌, ◌+◌, ◌++◌, ◌-◌, suc, All, drop, length, ap, sym, refl, ◌∙◌, arith, add-one, append_assoc, append-nil, length-append}
+use Rattle.std.proofs.Common.{◌≡◌, ◌≢◌, ◌+◌, ◌++◌, All, drop, length, ap, sym, refl, ◌∙◌, arith, append_assoc, append-nil, length-append}
 use Rattle.std.proofs.lemmas.Bool.Decides.{nat_tests}
 use Rattle.fpl_algebra.specs.Symbols.{joined}
 use Rattle.fpl_table.specs.Plain.{generator_at}
@@ -21,18 +21,18 @@ loop-g-preserved g c =
     let many : length c.self.inside.shapes.items ≡ length c.args.self.now.generators = sym (length-map c.self.inside.shapes.items shape_in) ∙ ap (λ T. length T.generators) c.self.view_is in
     let step = images_step c.args.self.now c.args.rows.now c.loop-g.g (omega arith) in
     let left : c.push.new.self.items ++ new_images c.args.self.now c.args.rows.now (c.loop-g.g + 1) (drop (c.loop-g.g + 1) c.args.self.now.generators) ≡ new_images c.args.self.now c.args.rows.now 0 c.args.self.now.generators =
-        rw (c.in_ok-push.ensures.items, append_assoc, c.in_ok-image.ensures.value, ← step) c.loop-g.invariant.left in
+    rw (c.in_ok-push.ensures.items, append_assoc, c.in_ok-image.ensures.value, ← step) c.loop-g.invariant.left in
     let whole : All (IsRowUpTo c.args.self.now.kind (length c.args.self.now.basis + length c.args.free.now)) c.push.new.self.items =
-        rw c.in_ok-push.ensures.items (all_push (IsRowUpTo c.args.self.now.kind (length c.args.self.now.basis + length c.args.free.now)) _ _ c.loop-g.invariant.whole c.in_ok-image.ensures.whole) in
+    rw c.in_ok-push.ensures.items (all_push (IsRowUpTo c.args.self.now.kind (length c.args.self.now.basis + length c.args.free.now)) _ _ c.loop-g.invariant.whole c.in_ok-image.ensures.whole) in
     elim c.if-is_next.branch [
-      then-is_next w ↦
-        let is : (generator_at c.args.self.now c.loop-g.g).weight ≡ c.args.self.now.weight + 1 = grind (arith, nat_tests) in
-        let h = simp length-append at (ap length (generator_yes c.args.self.now (c.args.self.now.weight + 1) c.loop-g.g is)) in
-        record { few = omega arith; place = omega (arith, h); left = left; whole = whole }
-    | else-is_next w ↦
-        let not : (generator_at c.args.self.now c.loop-g.g).weight ≢ c.args.self.now.weight + 1 = grind (arith, nat_tests) in
-        let h = ap length (generator_no c.args.self.now (c.args.self.now.weight + 1) c.loop-g.g not) in
-        record { few = omega arith; place = omega (arith, h); left = left; whole = whole }
+      | then-is_next w ↦
+          let is : (generator_at c.args.self.now c.loop-g.g).weight ≡ c.args.self.now.weight + 1 = grind (arith, nat_tests) in
+          let h = simp length-append at (ap length (generator_yes c.args.self.now (c.args.self.now.weight + 1) c.loop-g.g is)) in
+          record { few = omega arith; place = omega (arith, h); left = left; whole = whole }
+      | else-is_next w ↦
+          let not : (generator_at c.args.self.now c.loop-g.g).weight ≢ c.args.self.now.weight + 1 = grind (arith, nat_tests) in
+          let h = ap length (generator_no c.args.self.now (c.args.self.now.weight + 1) c.loop-g.g not) in
+          record { few = omega arith; place = omega (arith, h); left = left; whole = whole }
     ]
 
 pub returns-clause-value : goal.returns-clause-value

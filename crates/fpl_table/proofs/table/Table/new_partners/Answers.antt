@@ -1,9 +1,9 @@
-use Rattle.std.proofs.Common.{◌≡◌, ◌<◌, ◌≤◌, ◌+◌, ◌++◌, ◌-◌, suc, length, ap, sym, refl, ◌∙◌, arith, add-one, append_assoc, append-nil, length-append}
+use Rattle.std.proofs.Common.{◌≡◌, ◌<◌, ◌≤◌, ◌+◌, ◌-◌, suc, length, ap, sym, ◌∙◌, arith, add-one, append_assoc, append-nil, length-append}
 use Rattle.fpl_algebra.specs.Table.{of_pair}
 use Rattle.fpl_table.specs.Shape.{HasShape, IsRowUpTo}
 use Rattle.fpl_table.proofs.Lists.{all_push}
 use Rattle.fpl_table.specs.Push.{row_of_symbol, symbol_row}
-use Rattle.fpl_table.specs.Plain.{plain_basis, partner_from, through}
+use Rattle.fpl_table.specs.Plain.{plain_basis}
 use Rattle.fpl_table.proofs.Cells.{from_within, row_length}
 use Rattle.fpl_table.proofs.Places.{pair_place, pair_within}
 use Rattle.fpl_table.proofs.NewRows.{partners_first, partners_more, partners_end}
@@ -62,7 +62,7 @@ loop-j-preserved g c =
     let place = pair_place c.args.self.now shape (c.args.i - 1) lti c.loop-j.j (omega (arith, from)) (omega (arith, to)) in
     let more = partners_more c.args.self.now c.args.rows.now shape (c.args.i - 1) lti c.loop-j.j (omega arith) (omega (arith, from)) (omega (arith, to)) in
     let same : row_of_symbol c.args.self.now c.args.rows.now (of_pair (c.args.i - 1) c.loop-j.j) ≡ c.in_ok-symbol_row.field-0 =
-        ap (symbol_row c.args.self.now c.args.rows.now) (place ∙ omega (arith, start, from)) ∙ sym c.in_ok-symbol_row.ensures.value in
+    ap (symbol_row c.args.self.now c.args.rows.now) (place ∙ omega (arith, start, from)) ∙ sym c.in_ok-symbol_row.ensures.value in
     let count = simp length-append at (ap length c.in_ok-push.ensures.items) in
     record {
       within = omega arith;

@@ -1,10 +1,10 @@
-use Rattle.std.proofs.Common.{◌≡◌, ◌<◌, ◌≤◌, ◌+◌, suc, length, map, get_or, refl, ap, sym, subst, ◌∙◌, arith, add-one}
+use Rattle.std.proofs.Common.{◌≡◌, ◌+◌, length, map, ap, sym, subst, ◌∙◌, arith, add-one}
 use Rattle.std.proofs.lemmas.List.{length-map}
 use Rattle.fpl_rows.specs.Meaning.{AreRows}
 use Rattle.fpl_table.specs.Plain.{symbols_in, symbol_in}
 use Rattle.fpl_table.specs.Standard.{count_of}
 use Rattle.fpl_table.specs.Push.{free_in, free_of}
-use Rattle.fpl_table.specs.Leads.{AreLeads, IsSolved}
+use Rattle.fpl_table.specs.Leads.{AreLeads}
 use Rattle.fpl_table.proofs.Pushed.{symbols_next}
 use Rattle.fpl_table.proofs.table.Table.next.Goals as goal
 

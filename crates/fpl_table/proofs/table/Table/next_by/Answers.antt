@@ -1,4 +1,4 @@
-use Rattle.std.proofs.Common.{◌≡◌, ◌<◌, ◌≤◌, ◌+◌, length, get_or, refl, ap, sym, ◌∙◌, arith}
+use Rattle.std.proofs.Common.{length, ap, arith}
 use Rattle.fpl_table.specs.Plain.{symbols_in}
 use Rattle.fpl_table.proofs.Leads.{free_below, free_few}
 use Rattle.fpl_table.proofs.table.Table.next_by.Goals as goal

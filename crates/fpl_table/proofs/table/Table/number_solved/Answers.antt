@@ -1,7 +1,7 @@
-use Rattle.std.proofs.Common.{◌≡◌, ◌-◌, ◌+◌, ◌≤◌, List, [], length, ap, refl, sym, subst, ◌∙◌, arith}
+use Rattle.std.proofs.Common.{◌≡◌, ◌-◌, ◌+◌, [], refl, sym, arith}
 use Rattle.std.proofs.lemmas.Option.{get_or_from_slice_get}
 use Rattle.fpl_rows.specs.Meaning.{IsRowOf}
-use Rattle.fpl_numbers.specs.Numbers.{IsElement, residue}
+use Rattle.fpl_numbers.specs.Numbers.{residue}
 use Rattle.fpl_table.proofs.Lists.{all_get}
 use Rattle.fpl_table.proofs.Leads.{row_by_some, get_none}
 use Rattle.fpl_table.proofs.table.Table.number_solved.Goals as goal

@@ -1,7 +1,6 @@
-use Rattle.std.proofs.Common.{◌≡◌, ◌-◌, ◌+◌, ◌≤◌, ◌<◌, ◌++◌, length, map, take, ap, refl, sym, subst, ◌∙◌, arith, append_assoc, length-append, length-take-le}
+use Rattle.std.proofs.Common.{length, ap, refl, arith, append_assoc, length-append}
 use Rattle.std.proofs.lemmas.List.{map-append, take_more, length-map, length-replicate}
 use Rattle.fpl_numbers.specs.Numbers.{IsElement}
-use Rattle.fpl_table.specs.Push.{free_in}
 use Rattle.fpl_table.specs.Plain.{symbols_in}
 use Rattle.fpl_table.proofs.Lists.{all_push, take_all}
 use Rattle.fpl_table.proofs.Leads.{free_below, free_few, solved_is}

@@ -1,4 +1,4 @@
-use Rattle.std.proofs.Common.{◌≡◌, ◌-◌, replicate}
+use Rattle.std.proofs.Common.{◌≡◌, replicate}
 use Rattle.fpl_table.proofs.table.leads.zeros.Given as goal
 
 abbrev pub invariant-loop : goal.invariant-loop

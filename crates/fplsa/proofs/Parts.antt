@@ -1,0 +1,144 @@
+-- The part of a standard table through a lower weight, and the numbers of symbols that it shares with the whole.
+use Rattle.std.specs.Prelude.{ℕ, zero, suc, ◌≡◌, ◌⊎◌, ◌<◌, ◌≤◌, ◌+◌, ◌-◌, length, List, [], ◌∷◌, ◌++◌, get_or}
+use mathlib.Core.Path.{sym, refl, ap, ap₂, ◌∙◌, subst}
+use mathlib.Core.Logic.{inl, inr}
+use native.Mathlib.Omega.{arith}
+use native.Mathlib.Decide.{ℕ_discrete, dec_lt}
+use Rattle.fpl_fields.specs.Field.{Field}
+use Rattle.fpl_linear.specs.Vector.{vzero}
+use Rattle.fpl_numbers.specs.Kinds.{field_of}
+use Rattle.fpl_algebra.specs.Tree.{Presentation, generator, odd}
+use Rattle.fpl_algebra.specs.Derives.{Expression}
+use Rattle.fpl_algebra.specs.Table.{Table, Basis, no_basis, basis_at, weight_at, parity_at, IsRegular}
+use Rattle.fpl_algebra.specs.Symbols.{symbols_of}
+use Rattle.fpl_algebra.specs.Built.{AddsBasis, Keeps, IsEmpty, IsLower, Agree}
+use Rattle.fpl_algebra.specs.Standard.{IsStandard, IsStandardNext}
+use Rattle.fpl_algebra.specs.Standard.IsStandard.{standard_start, standard_next}
+use Rattle.fpl_standard.proofs.Standing.{symbols_lower}
+use Rattle.fpl_theorems.proofs.StandardLaws.{one_standard}
+use Rattle.fpl_model.specs.declared.presentation.Presentation as declared
+use Rattle.fpl_model.specs.Meaning.{presentation_in}
+use Rattle.fpl_model.specs.Sound.{IsSound}
+use Rattle.fpl_table.specs.Plain.{PlainTable, table_in, shell_in}
+use Rattle.fpl_table.specs.Standard.{IsTableOf, count_of, count_through}
+use Rattle.fpl_next.proofs.Holding.{sound_is_sound, symbols_are_same}
+
+module _ (K : Field) (P : Presentation K.Carrier) where
+  record IsRanked (T : Table K) : Type 0 where
+    positive : (i : ℕ) → i < length T.basis → 0 < weight_at T i
+    light : (i : ℕ) → i < length T.basis → weight_at T i ≤ T.weight
+    past : (g : ℕ) → g < length P.generators → T.weight < (generator P g).weight → T.image g ≡ vzero K
+
+  weight_of_new : (T T' : Table K) (count : ℕ) (slot : ℕ → ℕ) → AddsBasis K P T T' count slot → (i : ℕ) → length T.basis ≤ i → i < length T'.basis → weight_at T' i ≡ suc T.weight
+  weight_of_new T T' count slot adds i l m =
+      let e : i ≡ length T.basis + (i - length T.basis) = omega arith in
+      ap (weight_at T') e ∙ ap (λ b. b.weight) (adds.added (i - length T.basis) (omega (arith, adds.more, m)))
+
+  weight_of_old : (T T' : Table K) (count : ℕ) (slot : ℕ → ℕ) → AddsBasis K P T T' count slot → (i : ℕ) → i < length T.basis → weight_at T' i ≡ weight_at T i
+  weight_of_old T T' count slot adds i l = ap (λ b. b.weight) (adds.old i l)
+
+  ranked : (T : Table K) (tree : ℕ → Expression K) → IsStandard K P T tree → IsRanked T
+  ranked _ _ (standard_start {T = T} tree e) = record {
+    positive = λ i l. absurd (omega (arith, l, e.basis));
+    light = λ i l. absurd (omega (arith, l, e.basis));
+    past = λ g l m. e.images g l;
+  }
+  ranked _ _ (standard_next {T = T} {T' = T'} {tree = tree} {tree' = tree'} std next) =
+      let before : IsRanked T = ranked T tree std in
+      record {
+        positive = λ i l. elim (dec_lt i (length T.basis)) [ yes m ↦ omega (arith, weight_of_old T T' next.count next.slot next.basis i m, before.positive i m) | no m ↦ omega (arith, weight_of_new T T' next.count next.slot next.basis i (omega (arith, m)) l) ];
+        light = λ i l. elim (dec_lt i (length T.basis)) [ yes m ↦ omega (arith, next.basis.weight, weight_of_old T T' next.count next.slot next.basis i m, before.light i m) | no m ↦ omega (arith, next.basis.weight, weight_of_new T T' next.count next.slot next.basis i (omega (arith, m)) l) ];
+        past = λ g l m. next.keeps.past g l (omega (arith, m, next.basis.weight));
+      }
+
+  lower_itself : (T : Table K) → IsRanked T → IsLower K P T T
+  lower_itself T r = record {
+    less = omega arith;
+    fewer = omega arith;
+    basis = λ i l. refl;
+    heavier = λ i l m. absurd (omega (arith, l, m));
+    lighter = r.light;
+    images = λ g l m. refl;
+    past = r.past;
+    entries = λ i j l m o w. refl;
+  }
+
+  lower_next : (T T' S : Table K) (tree tree' : ℕ → Expression K) → IsLower K P T S → IsStandardNext K P T T' tree tree' → IsLower K P T' S
+  lower_next T T' S tree tree' low next = record {
+    less = omega (arith, low.less, next.basis.weight);
+    fewer = omega (arith, low.fewer, next.basis.more);
+    basis = λ i l. next.basis.old i (omega (arith, l, low.fewer)) ∙ low.basis i l;
+    heavier = λ i l m. elim (dec_lt i (length T.basis)) [ yes o ↦ omega (arith, weight_of_old T T' next.count next.slot next.basis i o, low.heavier i l o) | no o ↦ omega (arith, low.less, weight_of_new T T' next.count next.slot next.basis i (omega (arith, o)) m) ];
+    lighter = low.lighter;
+    images = λ g l m. next.keeps.images g l (omega (arith, m, low.less)) ∙ low.images g l m;
+    past = low.past;
+    entries = λ i j l m o w.
+        next.keeps.entries i j (omega (arith, l, low.fewer)) (omega (arith, m, low.fewer)) (regular i j l o)
+        (omega (arith, w, low.less, ap (λ b. b.weight) (low.basis i l), ap (λ b. b.weight) (low.basis j m)))
+        ∙ low.entries i j l m o w;
+  }
+    where
+      regular : (i j : ℕ) → i < length S.basis → IsRegular S i j → IsRegular T i j
+      regular i j l (inl o) = inl o
+      regular i j l (inr o) = inr (o.0, ap (λ b. b.parity) (low.basis i l) ∙ o.1)
+
+  record IsPart (T : Table K) (a : ℕ) : Type 0 where
+    part : Table K
+    tree : ℕ → Expression K
+    standard : IsStandard K P part tree
+    through : part.weight ≡ a
+    low : IsLower K P T part
+
+  -- a standard table has a part through each lower weight
+  part_of : (T : Table K) (tree : ℕ → Expression K) → IsStandard K P T tree → (a : ℕ) → a ≤ T.weight → IsPart T a
+  part_of _ _ (standard_start {T = T} tree e) a l =
+      record { part = T; tree = tree; standard = standard_start tree e; through = omega (arith, l, e.weight); low = lower_itself T (ranked T tree (standard_start tree e)) }
+  part_of _ _ (standard_next {T = T} {T' = T'} {tree = tree} {tree' = tree'} std next) a l = go (ℕ_discrete a T'.weight) (λ m. part_of T tree std a m)
+    where
+      go : Dec (a ≡ T'.weight) → (a ≤ T.weight → IsPart T a) → IsPart T' a
+      go (yes e) below = record { part = T'; tree = tree'; standard = standard_next std next; through = sym e; low = lower_itself T' (ranked T' tree' (standard_next std next)) }
+      go (no d) below =
+          let b : IsPart T a = below (omega (arith, l, d, next.basis.weight)) in
+          record { part = b.part; tree = b.tree; standard = b.standard; through = b.through; low = lower_next T T' b.part tree tree' b.low next }
+
+list_same : {X : Type 0} (xs ys : List X) (d : X) → length xs ≡ length ys → ((i : ℕ) → i < length xs → get_or xs i d ≡ get_or ys i d) → xs ≡ ys
+list_same [] [] d l h = refl
+list_same [] (y ∷ ys) d l h = absurd (omega (arith, l))
+list_same (x ∷ xs) [] d l h = absurd (omega (arith, l))
+list_same (x ∷ xs) (y ∷ ys) d l h = ap₂ (λ a b. a ∷ b) (h 0 (omega arith)) (list_same xs ys d (omega (arith, l)) (λ i k. h (suc i) (omega (arith, k))))
+
+agreed_symbols : (K : Field) (P : Presentation K.Carrier) (T S : Table K) → T.basis ≡ S.basis → (w : ℕ) → symbols_of P T w ≡ symbols_of P S w
+unfolding symbols_of
+agreed_symbols K P T S e w = rw e refl
+
+-- a table through a weight numbers the symbols of weights up to the next as every table through a higher weight does
+counts_of : (p : declared.Presentation) (a b : ℕ) (T S : PlainTable) → IsSound p → IsTableOf p a T → IsTableOf p b S → a ≤ b → (w : ℕ) → w ≤ suc a → count_of T w ≡ count_of S w
+counts_of p a b T S sound t s l w m = ap length (names_T ∙ same ∙ sym whole ∙ sym names_S)
+  where
+    K : Field
+    K = field_of p.field
+
+    P : Presentation K.Carrier
+    P = presentation_in p
+
+    lower : IsPart K P (table_in p.field S) a
+    lower = part_of K P (table_in p.field S) s.tree s.standard a (omega (arith, l, s.weight))
+
+    agree : Agree K P (table_in p.field T) lower.part
+    agree = (one_standard K P (sound_is_sound p sound) (table_in p.field T) lower.part t.tree lower.tree t.standard lower.standard (t.weight ∙ sym lower.through)).0
+
+    same : symbols_of P (table_in p.field T) w ≡ symbols_of P lower.part w
+    same = agreed_symbols K P (table_in p.field T) lower.part (list_same (table_in p.field T).basis lower.part.basis no_basis agree.more agree.basis) w
+
+    whole : symbols_of P (table_in p.field S) w ≡ symbols_of P lower.part w
+    whole = symbols_lower K P (table_in p.field S) lower.part lower.low (ranked K P (table_in p.field S) s.tree s.standard).positive w (omega (arith, m, lower.through))
+
+    names_T : symbols_of (shell_in T.kind T) (table_in T.kind T) w ≡ symbols_of P (table_in p.field T) w
+    names_T = (symbols_are_same p T t.kind t.generators).1 w
+
+    names_S : symbols_of (shell_in S.kind S) (table_in S.kind S) w ≡ symbols_of P (table_in p.field S) w
+    names_S = (symbols_are_same p S s.kind s.generators).1 w
+
+pub counts_through : (p : declared.Presentation) (a b : ℕ) (T S : PlainTable) → IsSound p → IsTableOf p a T → IsTableOf p b S → a ≤ b → (w : ℕ) → w ≤ suc a → count_through T w ≡ count_through S w
+counts_through p a b T S sound t s l zero m = refl
+counts_through p a b T S sound t s l (suc w) m = ap₂ (λ x y. x + y) (counts_through p a b T S sound t s l w (omega (arith, m))) (counts_of p a b T S sound t s l (suc w) m)

@@ -1,0 +1,15 @@
+use Rattle.std.proofs.Common.{◌∙◌, sym}
+use Rattle.fplsa.proofs.Replies.{replied, says}
+use Rattle.fplsa.proofs.Complete.{completes, fault_read}
+use Rattle.fplsa.proofs.run.run.Goals as goal
+
+pub returns-clause-reply : goal.returns-clause-reply
+returns-clause-reply g c =
+    rw c.status.ensures (replied _ _ _ _ _ _ _ _ _ _ c.answer.ensures.reply c.write_text-outcome.ensures.same c.write_text-outcome.ensures.whole
+    (says c.put_line.result _ _ _ _ _ c.put_line.ensures.whole c.put_line.ensures.part c.put_line.ensures.fault))
+
+pub returns-clause-complete : goal.returns-clause-complete
+returns-clause-complete g c =
+    completes _ _ c.status.result _ _ _ _ _ _ _ _ (returns-clause-reply g c)
+    (λ e. fault_read _ _ _ c.write_text-outcome.ensures.same c.answer.ensures.read (sym c.status.ensures ∙ e))
+    (λ e. c.write_text-outcome.ensures.fault (sym c.status.ensures ∙ e))

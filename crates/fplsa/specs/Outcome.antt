@@ -1,0 +1,24 @@
+-- The reply that an outcome stands for.
+--   refusal_text: why an input is refused, in words
+--   reply_of: the reply
+use Rattle.std.specs.Prelude.{ℕ, List}
+use Rattle.fplsa.specs.declared.outcome.Refusal.{Refusal}
+use Rattle.fplsa.specs.declared.outcome.Refusal.TheVariants.{TooLong, Unread}
+use Rattle.fplsa.specs.declared.outcome.Outcome.{Outcome}
+use Rattle.fplsa.specs.declared.outcome.Outcome.TheVariants as found
+use Rattle.fplsa.specs.Reply.{Reply, done, usage, refused, limit, no_memory, read_fault, write_fault, not_built}
+use Rattle.fplsa.specs.Answer.{too_long, reason_text}
+
+abbrev pub refusal_text : Refusal → List ℕ
+refusal_text TooLong = too_long
+refusal_text (Unread reason) = reason_text reason
+
+abbrev pub reply_of : Outcome → Reply
+reply_of (found.Done text) = done text.items
+reply_of found.Usage = usage
+reply_of (found.Refused place why) = refused place (refusal_text why)
+reply_of (found.Limit weight count) = limit weight count
+reply_of found.NoMemory = no_memory
+reply_of found.ReadFault = read_fault
+reply_of found.WriteFault = write_fault
+reply_of found.NotBuilt = not_built
