@@ -6,7 +6,8 @@ use native.Mathlib.Decide.{dec_lt}
 use Rattle.fpl_model.specs.declared.presentation.Presentation.{Presentation}
 use Rattle.fpl_model.specs.Sound.{IsSound}
 use Rattle.fpl_reader.specs.declared.fault.Reason.{Reason}
-use Rattle.fpl_reader.proofs.One.{one_presentation, one_refusal, never_both, presentation_sound}
+use Rattle.fpl_reader.proofs.OneAnswer.{one_presentation, one_refusal, not_both}
+use Rattle.fpl_reader.proofs.Soundness.{presentation_sound}
 use Rattle.fpl_table.specs.Plain.{PlainTable}
 use Rattle.fpl_table.specs.Standard.{IsTableOf, PassesAt, count_through}
 use Rattle.fpl_next.specs.Holds.{AreOne}
@@ -75,11 +76,11 @@ of_text_one c bytes _ _ (text_too_long l) (presentation m p h r a) = absurd (ome
 of_text_one c bytes _ _ (no_presentation l place reason h) (text_too_long m) = absurd (omega (arith, l, m))
 of_text_one c bytes _ _ (no_presentation l place reason h) (no_presentation m place' reason' k) =
     let o = one_refusal bytes place place' reason reason' h k in ap₂ (λ x y. refused x (reason_text y)) o.0 o.1
-of_text_one c bytes _ _ (no_presentation l place reason h) (presentation m p k r a) = absurd (never_both bytes p place reason k h)
+of_text_one c bytes _ _ (no_presentation l place reason h) (presentation m p k r a) = absurd (not_both bytes p place reason k h)
 of_text_one c bytes _ _ (presentation l p h r a) (text_too_long m) = absurd (omega (arith, l, m))
-of_text_one c bytes _ _ (presentation l p h r a) (no_presentation m place reason k) = absurd (never_both bytes p place reason h k)
+of_text_one c bytes _ _ (presentation l p h r a) (no_presentation m place reason k) = absurd (not_both bytes p place reason h k)
 of_text_one c bytes _ _ (presentation l p h r a) (presentation m q k s b) =
-    presentation_one c q r s (presentation_sound bytes q k) (subst (λ x. AnswersPresentation c x r) (one_presentation bytes p q h k) a) b
+    presentation_one c q r s (presentation_sound bytes q (omega (arith, m)) k) (subst (λ x. AnswersPresentation c x r) (one_presentation bytes p q h k) a) b
 
 of_command_one : (c : Command) (bytes : List ℕ) (r s : Reply) → AnswersCommand c bytes r → AnswersCommand c bytes s → r ≡ s
 of_command_one c bytes _ _ (unread a) (unread b) = refl
