@@ -7,14 +7,14 @@ use std::marker::Brand;
 use std::sync::ledger::Blank;
 use std::test::Fail;
 
-const HEISENBERG: &str =
-    "field 7; even x, y; relation [x,[x,y]] = 0; relation [y,[x,y]] = 0;";
+const HEISENBERG: &str = "field 7; even x, y; relation [x,[x,y]] = 0; relation [y,[x,y]] = 0;";
 
 const FREE: &str = "field 11; even x, y;";
 
 const PLAIN: &str = "field 7; even x, y;";
 
-const PLAIN_TABLE: &str = "table 7 through 1\nbasis 2\nb1 weight 1 even = x\nb2 weight 1 even = y\nimages 2\nx = b1\ny = b2\nbrackets 0\nend\n";
+const PLAIN_TABLE: &str =
+    "table 7 through 1\nbasis 2\nb1 weight 1 even = x\nb2 weight 1 even = y\nimages 2\nx = b1\ny = b2\nbrackets 0\nend\n";
 
 fn words_of(alloc: Global, line: &str) -> Result<Vec<String>, AllocError> {
     let mut words = Vec::new(alloc);
@@ -103,7 +103,11 @@ fn spells_commands(rt: HostRuntime) -> Result<(), Fail> {
 fn writes_tables(rt: HostRuntime) -> Result<(), Fail> {
     let alloc = rt.alloc();
     let cases = [
-        ("table 3", "field 7;", "table 7 through 3\nbasis 0\nimages 0\nbrackets 0\nend\n"),
+        (
+            "table 3",
+            "field 7;",
+            "table 7 through 3\nbasis 0\nimages 0\nbrackets 0\nend\n",
+        ),
         ("table 1", PLAIN, PLAIN_TABLE),
         (
             "table 1",
@@ -154,16 +158,66 @@ fn writes_tables(rt: HostRuntime) -> Result<(), Fail> {
 fn says_why_nothing_is_written(rt: HostRuntime) -> Result<(), Fail> {
     let alloc = rt.alloc();
     let cases = [
-        ("table 0", PLAIN, Status::Usage, "usage: fplsa VIEW LIMIT [ENTRIES]\n"),
-        ("table 1", "", Status::Refused, "refused at byte 0: no field\n"),
-        ("table 1", "field 9; even x", Status::Refused, "refused at byte 15: syntax\n"),
-        ("table 1", "field 9;", Status::Refused, "refused at byte 6: prime not in the list\n"),
-        ("table 1", "field 7; even x, x;", Status::Refused, "refused at byte 17: name twice\n"),
-        ("table 1", "field 7; even x; relation 1/7*x;", Status::Refused, "refused at byte 28: zero denominator\n"),
-        ("table 1", "field 7; even x, y; relation [x,y] + x;", Status::Refused, "refused at byte 20: mixed weight\n"),
-        ("table 1", "field 7; even x; odd u; relation x + u;", Status::Refused, "refused at byte 24: mixed parity\n"),
-        ("series 1", "field 9;", Status::Refused, "refused at byte 6: prime not in the list\n"),
-        ("table 6 5", FREE, Status::Limit, "limit at weight 4: 9 symbols\n"),
+        (
+            "table 0",
+            PLAIN,
+            Status::Usage,
+            "usage: fplsa VIEW LIMIT [ENTRIES]\n",
+        ),
+        (
+            "table 1",
+            "",
+            Status::Refused,
+            "refused at byte 0: no field\n",
+        ),
+        (
+            "table 1",
+            "field 9; even x",
+            Status::Refused,
+            "refused at byte 15: syntax\n",
+        ),
+        (
+            "table 1",
+            "field 9;",
+            Status::Refused,
+            "refused at byte 6: prime not in the list\n",
+        ),
+        (
+            "table 1",
+            "field 7; even x, x;",
+            Status::Refused,
+            "refused at byte 17: name twice\n",
+        ),
+        (
+            "table 1",
+            "field 7; even x; relation 1/7*x;",
+            Status::Refused,
+            "refused at byte 28: zero denominator\n",
+        ),
+        (
+            "table 1",
+            "field 7; even x, y; relation [x,y] + x;",
+            Status::Refused,
+            "refused at byte 20: mixed weight\n",
+        ),
+        (
+            "table 1",
+            "field 7; even x; odd u; relation x + u;",
+            Status::Refused,
+            "refused at byte 24: mixed parity\n",
+        ),
+        (
+            "series 1",
+            "field 9;",
+            Status::Refused,
+            "refused at byte 6: prime not in the list\n",
+        ),
+        (
+            "table 6 5",
+            FREE,
+            Status::Limit,
+            "limit at weight 4: 9 symbols\n",
+        ),
         ("series 1", PLAIN, Status::NotBuilt, "not built\n"),
         ("table 1", "field Q;", Status::NotBuilt, "not built\n"),
         ("sample 3", "", Status::NotBuilt, "not built\n"),
@@ -197,7 +251,11 @@ fn ends_at_each_failing_call(rt: HostRuntime) -> Result<(), Fail> {
         let ran = ran(alloc, "table 1", PLAIN.as_bytes(), 1, 0, k)?;
         if k < 107 {
             assert_eq!(rt; ran.status, Status::WriteFault, "put {k}");
-            assert_eq!(rt; ran.out.bytes(), &PLAIN_TABLE.as_bytes()[..(k as usize - 1).min(PLAIN_TABLE.len())], "put {k}");
+            assert_eq!(rt;
+                ran.out.bytes(),
+                &PLAIN_TABLE.as_bytes()[..(k as usize - 1).min(PLAIN_TABLE.len())],
+                "put {k}"
+            );
             assert_eq!(rt; ran.err.bytes(), b"write fault\n".as_slice(), "put {k}");
         } else {
             assert_eq!(rt; ran.status, Status::Done, "put {k}");
