@@ -1,21 +1,20 @@
 -- A byte in the machine that gives one token at a time.
-use Rattle.std.proofs.Common.{◌≡◌, ℕ, suc, ◌+◌, ◌-◌, ◌≤◌, ◌<◌, List, [], ◌∷◌, ◌++◌, length, Bool, true, false, nat_lt, Result, refl, ap, sym, ◌∙◌, subst, arith, drop, get_or, drop-cons, add-one}
+use Rattle.std.proofs.Common.{◌≡◌, ℕ, ◌+◌, ◌-◌, ◌≤◌, ◌<◌, List, [], ◌∷◌, length, Bool, true, false, nat_lt, refl, ap, sym, ◌∙◌, subst, arith, drop, get_or, drop-cons, add-one}
 use Rattle.std.specs.Prelude.{Ok, Err, None, Some}
 use Rattle.std.specs.declared.option.Option.{Option}
 use Rattle.fpl_text.specs.Bytes.{most_name}
-use Rattle.fpl_lex.specs.declared.token.Token.{Token}
 use Rattle.fpl_lex.specs.declared.token.TokenKind.TheVariants as kinds
 use Rattle.fpl_lex.specs.declared.fault.LexError.{LexError}
-use Rattle.fpl_lex.specs.declared.fault.LexError.TheVariants.{BadByte, NumberTooLarge, NameTooLong, NoMemory}
+use Rattle.fpl_lex.specs.declared.fault.LexError.TheVariants.{BadByte, NumberTooLarge}
 use Rattle.fpl_lex.specs.declared.lexing.Mode.{Mode}
 use Rattle.fpl_lex.specs.declared.lexing.Mode.TheVariants.{Between, InComment, InWord, InNumber}
 use Rattle.fpl_lex.specs.declared.lexing.Class.{Class}
 use Rattle.fpl_lex.specs.declared.lexing.Class.TheVariants.{Letter, Digit, Underscore, LineEnd, Blank, Hash, Mark, Other}
 use Rattle.fpl_lex.specs.declared.lexing.Advance.{Advance}
 use Rattle.fpl_lex.specs.declared.lexing.Advance.TheVariants.{Into, Ends, Fault}
-use Rattle.fpl_lex.specs.Cut.{W, joined}
-use Rattle.fpl_lex.specs.Machine.{class_of, finished, begun, after, with_digit, longer, step_of, chained, lex, ends_by, ends_before, begun_by, lengthened, advance_of, IsWithin, IsNext}
-use Rattle.fpl_lex.proofs.Cutting.{joined_none, rest_of, lex_step, ends, goes}
+use Rattle.fpl_lex.specs.Cut.{joined}
+use Rattle.fpl_lex.specs.Machine.{class_of, finished, begun, after, with_digit, step_of, chained, lex, ends_before, begun_by, lengthened, advance_of, IsWithin}
+use Rattle.fpl_lex.proofs.Cutting.{rest_of, lex_step, ends, goes}
 
 module _ (text : List ℕ) (from at : ℕ) (inside : at < length text) where
   abbrev byte : ℕ

@@ -1,10 +1,10 @@
 -- A text is cut in one way, and the machine gives the reading of that cut.
-use Rattle.std.proofs.Common.{◌≡◌, ℕ, suc, ◌+◌, ◌-◌, ◌*◌, ◌≤◌, ◌<◌, List, [], ◌∷◌, ◌++◌, length, Bool, true, false, ◌||◌, ◌&&◌, ◌==◌, nat_lt, nat_le, IsTrue, Result, if◌then◌else◌, refl, ap, sym, ◌∙◌, subst, arith, add_assoc, add-zero, append_assoc, ◌⊎◌, inl, inr}
-use Rattle.std.specs.Prelude.{Ok, Err, None, Some}
+use Rattle.std.proofs.Common.{◌≡◌, ℕ, suc, ◌+◌, ◌-◌, ◌*◌, ◌≤◌, ◌<◌, List, [], ◌∷◌, ◌++◌, length, Bool, true, false, ◌||◌, ◌&&◌, ◌==◌, nat_lt, Result, if◌then◌else◌, refl, ap, sym, ◌∙◌, subst, arith, append_assoc, ◌⊎◌, inl, inr}
+use Rattle.std.specs.Prelude.{Ok, Err}
 use Rattle.std.specs.List.{list_all}
 use Rattle.std.proofs.lemmas.Bool.{eqb-true, ltb-true, ltb-false, lt-ltb, le-ltb, true≢false, false≢true}
 use Rattle.std.proofs.lemmas.List.{append-nil}
-use Rattle.fpl_text.specs.Bytes.{is_blank, is_letter, is_digit, is_word_byte, is_mark, most_name}
+use Rattle.fpl_text.specs.Bytes.{is_blank, is_letter, is_digit, is_word_byte, is_mark}
 use Rattle.fpl_lex.specs.declared.token.Token.{Token}
 use Rattle.fpl_lex.specs.declared.fault.LexError.{LexError}
 use Rattle.fpl_lex.specs.declared.fault.LexError.TheVariants.{BadByte, NumberTooLarge, NameTooLong, NoMemory}
@@ -12,8 +12,8 @@ use Rattle.fpl_lex.specs.declared.lexing.Mode.{Mode}
 use Rattle.fpl_lex.specs.declared.lexing.Mode.TheVariants.{Between, InComment, InWord, InNumber}
 use Rattle.fpl_lex.specs.declared.lexing.Class.{Class}
 use Rattle.fpl_lex.specs.declared.lexing.Class.TheVariants.{Letter, Digit, Underscore, LineEnd, Blank, Hash, Mark, Other}
-use Rattle.fpl_lex.specs.Cut.{W, Form, blank, comment, word, number, mark, other, Piece, Stops, begins, is_in_comment, IsPiece, IsCut, value_from, value_of, piece_tokens, joined, reading_from, Reads, Lexed}
-use Rattle.fpl_lex.specs.Machine.{class_of, finished, begun, after, with_digit, longer, step_of, chained, lex, lex_of, Fails, Gives}
+use Rattle.fpl_lex.specs.Cut.{W, Form, blank, comment, word, number, mark, other, Piece, Stops, begins, is_in_comment, IsPiece, IsCut, value_from, piece_tokens, joined, reading_from, Reads, Lexed}
+use Rattle.fpl_lex.specs.Machine.{class_of, finished, begun, after, step_of, chained, lex, lex_of, Gives}
 
 -- tests of bytes
 

@@ -1,5 +1,5 @@
 -- What holds of fields and declarations that are allowed.
-use Rattle.std.proofs.Common.{◌≡◌, ℕ, zero, suc, ◌+◌, ◌<◌, ◌≤◌, List, [], ◌∷◌, ◌++◌, length, map, get_or, Bool, true, false, ◌&&◌, IsTrue, if◌then◌else◌, refl, ap, sym, ◌∙◌, subst, arith}
+use Rattle.std.proofs.Common.{◌≡◌, ℕ, zero, suc, ◌<◌, ◌≤◌, List, [], ◌∷◌, length, map, Bool, true, false, ◌&&◌, IsTrue, if◌then◌else◌, refl, arith}
 use Rattle.std.specs.Prelude.{None, Some, All, slice_get, nat_le}
 use Rattle.std.specs.List.{list_all}
 use Rattle.std.specs.Option.{option_map}
@@ -7,9 +7,7 @@ use Rattle.std.specs.Str.{IsUtf8, IsAscii}
 use Rattle.std.specs.declared.option.Option.{Option}
 use Rattle.std.proofs.lemmas.Bool.{leb-true}
 use Rattle.std.proofs.lemmas.Str.{IsUtf8-from_ascii}
-use Rattle.fpl_text.specs.Bytes.{is_letter, is_word_byte, is_word, IsName}
-use Rattle.fpl_numbers.specs.declared.number.Kind.{Kind}
-use Rattle.fpl_numbers.specs.declared.number.Kind.TheVariants.{Rational, Prime}
+use Rattle.fpl_text.specs.Bytes.{is_letter, is_word_byte, is_word}
 use Rattle.fpl_model.specs.Sound.{HaveWeights}
 use Rattle.fpl_syntax.specs.declared.symbol.Numeral.{Numeral}
 use Rattle.fpl_syntax.specs.Kinds.{is_listed, is_field}
@@ -17,7 +15,7 @@ use Rattle.fpl_reader.specs.declared.survey.FieldName.{FieldName}
 use Rattle.fpl_reader.specs.declared.survey.FieldName.TheVariants as field_name
 use Rattle.fpl_reader.specs.declared.survey.FieldStatement.{FieldStatement}
 use Rattle.fpl_reader.specs.declared.survey.DeclaredName.{DeclaredName}
-use Rattle.fpl_reader.specs.Reading.{name_of, weight_or_one, generator_of, kind_named, kind_of, bad_prime_named, bad_prime, bad_weight_given, bad_weight, too_many, or_else}
+use Rattle.fpl_reader.specs.Reading.{name_of, weight_or_one, generator_of, kind_named, kind_of, bad_prime_named, bad_prime, bad_weight_given, bad_weight, too_many}
 use Rattle.fpl_reader.proofs.DeclaredNames.{AreNames}
 use Rattle.fpl_reader.proofs.Terms.{or_else-none}
 

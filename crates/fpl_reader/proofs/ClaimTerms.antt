@@ -1,18 +1,17 @@
 -- The sides of a sentence's claims are terms, where all names are known.
-use Rattle.std.proofs.Common.{◌≡◌, ℕ, zero, suc, ◌+◌, ◌<◌, ◌≤◌, ◌^◌, List, [], ◌∷◌, ◌++◌, length, map, Bool, true, false, IsTrue, cond, if◌then◌else◌, refl, ap, sym, ◌∙◌, subst, arith, length-append}
-use Rattle.std.specs.Prelude.{None, Some, All}
+use Rattle.std.proofs.Common.{◌≡◌, ℕ, suc, ◌+◌, ◌<◌, ◌≤◌, ◌^◌, List, [], ◌∷◌, ◌++◌, length, Bool, true, false, IsTrue, if◌then◌else◌, refl, arith, length-append}
+use Rattle.std.specs.Prelude.{None, All}
 use Rattle.std.specs.Str.{bytes_eq}
 use Rattle.fpl_numbers.specs.declared.number.Kind.{Kind}
-use Rattle.fpl_numbers.specs.Numbers.{IsElement}
 use Rattle.fpl_model.specs.declared.expr.Expr.{Expr}
 use Rattle.fpl_model.specs.declared.expr.Expr as expr
 use Rattle.fpl_model.specs.declared.presentation.Generator.{Generator}
 use Rattle.fpl_model.specs.Meaning.{plain}
-use Rattle.fpl_model.specs.Sound.{IsTerm, IsWithin, count_tree}
+use Rattle.fpl_model.specs.Sound.{IsTerm, IsWithin}
 use Rattle.fpl_model.proofs.Plain.{plain-Zero}
 use Rattle.fpl_syntax.specs.declared.symbol.Word.{Word}
 use Rattle.fpl_syntax.specs.declared.parser.Claim.{Claim}
-use Rattle.fpl_syntax.specs.Grammar.{Scope, Sum, Statement, field, declare, relation, equation, ideal, equal, coefficient_of, expression_of, equate, claims_in, claims_of}
+use Rattle.fpl_syntax.specs.Grammar.{Scope, Sum, Statement, field, declare, relation, equation, ideal, equal, expression_of, equate, claims_in, claims_of}
 use Rattle.fpl_syntax.specs.declared.symbol.ClaimKind.TheVariants.{Relation, Ideal, Equal}
 use Rattle.fpl_syntax.specs.Sight.{number_from, word_of}
 use Rattle.fpl_syntax.specs.Kinds.{is_field}

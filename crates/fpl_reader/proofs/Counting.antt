@@ -1,13 +1,11 @@
 -- How many tokens a text has, and how many events its symbols are.
-use Rattle.std.proofs.Common.{◌≡◌, ℕ, zero, suc, ◌+◌, ◌<◌, ◌≤◌, ◌^◌, List, [], ◌∷◌, ◌++◌, length, map, Bool, true, false, nat_lt, if◌then◌else◌, Result, refl, ap, sym, ◌∙◌, subst, arith, length-append}
+use Rattle.std.proofs.Common.{◌≡◌, ℕ, ◌+◌, ◌≤◌, List, [], ◌∷◌, ◌++◌, length, Bool, true, false, nat_lt, if◌then◌else◌, Result, ap, subst, arith, length-append}
 use Rattle.std.specs.Prelude.{None, Some, Ok, Err}
 use Rattle.std.specs.declared.option.Option.{Option}
 use Rattle.fpl_text.specs.Bytes.{most_name}
 use Rattle.fpl_lex.specs.declared.token.Token.{Token}
-use Rattle.fpl_lex.specs.declared.token.TokenKind.TheVariants as kinds
 use Rattle.fpl_lex.specs.declared.fault.LexError.{LexError}
-use Rattle.fpl_lex.specs.declared.fault.LexError.TheVariants.{NameTooLong, NumberTooLarge}
-use Rattle.fpl_lex.specs.Cut.{W, Form, blank, comment, word, number, mark, other, Piece, IsPiece, IsCut, value_of, token_at, mark_tokens, piece_tokens, joined, reading_from, Reads}
+use Rattle.fpl_lex.specs.Cut.{W, Form, blank, comment, word, number, mark, other, Piece, IsPiece, IsCut, value_of, mark_tokens, piece_tokens, joined, reading_from, Reads}
 use Rattle.fpl_syntax.specs.declared.symbol.Symbol.{Symbol}
 use Rattle.fpl_reader.specs.declared.survey.Event.{Event}
 use Rattle.fpl_reader.specs.declared.survey.Track.{Track}

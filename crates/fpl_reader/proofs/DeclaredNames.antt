@@ -1,7 +1,6 @@
 -- The names that a text declares and uses are names.
-use Rattle.std.proofs.Common.{◌≡◌, ℕ, zero, suc, ◌+◌, ◌<◌, ◌≤◌, List, [], ◌∷◌, ◌++◌, length, map, get_or, Bool, true, false, ◌&&◌, ◌==◌, IsTrue, if◌then◌else◌, refl, ap, sym, ◌∙◌, subst, arith, append_assoc}
-use Rattle.std.specs.Prelude.{None, Some, codes, Contains}
-use Rattle.std.specs.List.{list_all}
+use Rattle.std.proofs.Common.{◌≡◌, ℕ, zero, suc, ◌≤◌, List, [], ◌∷◌, ◌++◌, length, Bool, true, false, ◌==◌, IsTrue, if◌then◌else◌, refl, ap, sym, ◌∙◌, subst, arith, append_assoc}
+use Rattle.std.specs.Prelude.{codes, Contains}
 use Rattle.std.specs.Str.{bytes_eq}
 use Rattle.std.specs.declared.option.Option.{Option}
 use Rattle.std.proofs.lemmas.Slice.Eq.{bytes_eq-Decides}
@@ -9,14 +8,11 @@ use Rattle.fpl_text.specs.Bytes.{is_word, most_name, reserved, IsName}
 use Rattle.fpl_lex.specs.declared.token.Token.{Token}
 use Rattle.fpl_lex.specs.declared.token.TokenKind.{TokenKind}
 use Rattle.fpl_lex.specs.declared.token.TokenKind.TheVariants as kinds
-use Rattle.fpl_model.specs.declared.presentation.Parity.{Parity}
 use Rattle.fpl_syntax.specs.declared.symbol.Symbol.{Symbol}
 use Rattle.fpl_syntax.specs.declared.symbol.Symbol.TheVariants as mark
 use Rattle.fpl_syntax.specs.declared.symbol.Word.{Word}
-use Rattle.fpl_syntax.specs.declared.symbol.Numeral.{Numeral}
 use Rattle.fpl_syntax.specs.Sight.{word_of}
 use Rattle.fpl_reader.specs.declared.survey.Event.{Event}
-use Rattle.fpl_reader.specs.declared.survey.Event.TheVariants.{FieldNamed, Declared, Used, Divided}
 use Rattle.fpl_reader.specs.declared.survey.DeclaredName.{DeclaredName}
 use Rattle.fpl_reader.specs.declared.survey.Track.{Track}
 use Rattle.fpl_reader.specs.declared.survey.Track.TheVariants as track

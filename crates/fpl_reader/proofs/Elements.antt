@@ -1,17 +1,15 @@
 -- The numbers of a text are canonical and fit.
-use Rattle.std.proofs.Common.{◌≡◌, ℕ, zero, suc, ◌+◌, ◌*◌, ◌/◌, ◌%◌, ◌<◌, ◌≤◌, Bool, true, false, ◌&&◌, ◌==◌, cond, IsTrue, if◌then◌else◌, refl, ap, ap₂, sym, ◌∙◌, subst, arith, ℤ, pos, negsuc}
-use Rattle.std.specs.Prelude.{None, Some, nat_le, nat_eq, unsigned_abs, neg_ℤ, ◌*ℤ◌}
+use Rattle.std.proofs.Common.{◌≡◌, ℕ, zero, suc, ◌*◌, ◌/◌, ◌<◌, ◌≤◌, Bool, true, false, ◌&&◌, IsTrue, if◌then◌else◌, refl, ap₂, sym, subst, arith, ℤ, pos}
+use Rattle.std.specs.Prelude.{None, Some, nat_le, nat_eq, unsigned_abs, ◌*ℤ◌}
 use Rattle.std.specs.Int.{IsGcd}
-use Rattle.std.specs.declared.option.Option.{Option}
 use Rattle.std.proofs.lemmas.Int.{ints}
 use Rattle.std.proofs.lemmas.Bool.{leb-true}
 use native.Mathlib.Nat.{div-le_self, pos_of_dvd_of_pos}
 use Rattle.fpl_fields.proofs.Divisors.{quotients_apart, quotient_positive}
-use Rattle.fpl_numbers.specs.declared.number.Num.{Num}
 use Rattle.fpl_numbers.specs.declared.number.Kind.{Kind}
 use Rattle.fpl_numbers.specs.declared.number.Kind.TheVariants.{Rational, Prime}
-use Rattle.fpl_numbers.specs.Numbers.{IsElement, IsNumber, residue, bound, divided, gcd, gcd_within, reduced, is_nought, product_of, inverse_of}
-use Rattle.fpl_numbers.specs.Quotients.{quotient_of, whole, residue_below}
+use Rattle.fpl_numbers.specs.Numbers.{IsElement, residue, bound, gcd, gcd_within, reduced, is_nought, product_of, inverse_of}
+use Rattle.fpl_numbers.specs.Quotients.{quotient_of, whole}
 use Rattle.fpl_numbers.proofs.Gcd.{gcd_is}
 use Rattle.fpl_numbers.proofs.Integers.{abs-divided, positive_int}
 use Rattle.fpl_syntax.specs.Kinds.{is_listed, is_field}

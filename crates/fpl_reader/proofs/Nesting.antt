@@ -1,5 +1,5 @@
 -- The expressions of a text nest no deeper than its marks.
-use Rattle.std.proofs.Common.{◌≡◌, ℕ, zero, suc, ◌+◌, ◌-◌, ◌<◌, ◌≤◌, max, List, [], ◌∷◌, ◌++◌, length, map, Bool, true, false, ◌==◌, ◌||◌, nat_lt, if◌then◌else◌, refl, ap, sym, ◌∙◌, subst, arith}
+use Rattle.std.proofs.Common.{◌≡◌, ℕ, ◌+◌, ◌≤◌, max, List, [], ◌∷◌, map, Bool, true, false, ◌==◌, ◌||◌, nat_lt, if◌then◌else◌, refl, arith}
 use Rattle.std.specs.Prelude.{None, Some}
 use Rattle.std.specs.declared.option.Option.{Option}
 use Rattle.std.specs.Prelude.{codes}
@@ -7,9 +7,8 @@ use Rattle.std.specs.Str.{bytes_eq}
 use Rattle.fpl_syntax.specs.Sight.{word_of}
 use Rattle.std.proofs.lemmas.Bool.{ltb-false, eqb-true}
 use Rattle.fpl_numbers.specs.declared.number.Num.{Num}
-use Rattle.fpl_algebra.specs.Tree.{Tree, Trees, gen, none, sum_of, multiple, bracket_of, end as last, more, trees}
+use Rattle.fpl_algebra.specs.Tree.{Tree, gen, none, sum_of, multiple, bracket_of, trees}
 use Rattle.fpl_model.specs.declared.expr.Expr.{Expr}
-use Rattle.fpl_model.specs.declared.expr.Expr as expr
 use Rattle.fpl_model.specs.Meaning.{plain}
 use Rattle.fpl_model.specs.Sound.{deep, deep_factor, deep_member, deep_members}
 use Rattle.fpl_model.proofs.Plain.{plain-Gen, plain-Zero, plain-Sum, plain-Times, plain-Br}
@@ -20,7 +19,7 @@ use Rattle.fpl_syntax.specs.declared.symbol.Symbol.{Symbol}
 use Rattle.fpl_syntax.specs.declared.symbol.Symbol.TheVariants as mark
 use Rattle.fpl_syntax.specs.declared.expression.Scale.{Scale}
 use Rattle.fpl_syntax.specs.declared.expression.Scale.TheVariants.{One, Whole, Quotient}
-use Rattle.fpl_syntax.specs.Grammar.{Scope, Sum, sum, Terms, end, further, Term, term, Factor, name, zero as nought, bracket, group, Statement, field, declare, relation, equation, ideal, equal, Naming, rationals, prime, Declaration, plainly, weighted, spell_scale, sign_of, spell_lead, spell_sum, spell_terms, spell_factor, spell_declarations, spell_statement, spelling, term_of, total, expression_of, further_of, factor_of}
+use Rattle.fpl_syntax.specs.Grammar.{Scope, Sum, sum, Terms, end, further, term, Factor, name, zero as nought, bracket, group, spell_scale, sign_of, spell_lead, spell_sum, spell_terms, spell_factor, term_of, total, expression_of, further_of, factor_of}
 use Rattle.fpl_reader.specs.Symbols.{word_symbol, mark_symbol, kind_symbol, symbol_of, symbols_of}
 use Rattle.fpl_reader.specs.Reading.{opens, closes, too_deep}
 

@@ -2,7 +2,6 @@
 use Rattle.std.proofs.Common.{◌≡◌, ℕ, List, [], ◌∷◌, ◌+◌, length, map, Bool, true, false, nat_lt, if◌then◌else◌, Result, refl, ap, ap₂, sym, ◌∙◌, subst, ◌⊎◌, inl, inr}
 use Rattle.std.specs.Prelude.{None, Some, Ok, Err}
 use Rattle.std.specs.declared.option.Option.{Option}
-use Rattle.fpl_numbers.specs.declared.number.Kind.{Kind}
 use Rattle.fpl_model.specs.declared.presentation.Presentation.{Presentation}
 use Rattle.fpl_lex.specs.declared.token.Token.{Token}
 use Rattle.fpl_lex.specs.declared.fault.LexError.{LexError}
@@ -13,14 +12,14 @@ use Rattle.fpl_lex.specs.Machine.{lex_of}
 use Rattle.fpl_lex.proofs.Cutting.{lex_reads, reads_lexed}
 use Rattle.fpl_syntax.specs.declared.symbol.Symbol.{Symbol}
 use Rattle.fpl_syntax.specs.declared.parser.Claim.{Claim}
-use Rattle.fpl_syntax.specs.Grammar.{Scope, Statement, spelling, claims_of, Says}
+use Rattle.fpl_syntax.specs.Grammar.{Scope, Statement, spelling, claims_of}
 use Rattle.fpl_syntax.specs.Machine.{parse_of}
 use Rattle.fpl_syntax.proofs.Faults.{parse_sentence, parse_fault, says_from_parse, fault_from_parse}
 use Rattle.fpl_reader.specs.declared.survey.Event.{Event}
 use Rattle.fpl_reader.specs.declared.fault.Reason.{Reason}
 use Rattle.fpl_reader.specs.declared.fault.Reason.TheVariants as reason
 use Rattle.fpl_reader.specs.Symbols.{symbols_of}
-use Rattle.fpl_reader.specs.Events.{events_of, fields_in, declared_in}
+use Rattle.fpl_reader.specs.Events.{fields_in, declared_in}
 use Rattle.fpl_reader.specs.Scan.{scan_of}
 use Rattle.fpl_reader.specs.Reading.{too_deep, place_of, kind_of, generator_of, scope_of, with_claims, presentation_of, early_refusal, late_refusal, refusal_of, HasPresentation, lexical_refusal, IsRefused, lexically, for_depth, for_syntax, for_sense}
 use Rattle.fpl_reader.proofs.Scanning.{sentence_scans}

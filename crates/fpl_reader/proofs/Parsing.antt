@@ -1,6 +1,6 @@
 -- A step of the parser over a text.
-use Rattle.std.proofs.Common.{◌≡◌, ℕ, ◌+◌, ◌-◌, ◌==◌, suc, List, [], ◌∷◌, length, Result, false, refl, ap, sym, ◌∙◌, arith, add-zero, if◌then◌else◌}
-use Rattle.std.specs.Prelude.{Some, None, Ok, Err}
+use Rattle.std.proofs.Common.{◌≡◌, ℕ, ◌+◌, ◌-◌, ◌==◌, suc, List, [], ◌∷◌, length, Result, false, refl, ap, sym, ◌∙◌, arith, add-zero}
+use Rattle.std.specs.Prelude.{Some, None, Err}
 use Rattle.std.proofs.lemmas.Bool.{false_from_ne_true, eqb-true}
 use Rattle.fpl_lex.specs.declared.token.Token.{Token}
 use Rattle.fpl_syntax.specs.declared.symbol.Symbol.{Symbol}

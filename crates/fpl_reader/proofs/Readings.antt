@@ -1,5 +1,5 @@
 -- What `read` answers, from what its parts answer.
-use Rattle.std.proofs.Common.{◌≡◌, ℕ, suc, ◌+◌, ◌-◌, ◌<◌, ◌≤◌, List, [], ◌∷◌, ◌++◌, length, map, drop, Bool, true, false, IsTrue, ◌^◌, Result, refl, ap, ap₂, sym, ◌∙◌, subst, arith}
+use Rattle.std.proofs.Common.{◌≡◌, ℕ, ◌<◌, ◌≤◌, List, [], length, map, drop, IsTrue, ◌^◌, Result, refl, ap, ap₂, sym, ◌∙◌, subst, arith}
 use Rattle.std.specs.Prelude.{None, Some, Ok, Err, IsOk, All}
 use Rattle.std.specs.declared.option.Option.{Option}
 use Rattle.fpl_numbers.specs.declared.number.Kind.{Kind}
@@ -7,13 +7,11 @@ use Rattle.fpl_model.specs.declared.presentation.Generator.{Generator}
 use Rattle.fpl_model.specs.declared.presentation.Presentation.{Presentation}
 use Rattle.fpl_lex.specs.declared.token.Token.{Token}
 use Rattle.fpl_lex.specs.declared.fault.LexError.{LexError}
-use Rattle.fpl_lex.specs.declared.fault.LexError.TheVariants as lexical
 use Rattle.fpl_lex.specs.Cut.{Reads}
 use Rattle.fpl_lex.specs.Machine.{lex_from, lex_of}
 use Rattle.fpl_lex.proofs.Cutting.{lex_reads}
-use Rattle.fpl_syntax.specs.declared.symbol.Symbol.{Symbol}
 use Rattle.fpl_syntax.specs.declared.parser.Claim.{Claim}
-use Rattle.fpl_syntax.specs.Grammar.{Scope, Statement, spelling, claims_of, Says, IsFaultAt}
+use Rattle.fpl_syntax.specs.Grammar.{Scope, Statement, spelling, claims_of, Says}
 use Rattle.fpl_syntax.specs.Machine.{parse_of}
 use Rattle.fpl_syntax.proofs.Faults.{says_from_parse, fault_from_parse}
 use Rattle.fpl_reader.specs.declared.survey.Event.{Event}
@@ -30,7 +28,7 @@ use Rattle.fpl_reader.specs.Stream.{tokens_or_none, IsLexable}
 use Rattle.fpl_reader.specs.Texts.{text_tokens, text_symbols, text_events}
 use Rattle.fpl_reader.specs.Sentence.{FailsAt}
 use Rattle.fpl_reader.specs.Answers.{IsLexicalRefusal, IsRefusal, bare_of}
-use Rattle.fpl_reader.specs.Reading.{too_deep, place_of, kind_of, generator_of, scope_of, with_claims, presentation_of, no_field, field_twice, bad_prime, name_twice, bad_weight, too_many, unless, early_refusal, late_refusal, refusal_of, HasPresentation, lexical_refusal, IsRefused, lexically, for_depth, for_syntax, for_sense, Read}
+use Rattle.fpl_reader.specs.Reading.{too_deep, kind_of, generator_of, scope_of, with_claims, no_field, field_twice, bad_prime, name_twice, bad_weight, too_many, unless, early_refusal, late_refusal, refusal_of, HasPresentation, IsRefused, lexically, for_depth, for_syntax, for_sense, Read}
 use Rattle.fpl_reader.specs.declared.survey.Track.TheVariants as track
 use Rattle.fpl_reader.specs.Symbols.{symbol_of}
 use Rattle.fpl_reader.specs.Reading.{name_of, first_place, unknown_in}

@@ -1,5 +1,5 @@
 -- The events of a spelled sentence.
-use Rattle.std.proofs.Common.{◌≡◌, ℕ, List, [], ◌∷◌, ◌++◌, Bool, true, false, refl, ap, sym, ◌∙◌, append_assoc}
+use Rattle.std.proofs.Common.{◌≡◌, List, [], ◌∷◌, ◌++◌, Bool, true, false, refl, ap, sym, ◌∙◌, append_assoc}
 use Rattle.std.specs.Prelude.{None, Some}
 use Rattle.std.specs.declared.option.Option.{Option}
 use Rattle.fpl_model.specs.declared.presentation.Parity.{Parity}
@@ -9,11 +9,11 @@ use Rattle.fpl_syntax.specs.declared.symbol.Word.{Word}
 use Rattle.fpl_syntax.specs.declared.symbol.Numeral.{Numeral}
 use Rattle.fpl_syntax.specs.declared.expression.Scale.{Scale}
 use Rattle.fpl_syntax.specs.declared.expression.Scale.TheVariants.{One, Whole, Quotient}
-use Rattle.fpl_syntax.specs.Grammar.{Sum, sum, Terms, end, further, Term, term, Factor, name, zero, bracket, group, Statement, field, declare, relation, equation, ideal, equal, Naming, rationals, prime, Declaration, plainly, weighted, spell_scale, sign_of, spell_lead, spell_sum, spell_terms, spell_factor, spell_declaration, spell_declarations, spell_statement, spelling}
+use Rattle.fpl_syntax.specs.Grammar.{Sum, sum, Terms, end, further, term, Factor, name, zero, bracket, group, Statement, field, declare, relation, equation, ideal, equal, rationals, prime, Declaration, plainly, weighted, spell_scale, sign_of, spell_lead, spell_sum, spell_terms, spell_factor, spell_declarations, spell_statement, spelling}
 use Rattle.fpl_reader.specs.declared.survey.Event.{Event}
 use Rattle.fpl_reader.specs.declared.survey.Track.TheVariants as track
-use Rattle.fpl_reader.specs.Events.{events_scale, events_sum, events_terms, events_factor, declared_name, events_declared, events_statement, events_of}
-use Rattle.fpl_reader.specs.Scan.{note, scan, scan_of, event_list, some_declared}
+use Rattle.fpl_reader.specs.Events.{events_scale, events_sum, events_terms, events_factor, events_declared, events_statement, events_of}
+use Rattle.fpl_reader.specs.Scan.{scan, scan_of, event_list, some_declared}
 
 abbrev inside : List Symbol → List Event
 inside symbols = scan track.InClaim symbols

@@ -1,5 +1,5 @@
 -- A presentation that is read is sound.
-use Rattle.std.proofs.Common.{◌≡◌, ◌≢◌, ℕ, zero, suc, ◌+◌, ◌-◌, ◌<◌, ◌≤◌, ◌^◌, List, [], ◌∷◌, ◌++◌, length, map, sum, get_or, Bool, true, false, ◌&&◌, ◌||◌, ◌==◌, IsTrue, if◌then◌else◌, refl, ap, ap₂, sym, ◌∙◌, subst, arith, length-append}
+use Rattle.std.proofs.Common.{◌≡◌, ◌≢◌, ℕ, zero, suc, ◌+◌, ◌<◌, ◌≤◌, ◌^◌, List, [], ◌∷◌, ◌++◌, length, map, sum, get_or, Bool, true, false, ◌||◌, IsTrue, if◌then◌else◌, refl, ap, ap₂, sym, ◌∙◌, subst, arith, length-append}
 use Rattle.std.specs.Prelude.{None, Some, Result, Ok, Err, IfOk, All, nat_eq}
 use Rattle.fpl_reader.specs.declared.fault.ReaderError.{ReaderError}
 use Rattle.fpl_reader.specs.Reading.{Read}
@@ -10,8 +10,6 @@ use Rattle.std.proofs.lemmas.List.{length-map}
 use Rattle.std.proofs.lemmas.Slice.Eq.{bytes_eq-Decides}
 use Rattle.fpl_text.specs.Bytes.{IsName}
 use Rattle.fpl_numbers.specs.declared.number.Kind.{Kind}
-use Rattle.fpl_numbers.specs.Numbers.{IsField}
-use Rattle.fpl_numbers.specs.Kinds.{Number}
 use Rattle.fpl_algebra.specs.Tree.{Tree, Trees, gen, none, sum_of, multiple, bracket_of, end as last, more}
 use Rattle.fpl_algebra.specs.Tree as algebra
 use Rattle.fpl_algebra.specs.Degrees.{Degree, any, exact, mixed, of_both, of_bracket, same_parity, weight_of, weights_of, parity_of, parities_of, weight_of_both, parity_of_both}
@@ -21,10 +19,8 @@ use Rattle.fpl_model.specs.declared.presentation.Generator.{Generator}
 use Rattle.fpl_model.specs.declared.presentation.Equation.{Equation}
 use Rattle.fpl_model.specs.declared.presentation.Presentation.{Presentation}
 use Rattle.fpl_model.specs.Meaning.{plain, tree_in, in_field, presentation_in}
-use Rattle.fpl_model.specs.Sound.{IsWithin, IsExpression, IsHomogeneous, IsSoundEquation, IsSoundElement, IsSound, HaveWeights, count_tree, count_equation, places, deep, name_at}
+use Rattle.fpl_model.specs.Sound.{IsWithin, IsHomogeneous, IsSoundEquation, IsSoundElement, IsSound, count_tree, count_equation, places, deep}
 use Rattle.fpl_model.proofs.Plain.{plain-Zero}
-use Rattle.fpl_lex.specs.declared.token.Token.{Token}
-use Rattle.fpl_lex.specs.Cut.{Reads}
 use Rattle.fpl_syntax.specs.declared.symbol.Symbol.{Symbol}
 use Rattle.fpl_syntax.specs.declared.symbol.Symbol.TheVariants as mark
 use Rattle.fpl_syntax.specs.declared.symbol.ClaimKind.{ClaimKind}
@@ -32,27 +28,23 @@ use Rattle.fpl_syntax.specs.declared.symbol.ClaimKind.TheVariants.{Relation, Ide
 use Rattle.fpl_syntax.specs.declared.parser.Claim.{Claim}
 use Rattle.fpl_syntax.specs.declared.expression.Scale.{Scale}
 use Rattle.fpl_syntax.specs.declared.expression.Scale.TheVariants.{One, Whole, Quotient}
-use Rattle.fpl_syntax.specs.Grammar.{Scope, Sum, sum as sum_tree, Terms, end, further, Term, term, Factor, name, zero as nought, bracket, group, Statement, field, declare, relation, equation, ideal, equal, Naming, rationals, prime, Declaration, plainly, weighted, spell_scale, sign_of, spell_lead, spell_sum, spell_terms, spell_factor, spell_declarations, spell_statement, spelling, expression_of, equate, claims_in, claims_of}
+use Rattle.fpl_syntax.specs.Grammar.{Scope, Sum, sum as sum_tree, Terms, end, further, term, Factor, name, zero as nought, bracket, group, Statement, field, declare, relation, equation, ideal, equal, rationals, prime, Declaration, plainly, weighted, spell_scale, spell_lead, spell_sum, spell_terms, spell_factor, spell_declarations, spell_statement, spelling, expression_of, equate, claims_in, claims_of}
 use Rattle.fpl_syntax.specs.Kinds.{is_field}
 use Rattle.fpl_syntax.proofs.Coefficients.{known_field}
 use Rattle.fpl_reader.specs.declared.survey.Event.{Event}
 use Rattle.fpl_reader.specs.declared.survey.DeclaredName.{DeclaredName}
-use Rattle.fpl_reader.specs.declared.survey.Track.TheVariants as track
 use Rattle.fpl_reader.specs.Events.{events_scale, events_sum, events_terms, events_factor, events_statement, events_of, fields_in, declared_in}
 use Rattle.fpl_reader.specs.Symbols.{symbol_of, symbols_of}
-use Rattle.fpl_reader.specs.Scan.{scan_of}
-use Rattle.fpl_reader.specs.Reading.{name_of, generator_of, kind_of, scope_of, is_relation, is_ideal, is_equal, claimed_as, lefts, with_claims, presentation_of, name_twice, unknown_in, zero_in, is_mixed, mixed_weight_of, mixed_parity_of, first_place, or_else, HasPresentation}
+use Rattle.fpl_reader.specs.Reading.{name_of, generator_of, kind_of, scope_of, is_relation, is_ideal, is_equal, claimed_as, lefts, with_claims, name_twice, unknown_in, zero_in, is_mixed, mixed_weight_of, mixed_parity_of, first_place, HasPresentation}
 use Rattle.fpl_reader.proofs.Allowed.{All-cons, All-none, have_weights, few_names, known_kind}
 use Rattle.fpl_reader.proofs.ClaimTerms.{within}
 use Rattle.fpl_reader.proofs.Counting.{few_tokens}
-use Rattle.fpl_reader.proofs.DeclaredNames.{AreNames, symbols_fine, scan_fine}
+use Rattle.fpl_reader.proofs.DeclaredNames.{AreNames}
 use Rattle.fpl_reader.proofs.Nesting.{nest_sum, deep_sum, IsShallow, sum_passes, tokens_shallow}
-use Rattle.fpl_reader.proofs.Scanning.{sentence_scans}
 use Rattle.fpl_reader.specs.declared.fault.Reason.TheVariants as reason
 use Rattle.fpl_reader.specs.Reading.{late_refusal}
 use Rattle.fpl_reader.proofs.Readings.{unless_none, early_none_rest, text_names_of}
 use Rattle.fpl_reader.proofs.Terms.{first_place-append, or_else-none, places_sum}
-use Rattle.fpl_reader.proofs.Words.{text_words}
 
 -- names
 

@@ -1,7 +1,6 @@
 -- The tokens that a stream has left.
-use Rattle.std.proofs.Common.{◌≡◌, ℕ, ◌<◌, ◌≤◌, List, [], ◌∷◌, ◌++◌, length, drop, Result, refl, sym, ◌∙◌, ap, append_assoc}
+use Rattle.std.proofs.Common.{◌≡◌, ℕ, List, [], ◌∷◌, ◌++◌, drop, Result, refl, sym, ap, append_assoc}
 use Rattle.std.specs.Prelude.{Ok, Err, IsOk, None, Some}
-use Rattle.std.specs.declared.option.Option.{Option}
 use Rattle.fpl_lex.specs.declared.token.Token.{Token}
 use Rattle.fpl_lex.specs.declared.fault.LexError.{LexError}
 use Rattle.fpl_lex.specs.Cut.{joined}

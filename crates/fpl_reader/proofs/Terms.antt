@@ -1,11 +1,10 @@
 -- The expressions of a sentence whose names are all known are terms of its generators.
-use Rattle.std.proofs.Common.{◌≡◌, ℕ, zero, suc, ◌+◌, ◌-◌, ◌*◌, ◌<◌, ◌≤◌, ◌==◌, List, [], ◌∷◌, ◌++◌, length, map, Bool, true, false, ◌&&◌, IsTrue, cond, if◌then◌else◌, refl, ap, sym, ◌∙◌, subst, arith, length-append, append_assoc, ℤ, pos}
-use Rattle.std.specs.Prelude.{None, Some, nat_le}
+use Rattle.std.proofs.Common.{◌≡◌, ℕ, zero, suc, ◌≤◌, ◌==◌, List, [], ◌∷◌, ◌++◌, length, map, Bool, true, false, if◌then◌else◌, refl, ap, ◌∙◌, arith, length-append}
+use Rattle.std.specs.Prelude.{None, Some}
 use Rattle.std.specs.declared.option.Option.{Option}
 use Rattle.fpl_numbers.specs.declared.number.Num.{Num}
 use Rattle.fpl_numbers.specs.declared.number.Kind.{Kind}
-use Rattle.fpl_numbers.specs.Numbers.{IsElement, IsField, residue, bound}
-use Rattle.fpl_numbers.specs.Quotients.{quotient_of}
+use Rattle.fpl_numbers.specs.Numbers.{IsElement}
 use Rattle.fpl_algebra.specs.Tree.{Tree, Trees, gen, none, sum_of, multiple, bracket_of, end as last, more, trees}
 use Rattle.fpl_model.specs.declared.expr.Expr.{Expr}
 use Rattle.fpl_model.specs.declared.expr.Expr as expr
@@ -13,12 +12,10 @@ use Rattle.fpl_model.specs.Meaning.{plain}
 use Rattle.fpl_model.specs.Sound.{IsTerm, AreTerms, IsWithin, AreWithin, count_tree, count_trees}
 use Rattle.fpl_model.proofs.Plain.{plain-Gen, plain-Zero, plain-Sum, plain-Times, plain-Br}
 use Rattle.fpl_syntax.specs.declared.symbol.Word.{Word}
-use Rattle.fpl_syntax.specs.declared.symbol.Numeral.{Numeral}
 use Rattle.fpl_syntax.specs.declared.expression.Scale.{Scale}
 use Rattle.fpl_syntax.specs.declared.expression.Scale.TheVariants.{One, Whole, Quotient}
-use Rattle.fpl_syntax.specs.Grammar.{Scope, Sum, sum, Terms, end, further, Term, term, Factor, name, zero as nought, bracket, group, coefficient_of, term_of, total, expression_of, further_of, factor_of}
+use Rattle.fpl_syntax.specs.Grammar.{Scope, Sum, sum, Terms, end, further, term, Factor, name, zero as nought, bracket, group, coefficient_of, term_of, total, expression_of, further_of, factor_of}
 use Rattle.fpl_reader.specs.declared.survey.Event.{Event}
-use Rattle.fpl_reader.specs.declared.survey.Event.TheVariants.{FieldNamed, Declared, Used, Divided}
 use Rattle.fpl_reader.specs.Events.{events_scale, events_sum, events_terms, events_factor}
 use Rattle.fpl_reader.specs.Reading.{or_else, first_place, unknown_in}
 

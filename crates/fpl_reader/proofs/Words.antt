@@ -1,12 +1,9 @@
 -- The names of a text are names.
-use Rattle.std.proofs.Common.{◌≡◌, ℕ, zero, suc, ◌+◌, ◌-◌, ◌<◌, ◌≤◌, List, [], ◌∷◌, ◌++◌, length, map, take, drop, Bool, true, false, ◌&&◌, ◌==◌, nat_lt, nat_le, IsTrue, cond, if◌then◌else◌, refl, ap, sym, ◌∙◌, subst, arith, length-append, append_assoc, Result}
-use Rattle.std.specs.Prelude.{None, Some, Ok, Err, codes, slice_range, Contains}
-use Rattle.std.specs.List.{list_all}
-use Rattle.std.specs.Str.{bytes_eq}
-use Rattle.std.specs.declared.option.Option.{Option}
+use Rattle.std.proofs.Common.{◌≡◌, ℕ, ◌+◌, ◌-◌, ◌≤◌, List, [], ◌∷◌, ◌++◌, length, Bool, true, false, nat_lt, nat_le, IsTrue, if◌then◌else◌, refl, ap, sym, ◌∙◌, subst, arith, length-append, append_assoc, Result}
+use Rattle.std.specs.Prelude.{Ok, Err}
 use Rattle.std.proofs.lemmas.Bool.{ltb-false, le-leb}
 use Rattle.std.proofs.Math.Seq.{drop-append_seam, take-append_seam}
-use Rattle.fpl_text.specs.Bytes.{is_letter, is_word_byte, is_word, most_name, reserved, IsName}
+use Rattle.fpl_text.specs.Bytes.{is_word, most_name}
 use Rattle.fpl_lex.specs.declared.token.Token.{Token}
 use Rattle.fpl_lex.specs.declared.token.TokenKind.{TokenKind}
 use Rattle.fpl_lex.specs.declared.token.TokenKind.TheVariants as kinds

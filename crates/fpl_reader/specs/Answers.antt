@@ -3,7 +3,7 @@
 --   bare_of text           the presentation of a text's field and generators alone
 --   IsLexicalRefusal e r   a lexical fault, as an error
 --   IsRefusal text r       an error is a refusal of the text, unless it is want of memory
-use Rattle.std.specs.Prelude.{◌≡◌, ℕ, List, [], map, None, Some}
+use Rattle.std.specs.Prelude.{◌≡◌, ℕ, List, [], map, Some}
 use Rattle.fpl_model.specs.declared.presentation.Presentation.{Presentation}
 use Rattle.fpl_lex.specs.declared.fault.LexError.{LexError}
 use Rattle.fpl_reader.specs.declared.fault.ReaderError.{ReaderError}

@@ -3,20 +3,17 @@
 --   Event                   one of these
 --   events_sum, events_of   those of an expression, and of a sentence
 --   fields_in, declared_in  the fields and the declarations among them
-use Rattle.std.specs.Prelude.{ℕ, List, [], ◌∷◌, ◌++◌}
+use Rattle.std.specs.Prelude.{List, [], ◌∷◌, ◌++◌}
 use Rattle.fpl_model.specs.declared.presentation.Parity.{Parity}
-use Rattle.fpl_syntax.specs.declared.symbol.Word.{Word}
-use Rattle.fpl_syntax.specs.declared.symbol.Numeral.{Numeral}
 use Rattle.fpl_syntax.specs.declared.expression.Scale.{Scale}
 use Rattle.fpl_syntax.specs.declared.expression.Scale.TheVariants.{One, Whole, Quotient}
-use Rattle.fpl_syntax.specs.Grammar.{Sum, sum, Terms, end, further, Term, term, Factor, name, zero, bracket, group, Statement, field, declare, relation, equation, ideal, equal, Naming, rationals, prime, Declaration, plainly, weighted}
+use Rattle.fpl_syntax.specs.Grammar.{Sum, sum, Terms, end, further, term, Factor, name, zero, bracket, group, Statement, field, declare, relation, equation, ideal, equal, Naming, rationals, prime, Declaration, plainly, weighted}
 use Rattle.fpl_reader.specs.declared.survey.Event.{Event}
 use Rattle.fpl_reader.specs.declared.survey.Event.TheVariants.{FieldNamed, Declared, Used, Divided}
 use Rattle.fpl_reader.specs.declared.survey.FieldName.{FieldName}
 use Rattle.fpl_reader.specs.declared.survey.FieldName.TheVariants as field_name
 use Rattle.fpl_reader.specs.declared.survey.FieldStatement.{FieldStatement}
 use Rattle.fpl_reader.specs.declared.survey.DeclaredName.{DeclaredName}
-use Rattle.std.specs.declared.option.Option.{Option}
 use Rattle.std.specs.Prelude.{None, Some}
 
 abbrev pub events_scale : Scale → List Event

@@ -14,7 +14,7 @@
 --   HasPresentation text p  the text is p
 --   IsRefused text place reason   the text is no presentation, for this reason, which holds first at this place
 --   Read                     what `read` answers
-use Rattle.std.specs.Prelude.{◌≡◌, ℕ, ◌+◌, ◌-◌, pos, List, [], ◌∷◌, ◌++◌, length, map, take, slice_get, Bool, true, false, ◌==◌, ◌&&◌, ◌||◌, nat_le, nat_lt, Result, Ok, Err, None, Some, if◌then◌else◌}
+use Rattle.std.specs.Prelude.{◌≡◌, ℕ, ◌+◌, ◌-◌, pos, List, [], ◌∷◌, ◌++◌, length, map, slice_get, Bool, true, false, ◌==◌, ◌&&◌, ◌||◌, nat_le, nat_lt, Result, Ok, Err, None, Some, if◌then◌else◌}
 use Rattle.std.specs.List.{list_any}
 use Rattle.std.specs.Option.{option_map}
 use Rattle.std.specs.Str.{bytes_eq}
@@ -35,7 +35,6 @@ use Rattle.fpl_lex.specs.declared.token.TokenKind.TheVariants as kinds
 use Rattle.fpl_lex.specs.declared.fault.LexError.{LexError}
 use Rattle.fpl_lex.specs.declared.fault.LexError.TheVariants as lexical
 use Rattle.fpl_lex.specs.Cut.{Reads}
-use Rattle.fpl_syntax.specs.declared.symbol.Word.{Word}
 use Rattle.fpl_syntax.specs.declared.symbol.Numeral.{Numeral}
 use Rattle.fpl_syntax.specs.declared.symbol.ClaimKind.{ClaimKind}
 use Rattle.fpl_syntax.specs.declared.symbol.ClaimKind.TheVariants.{Relation, Ideal, Equal}
@@ -44,7 +43,7 @@ use Rattle.fpl_syntax.specs.Grammar.{Scope, Statement, spelling, claims_of, IsFa
 use Rattle.fpl_syntax.specs.Kinds.{is_listed}
 use Rattle.fpl_syntax.specs.Sight.{word_of, number_from}
 use Rattle.fpl_reader.specs.declared.survey.Event.{Event}
-use Rattle.fpl_reader.specs.declared.survey.Event.TheVariants.{FieldNamed, Declared, Used, Divided}
+use Rattle.fpl_reader.specs.declared.survey.Event.TheVariants.{Used, Divided}
 use Rattle.fpl_reader.specs.declared.survey.FieldName.{FieldName}
 use Rattle.fpl_reader.specs.declared.survey.FieldName.TheVariants as field_name
 use Rattle.fpl_reader.specs.declared.survey.FieldStatement.{FieldStatement}

@@ -3,11 +3,11 @@
 --   note          what a symbol is, and what may be noted after it
 --   scan          the events of the symbols
 --   scan_of       the events of a sentence's symbols
-use Rattle.std.specs.Prelude.{ℕ, List, [], ◌∷◌, ◌++◌, None, Some, if◌then◌else◌}
+use Rattle.std.specs.Prelude.{ℕ, List, [], ◌∷◌, ◌++◌, None, Some}
 use Rattle.std.specs.declared.option.Option.{Option}
 use Rattle.fpl_model.specs.declared.presentation.Parity.{Parity}
 use Rattle.fpl_syntax.specs.declared.symbol.Symbol.{Symbol}
-use Rattle.fpl_syntax.specs.declared.symbol.Symbol.TheVariants.{Field, Declare, Claim, Name, Number, Semicolon, Comma, Colon, Slash}
+use Rattle.fpl_syntax.specs.declared.symbol.Symbol.TheVariants.{Field, Declare, Claim, Name, Number, Semicolon, Comma, Slash}
 use Rattle.fpl_reader.specs.declared.survey.Event.{Event}
 use Rattle.fpl_reader.specs.declared.survey.Event.TheVariants.{FieldNamed, Declared, Used, Divided}
 use Rattle.fpl_syntax.specs.declared.symbol.Word.{Word}

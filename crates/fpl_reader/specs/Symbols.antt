@@ -4,7 +4,7 @@
 --   mark_symbol b        the symbol of a mark
 --   symbol_of text t     the symbol of a token
 --   symbols_of text ts   the symbols of tokens
-use Rattle.std.specs.Prelude.{ℕ, ◌==◌, List, map, codes, Bool, true, false, if◌then◌else◌}
+use Rattle.std.specs.Prelude.{ℕ, ◌==◌, List, map, codes, if◌then◌else◌}
 use Rattle.std.specs.Str.{bytes_eq}
 use Rattle.fpl_lex.specs.declared.token.Token.{Token}
 use Rattle.fpl_lex.specs.declared.token.TokenKind.{TokenKind}

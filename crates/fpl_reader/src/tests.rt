@@ -1,5 +1,14 @@
 use crate::{ReaderError, read};
-use std::alloc::AllocError;
+use fpl_model::Presentation;
+use std::alloc::{AllocError, Global};
+
+// The texts below are short.
+fn read_short(alloc: Global, text: &str) -> Result<Presentation, ReaderError> {
+    if text.len() > 1000 {
+        return Err(ReaderError::NoMemory);
+    }
+    read(alloc, text.as_bytes())
+}
 
 // The texts, with the place and the reason of their refusals, are those of an independent program.
 #[test]
@@ -80,7 +89,7 @@ fn refusals_have_the_first_reason(rt: HostRuntime) -> Result<(), AllocError> {
         ("1a b2", 0, "syntax"),
     ];
     for (text, want, why) in cases {
-        match read(rt.alloc(), text.as_bytes()) {
+        match read_short(rt.alloc(), text) {
             Err(ReaderError::Refused { place, reason }) => {
                 let shown = format!(in rt.alloc(); "{reason}")?;
                 assert_eq!(rt; place, want, "{text}");
@@ -106,7 +115,7 @@ fn texts_of_the_grammar_are_read(rt: HostRuntime) {
         "field 0007; even x; relation 0001*x = 8*x;",
     ];
     for text in cases {
-        assert!(rt; read(rt.alloc(), text.as_bytes()).is_ok(), "{text}");
+        assert!(rt; read_short(rt.alloc(), text).is_ok(), "{text}");
     }
 }
 
@@ -114,7 +123,7 @@ fn texts_of_the_grammar_are_read(rt: HostRuntime) {
 fn a_file_with_comments_is_read(rt: HostRuntime) {
     let text =
         "# strictly upper triangular 5 by 5 matrices\nfield Q;\neven e1, e2, e3, e4;\nrelation [e1,e3]; relation [e1,e4]; relation [e2,e4];\nrelation [e1,[e1,e2]]; relation [e2,[e2,e1]];\nideal e1 - 1/2*e2; equal [e1,e2] = -[e2,e1];\n";
-    match read(rt.alloc(), text.as_bytes()) {
+    match read_short(rt.alloc(), text) {
         Ok(p) => {
             assert_eq!(rt; p.generators.len(), 4);
             assert_eq!(rt; p.relations.len(), 5);

@@ -1,14 +1,13 @@
 -- What the quotient of a scope's field needs.
-use Rattle.std.proofs.Common.{◌≡◌, ℕ, ◌≤◌, List, [], ◌∷◌, Bool, true, false, ◌||◌, ◌==◌, IsTrue, refl, arith, pos, negsuc, suc, zero}
-use Rattle.std.specs.Prelude.{Contains, unsigned_abs, neg_ℤ}
-use Rattle.std.specs.List.{list_any}
+use Rattle.std.proofs.Common.{ℕ, ◌≤◌, Bool, true, false, ◌==◌, IsTrue, suc, zero}
+use Rattle.std.specs.Prelude.{unsigned_abs}
 use Rattle.std.proofs.lemmas.Bool.{eqb-true}
 use Rattle.std.proofs.lemmas.Map.Views.{Contains-from_any}
 use Rattle.fpl_numbers.specs.declared.number.TheConstants.{PRIMES}
 use Rattle.fpl_numbers.specs.declared.number.Kind.{Kind}
 use Rattle.fpl_numbers.specs.declared.number.Kind.TheVariants.{Rational, Prime}
-use Rattle.fpl_numbers.specs.Numbers.{IsField, IsListed, bound}
-use Rattle.fpl_syntax.specs.Kinds.{is_listed, is_field}
+use Rattle.fpl_numbers.specs.Numbers.{IsField, bound}
+use Rattle.fpl_syntax.specs.Kinds.{is_field}
 use Rattle.fpl_syntax.specs.Grammar.{signed}
 
 pub known_field : (kind : Kind) → IsTrue (is_field kind) → IsField kind

@@ -1,5 +1,5 @@
 -- The machine over a spelled sentence.
-use Rattle.std.proofs.Common.{◌≡◌, ℕ, List, [], ◌∷◌, ◌++◌, Bool, true, false, refl, ap, ap₂, sym, ◌∙◌, subst, append_assoc}
+use Rattle.std.proofs.Common.{◌≡◌, ℕ, List, [], ◌∷◌, ◌++◌, Bool, true, false, refl, ap, sym, ◌∙◌, append_assoc}
 use Rattle.std.specs.Prelude.{None, Some, MatchOption}
 use Rattle.std.specs.declared.option.Option.{Option}
 use Rattle.std.proofs.lemmas.List.{append-nil}
@@ -7,21 +7,18 @@ use Rattle.fpl_model.specs.declared.expr.Expr.{Expr}
 use Rattle.fpl_model.specs.declared.expr.Expr as expr
 use Rattle.fpl_syntax.specs.declared.symbol.Symbol.{Symbol}
 use Rattle.fpl_syntax.specs.declared.symbol.Symbol.TheVariants as mark
-use Rattle.fpl_syntax.specs.declared.symbol.Numeral.{Numeral}
 use Rattle.fpl_syntax.specs.declared.expression.Scale.{Scale}
 use Rattle.fpl_syntax.specs.declared.expression.Scale.TheVariants.{One, Whole, Quotient}
 use Rattle.fpl_syntax.specs.declared.expression.Wait.{Wait}
 use Rattle.fpl_syntax.specs.declared.expression.Wait.TheVariants as wait
 use Rattle.fpl_syntax.specs.declared.expression.Opener.TheVariants.{Left, Right, Group}
 use Rattle.fpl_syntax.specs.declared.expression.Frame.{Frame}
-use Rattle.fpl_syntax.specs.declared.expression.Partial.{Partial}
-use Rattle.fpl_syntax.specs.declared.parser.State.{State}
 use Rattle.fpl_syntax.specs.declared.parser.State.TheVariants as state
 use Rattle.fpl_syntax.specs.declared.parser.Side.{Side}
 use Rattle.fpl_syntax.specs.declared.parser.Claim.{Claim}
 use Rattle.fpl_syntax.specs.declared.symbol.ClaimKind.{ClaimKind}
 use Rattle.fpl_syntax.specs.declared.symbol.ClaimKind.TheVariants.{Relation, Ideal, Equal}
-use Rattle.fpl_syntax.specs.Grammar.{Scope, Sum, sum, Terms, end, further, Term, term, Factor, name, zero, bracket, group, Statement, field, declare, relation, equation, ideal, equal, Naming, rationals, prime, Declaration, plainly, weighted, spell_scale, sign_of, spell_lead, spell_sum, spell_terms, spell_factor, naming_symbol, spell_declaration, spell_declarations, spell_statement, spelling, term_of, total, expression_of, further_of, factor_of, equate, claims_in, claims_of}
+use Rattle.fpl_syntax.specs.Grammar.{Scope, Sum, sum, Terms, end, further, term, Factor, name, zero, bracket, group, Statement, field, declare, relation, equation, ideal, equal, rationals, prime, Declaration, plainly, weighted, spell_scale, spell_sum, spell_terms, spell_factor, spell_declarations, spell_statement, spelling, term_of, total, expression_of, further_of, factor_of, claims_in, claims_of}
 use Rattle.fpl_syntax.specs.Machine.{split_last, after_first, summed, Answer, step_state, side_from, end_side, turn_side, Takes, fresh}
 
 pub split_last-append : {A : Type 0} (xs : List A) (x : A) → split_last (xs ++ x ∷ []) ≡ Some (xs, x)

@@ -1,6 +1,6 @@
 -- What the machine accepts is a sentence, and where it stops no sentence goes on.
-use Rattle.std.proofs.Common.{◌≡◌, ℕ, ◌+◌, ◌-◌, List, [], ◌∷◌, ◌++◌, length, Bool, true, false, if◌then◌else◌, refl, ap, ap₂, sym, ◌∙◌, subst, append_assoc, arith}
-use Rattle.std.specs.Prelude.{None, Some, Result, Ok, Err}
+use Rattle.std.proofs.Common.{◌≡◌, ℕ, List, [], ◌∷◌, ◌++◌, Bool, true, false, if◌then◌else◌, refl, ap, sym, ◌∙◌, append_assoc}
+use Rattle.std.specs.Prelude.{None, Some}
 use Rattle.std.specs.declared.option.Option.{Option}
 use Rattle.std.proofs.lemmas.List.{append-nil}
 use Rattle.fpl_model.specs.declared.expr.Expr.{Expr}
@@ -18,10 +18,9 @@ use Rattle.fpl_syntax.specs.declared.parser.State.{State}
 use Rattle.fpl_syntax.specs.declared.parser.State.TheVariants as state
 use Rattle.fpl_syntax.specs.declared.parser.Side.{Side}
 use Rattle.fpl_syntax.specs.declared.parser.Claim.{Claim}
-use Rattle.fpl_syntax.specs.Grammar.{Scope, Sum, Statement, field, declare, relation, equation, ideal, equal, Naming, rationals, prime, Declaration, plainly, weighted, spell_sum, naming_symbol, spell_declaration, spell_declarations, spell_statement, spelling, equate, expression_of, claims_in, claims_of, IsSentence, Begins, GoesWrong, IsFaultAt}
-use Rattle.fpl_syntax.specs.Machine.{Answer, fresh, side_from, goes, closed, turned, with_claim, end_side, turn_side, continued, step_outside, step_side, step_state, step_wait, finished, ended, or_fault, parse_from, parse_of}
-use Rattle.fpl_syntax.proofs.Running.{run, sentence_runs}
-use Rattle.fpl_syntax.proofs.Stages.{Held, Inner, start, spell_held, spell_inner, view, view_held, view_inner, Accepts, accepts, Finishes, finishes, complete, nought_sum, nought_symbol}
+use Rattle.fpl_syntax.specs.Grammar.{Scope, Sum, Statement, field, declare, relation, equation, ideal, equal, Naming, rationals, prime, Declaration, plainly, weighted, spell_sum, naming_symbol, spell_declaration, spell_declarations, spell_statement, spelling, equate, expression_of, claims_in, claims_of}
+use Rattle.fpl_syntax.specs.Machine.{Answer, side_from, goes, end_side, turn_side, continued, step_side, step_state}
+use Rattle.fpl_syntax.proofs.Stages.{Held, Inner, start, spell_held, spell_inner, view, Accepts, accepts, Finishes, finishes, complete, nought_sum, nought_symbol}
 
 -- a side of a claim that is being read, with what was read before it
 pub data Claiming : Type 0 where

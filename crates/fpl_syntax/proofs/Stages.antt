@@ -7,7 +7,7 @@
 --   spell_..       their symbols, before those that follow
 --   view_..        what the machine holds of them
 --   rest_..        how they may be completed
-use Rattle.std.proofs.Common.{◌≡◌, ℕ, List, [], ◌∷◌, ◌++◌, Bool, true, false, ◌==◌, if◌then◌else◌, refl, ap, ap₂, sym, ◌∙◌, append_assoc}
+use Rattle.std.proofs.Common.{◌≡◌, List, [], ◌∷◌, ◌++◌, Bool, true, false, ◌==◌, if◌then◌else◌, refl, ap, ap₂, sym, ◌∙◌, append_assoc}
 use Rattle.std.specs.Prelude.{None, Some, map}
 use Rattle.std.specs.declared.option.Option.{Option}
 use Rattle.std.proofs.lemmas.Bool.{eqb-true}
@@ -26,7 +26,7 @@ use Rattle.fpl_syntax.specs.declared.expression.Opener.TheVariants.{Left, Right,
 use Rattle.fpl_syntax.specs.declared.expression.Frame.{Frame}
 use Rattle.fpl_syntax.specs.declared.expression.Partial.{Partial}
 use Rattle.fpl_syntax.specs.Grammar.{Scope, Sum, sum, Terms, end, further, Term, term, Factor, name, zero, bracket, group, spell_scale, sign_of, spell_lead, spell_sum, spell_terms, spell_factor, term_of, total, expression_of, further_of, factor_of}
-use Rattle.fpl_syntax.specs.Machine.{split_last, summed, fresh, begin_factor, begin_term, begin_sum, after_term, after_number, denominator, after_denominator, step_wait, last_term, at_top, finished_sum, finished, settled, opened, signed, enclosed, inside}
+use Rattle.fpl_syntax.specs.Machine.{split_last, summed, begin_factor, begin_term, begin_sum, after_term, after_number, step_wait, at_top, finished_sum, finished, settled, signed, enclosed, inside}
 use Rattle.fpl_syntax.proofs.Running.{split_last-append, summed-total}
 
 pub data Front : Type 0 where

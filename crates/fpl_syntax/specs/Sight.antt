@@ -3,11 +3,10 @@
 --   word_of text start end    the bytes of a word
 --   number_from n names word  the number of a name in a list whose first has the number n, or 0 where it isn't there
 --   sight                     the scope, in which names stand for the generators of a list
-use Rattle.std.specs.Prelude.{ℕ, ◌+◌, List, [], ◌∷◌, map, nat_le, ◌&&◌, length, slice_range, if◌then◌else◌}
+use Rattle.std.specs.Prelude.{ℕ, ◌+◌, List, [], ◌∷◌, nat_le, ◌&&◌, length, slice_range, if◌then◌else◌}
 use Rattle.std.specs.Str.{bytes_eq}
 use Rattle.fpl_model.specs.declared.presentation.Generator.{Generator}
 use Rattle.fpl_syntax.specs.declared.scope.Scope as declared
-use Rattle.fpl_syntax.specs.declared.symbol.Word.{Word}
 use Rattle.fpl_syntax.specs.Grammar.{Scope}
 
 abbrev pub word_of : List ℕ → ℕ → ℕ → List ℕ

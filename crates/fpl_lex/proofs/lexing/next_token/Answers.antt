@@ -1,4 +1,4 @@
-use Rattle.std.proofs.Common.{◌≡◌, sym, ◌∙◌, arith}
+use Rattle.std.proofs.Common.{◌∙◌, arith}
 use Rattle.fpl_lex.specs.declared.lexing.Advance.TheVariants.{Into, Ends, Fault}
 use Rattle.fpl_lex.proofs.Advancing.{advanced}
 use Rattle.fpl_lex.proofs.lexing.next_token.Goals as goal

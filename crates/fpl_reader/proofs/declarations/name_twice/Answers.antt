@@ -1,4 +1,4 @@
-use Rattle.std.proofs.Common.{◌≡◌, [], ◌+◌, ◌<◌, length, sym, ap, ◌∙◌, arith}
+use Rattle.std.proofs.Common.{[], ◌<◌, length, sym, ap, ◌∙◌, arith}
 use Rattle.std.specs.Prelude.{is_some}
 use Rattle.fpl_reader.proofs.Twice.{twice_by-same, name_twice-by, has, has_none, has_more, twice_more}
 use Rattle.fpl_reader.proofs.declarations.name_twice.Goals as goal

@@ -1,4 +1,4 @@
-use Rattle.std.proofs.Common.{◌≡◌, ◌+◌, length, arith}
+use Rattle.std.proofs.Common.{◌+◌, length, arith}
 use Rattle.fpl_syntax.specs.Sight.{sight}
 use Rattle.fpl_reader.specs.Texts.{text_tokens}
 use Rattle.fpl_reader.proofs.Parsing.{parse_more, place_more, count_more, fault_here, fault_end}

@@ -1,4 +1,4 @@
-use Rattle.std.proofs.Common.{◌≡◌, ◌≤◌, ◌<◌, ◌+◌, ◌^◌, length}
+use Rattle.std.proofs.Common.{◌≡◌, ◌<◌, ◌+◌, ◌^◌, length}
 use Rattle.fpl_reader.specs.Texts.{text_tokens}
 use Rattle.fpl_reader.specs.Reading.{too_deep}
 use Rattle.fpl_reader.proofs.tokens.depth_fault.Given as goal

@@ -1,7 +1,6 @@
 use Rattle.std.proofs.Common.{[], ◌∷◌, ◌++◌, ap, ◌∙◌}
 use Rattle.std.specs.Prelude.{Ok}
 use Rattle.fpl_lex.specs.Cut.{joined}
-use Rattle.fpl_lex.specs.Machine.{lex_from}
 use Rattle.fpl_reader.proofs.Streams.{joined_more}
 use Rattle.fpl_reader.proofs.tokens.lexical_fault.Goals as goal
 

@@ -1,5 +1,4 @@
 use Rattle.fpl_syntax.proofs.Running.{taken}
-use Rattle.fpl_syntax.proofs.Sentences
 use Rattle.fpl_syntax.proofs.expression.take_frame.Goals as goal
 
 pub returns : goal.returns

@@ -1,5 +1,5 @@
 use Rattle.std.proofs.Common.{◌≡◌, ◌+◌, drop}
-use Rattle.fpl_syntax.specs.Sight.{number_from, word_of}
+use Rattle.fpl_syntax.specs.Sight.{number_from}
 use Rattle.fpl_syntax.proofs.naming.number_of.Given as goal
 
 abbrev pub invariant-loop-g : goal.invariant-loop-g
