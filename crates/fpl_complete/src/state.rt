@@ -2,10 +2,8 @@ ghost use Rattle.std.specs.Prelude.{◌≡◌, ◌≤◌, ◌<◌, ◌+◌, ◌�
 ghost use Rattle.fpl_numbers.specs.declared.number.Num.{Num};
 ghost use Rattle.fpl_numbers.specs.declared.number.Op.{Op};
 ghost use Rattle.fpl_numbers.specs.declared.number.Kind.{Kind};
-ghost use Rattle.fpl_rows.specs.Meaning.{AreRows};
 ghost use Rattle.fpl_model.specs.Sound.{IsSound};
-ghost use Rattle.fpl_table.specs.Push.{push_of};
-ghost use Rattle.fpl_table.specs.Standard.{start_of, count_of, count_through, IsTableOf, PassesAt};
+ghost use Rattle.fpl_table.specs.Standard.{start_of, count_through, IsTableOf};
 ghost use Rattle.fpl_rewrite.specs.Origins.{origins_of};
 ghost use Rattle.fpl_completion.specs.Weight.{next_of};
 ghost use Rattle.fpl_complete.specs.State.{PassesAfter, unfit_of};
@@ -13,7 +11,6 @@ ghost use Rattle.fpl_complete.specs.State.{PassesAfter, unfit_of};
 use crate::RaiseFault;
 use crate::weight::close_weight;
 use fpl_model::Presentation;
-use fpl_rows::Rows;
 use fpl_scalar::{Fault, Field};
 use fpl_steps::Steps;
 use fpl_table::Table;
@@ -43,17 +40,6 @@ impl<F: Field> Model for State<F> {
     ghost view = { λ s. record { presentation = s.presentation; table = s.table } };
 
     ghost invariant = { λ s. IsState s.presentation s.table s.count };
-}
-
-fn push_weight<F: Field>(table: &mut Table<F>, _rows: &Rows<F>) -> Result<(), AllocError>
-    requires below { table.old.weight < 1000 }
-    requires few { count_of table.old (table.old.weight + 1) ≤ 2000000 }
-    requires rows { AreRows table.old.kind (count_of table.old (table.old.weight + 1)) _rows.now }
-    ensures value { OnOk result (table.new ≡ push_of table.old _rows.now) }
-    ensures unchanged { OnErr result (table.new ≡ table.old) }
-{
-    let _ = table.weight();
-    Err(AllocError)
 }
 
 impl<F: Field> State<F> {
@@ -136,7 +122,7 @@ impl<F: Field> State<F> {
                 });
             }
         };
-        match push_weight(&mut self.table, &closed.rows) {
+        match self.table.push_weight(&closed.rows) {
             Ok(()) => {
                 self.count = count;
                 Ok(())

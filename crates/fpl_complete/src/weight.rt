@@ -1,5 +1,4 @@
-ghost use Rattle.std.specs.Prelude.{◌≡◌, ◌≤◌, ◌+◌, length, IfOk, OnOk, OnErr, Contains};
-ghost use Rattle.std.specs.Prelude.{Ok};
+ghost use Rattle.std.specs.Prelude.{◌≡◌, ◌≤◌, ◌+◌, length, Ok, IfOk, OnOk, Contains};
 ghost use Rattle.fpl_numbers.specs.Results.{Gives, GivesBy, map_ok, and_then};
 ghost use Rattle.fpl_rows.specs.Meaning.{IsClosedList};
 ghost use Rattle.fpl_elimination.specs.Plain.{Held, rows_of, sweep_rows};
