@@ -4,9 +4,9 @@ use Rattle.std.specs.Prelude.{◌≢◌, IfSome}
 use Rattle.std.specs.declared.option.Option.{Option}
 use Rattle.fplsa.specs.declared.status.Status.{Status}
 use Rattle.fplsa.specs.declared.status.Status.TheVariants.{Done, Usage, Refused, Limit, NoMemory, ReadFault, WriteFault, NotBuilt}
-use Rattle.fplsa.specs.declared.words.View.TheVariants.{Table, Check, Sample}
+use Rattle.fplsa.specs.declared.words.View.TheVariants.{Table}
 use Rattle.fplsa.specs.Reply.{Reply, done, IsFree, status_of}
-use Rattle.fplsa.specs.Answer.{Answers, AnswersCommand, AnswersText, IsUnread, most_bytes}
+use Rattle.fplsa.specs.Answer.{Answers, IsUnread}
 use Rattle.fplsa.specs.Answer.AnswersPresentation.{table_done}
 use Rattle.fplsa.specs.Answer.AnswersText.{presentation}
 use Rattle.fplsa.specs.Answer.AnswersCommand.{text}

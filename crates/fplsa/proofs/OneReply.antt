@@ -1,11 +1,9 @@
 -- Words and the bytes of an input have at most one reply.
-use Rattle.std.proofs.Common.{◌≡◌, ℕ, ◌+◌, ◌-◌, ◌<◌, ◌≤◌, List, length, refl, sym, ap, ◌∙◌, subst, arith}
-use Rattle.std.specs.Prelude.{◌≢◌}
+use Rattle.std.proofs.Common.{◌≡◌, ℕ, ◌-◌, ◌<◌, ◌≤◌, List, refl, sym, ap, ◌∙◌, subst, arith}
 use mathlib.Core.Path.{ap₂}
 use native.Mathlib.Decide.{dec_lt}
 use Rattle.fpl_model.specs.declared.presentation.Presentation.{Presentation}
 use Rattle.fpl_model.specs.Sound.{IsSound}
-use Rattle.fpl_reader.specs.declared.fault.Reason.{Reason}
 use Rattle.fpl_reader.proofs.OneAnswer.{one_presentation, one_refusal, not_both}
 use Rattle.fpl_reader.proofs.Soundness.{presentation_sound}
 use Rattle.fpl_table.specs.Plain.{PlainTable}
@@ -15,9 +13,8 @@ use Rattle.fpl_next.proofs.One.{tables_are_one}
 use Rattle.fpl_print.specs.TableText.{table_text, names_of}
 use Rattle.fpl_print.proofs.OneText.{one_text}
 use Rattle.fplsa.specs.declared.words.Command.{Command}
-use Rattle.fplsa.specs.Words.{IsCommand}
 use Rattle.fplsa.specs.Reply.{Reply, done, refused, limit}
-use Rattle.fplsa.specs.Answer.{Answers, AnswersCommand, AnswersText, AnswersPresentation, reason_text, most_text, most_bytes}
+use Rattle.fplsa.specs.Answer.{AnswersCommand, AnswersText, AnswersPresentation, reason_text}
 use Rattle.fplsa.specs.Answer.AnswersPresentation.{view_not_built, fractions_not_built, too_many_symbols, table_done}
 use Rattle.fplsa.specs.Answer.AnswersText.{text_too_long, no_presentation, presentation}
 use Rattle.fplsa.specs.Answer.AnswersCommand.{unread, input_too_long, checkpoint_not_built, text}

@@ -1,17 +1,17 @@
 -- The part of a standard table through a lower weight, and the numbers of symbols that it shares with the whole.
-use Rattle.std.specs.Prelude.{ℕ, zero, suc, ◌≡◌, ◌⊎◌, ◌<◌, ◌≤◌, ◌+◌, ◌-◌, length, List, [], ◌∷◌, ◌++◌, get_or}
-use mathlib.Core.Path.{sym, refl, ap, ap₂, ◌∙◌, subst}
+use Rattle.std.specs.Prelude.{ℕ, zero, suc, ◌≡◌, ◌<◌, ◌≤◌, ◌+◌, ◌-◌, length, List, [], ◌∷◌, get_or}
+use mathlib.Core.Path.{sym, refl, ap, ap₂, ◌∙◌}
 use mathlib.Core.Logic.{inl, inr}
 use native.Mathlib.Omega.{arith}
 use native.Mathlib.Decide.{ℕ_discrete, dec_lt}
 use Rattle.fpl_fields.specs.Field.{Field}
 use Rattle.fpl_linear.specs.Vector.{vzero}
 use Rattle.fpl_numbers.specs.Kinds.{field_of}
-use Rattle.fpl_algebra.specs.Tree.{Presentation, generator, odd}
+use Rattle.fpl_algebra.specs.Tree.{Presentation, generator}
 use Rattle.fpl_algebra.specs.Derives.{Expression}
-use Rattle.fpl_algebra.specs.Table.{Table, Basis, no_basis, basis_at, weight_at, parity_at, IsRegular}
+use Rattle.fpl_algebra.specs.Table.{Table, no_basis, weight_at, IsRegular}
 use Rattle.fpl_algebra.specs.Symbols.{symbols_of}
-use Rattle.fpl_algebra.specs.Built.{AddsBasis, Keeps, IsEmpty, IsLower, Agree}
+use Rattle.fpl_algebra.specs.Built.{AddsBasis, IsLower, Agree}
 use Rattle.fpl_algebra.specs.Standard.{IsStandard, IsStandardNext}
 use Rattle.fpl_algebra.specs.Standard.IsStandard.{standard_start, standard_next}
 use Rattle.fpl_standard.proofs.Standing.{symbols_lower}

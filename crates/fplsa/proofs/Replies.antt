@@ -1,5 +1,5 @@
 -- From the reply to a part of the input to that of the whole, and to what a run did.
-use Rattle.std.proofs.Common.{◌≡◌, ℕ, ◌<◌, ◌≤◌, ◌+◌, ◌⊎◌, inl, inr, List, ◌++◌, length, length-append, refl, sym, ap, subst, arith, None, Some, Ok, Err}
+use Rattle.std.proofs.Common.{◌≡◌, ℕ, ◌<◌, ◌+◌, ◌⊎◌, inl, inr, List, ◌++◌, length, length-append, refl, sym, subst, arith, None, Some, Ok, Err}
 use Rattle.std.specs.Prelude.{◌≢◌, IfSome, OnOk, OnErr}
 use Rattle.std.specs.declared.option.Option.{Option}
 use Rattle.std.specs.declared.result.Result.{Result}
@@ -8,7 +8,7 @@ use Rattle.std.proofs.lemmas.List.{append-nil}
 use Rattle.fpl_outside.specs.Outside.{Gives, Takes, Rose}
 use Rattle.fpl_outside.specs.Whole.{PassedMax, WrotePrefix}
 use Rattle.fplsa.specs.declared.status.Status.{Status}
-use Rattle.fplsa.specs.declared.status.Status.TheVariants.{Done, Usage, ReadFault, WriteFault}
+use Rattle.fplsa.specs.declared.status.Status.TheVariants.{Usage, ReadFault, WriteFault}
 use Rattle.fplsa.specs.declared.words.Command.{Command}
 use Rattle.fplsa.specs.Words.{IsCommand}
 use Rattle.fplsa.specs.Reply.{Reply, done, usage, refused, limit, no_memory, read_fault, write_fault, not_built, IsFree, IsPlain, status_of, text_of, line_of}

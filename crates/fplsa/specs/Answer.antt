@@ -9,7 +9,7 @@
 --   AnswersPresentation: the view isn't built; nor are fractions; or, over a prime, the symbols number too many at some weight; or the
 --   standard table through the weight limit, as text
 use Rattle.std.specs.Prelude.{ℕ, ◌≡◌, ◌≢◌, ◌≤◌, ◌<◌, ◌⊎◌, List, length, slice_index, codes}
-use Rattle.fpl_numbers.specs.declared.number.Kind.TheVariants.{Rational, Prime}
+use Rattle.fpl_numbers.specs.declared.number.Kind.TheVariants.{Rational}
 use Rattle.fpl_model.specs.declared.presentation.Presentation.{Presentation}
 use Rattle.fpl_reader.specs.declared.fault.Reason.{Reason}
 use Rattle.fpl_reader.specs.declared.fault.Reason.TheVariants.{BadByte, NumberTooLarge, NameTooLong, TooDeep, Syntax, NoField, FieldTwice, BadPrime, NameTwice, BadWeight, TooManyGenerators, UnknownName, ZeroDenominator, MixedWeight, MixedParity}

@@ -26,21 +26,21 @@ fn words_of(alloc: Global, line: &str) -> Result<Vec<String>, AllocError> {
 
 // What a run left behind.
 #[derive(Drop)]
-struct Ran {
+struct Ended {
     status: Status,
     out: MemorySink,
     err: MemorySink,
 }
 
 // Runs on a text, with a source and an output that move `most` bytes at a time and fail at one call, from 1.
-fn ran(
+fn run_on(
     alloc: Global,
     line: &str,
     text: &[u8],
     most: usize,
     failing_read: u64,
     failing_put: u64,
-) -> Result<Ran, AllocError>
+) -> Result<Ended, AllocError>
     requires { 1 ≤ most }
 {
     let words = words_of(alloc, line)?;
@@ -55,7 +55,7 @@ fn ran(
         &mut out,
         &mut err,
     );
-    Ok(Ran { status, out, err })
+    Ok(Ended { status, out, err })
 }
 
 #[test]
@@ -146,10 +146,10 @@ fn writes_tables(rt: HostRuntime) -> Result<(), Fail> {
         ),
     ];
     for (line, text, want) in cases {
-        let ran = ran(alloc, line, text.as_bytes(), 64, 0, 0)?;
-        assert_eq!(rt; ran.status, Status::Done, "{text}");
-        assert_eq!(rt; ran.out.bytes(), want.as_bytes(), "{text}");
-        assert_eq!(rt; ran.err.bytes().len(), 0, "{text}");
+        let ended = run_on(alloc, line, text.as_bytes(), 64, 0, 0)?;
+        assert_eq!(rt; ended.status, Status::Done, "{text}");
+        assert_eq!(rt; ended.out.bytes(), want.as_bytes(), "{text}");
+        assert_eq!(rt; ended.err.bytes().len(), 0, "{text}");
     }
     Ok(())
 }
@@ -224,12 +224,12 @@ fn says_why_nothing_is_written(rt: HostRuntime) -> Result<(), Fail> {
         ("check 3", "field 9;", Status::NotBuilt, "not built\n"),
     ];
     for (line, text, status, want) in cases {
-        let ran = ran(alloc, line, text.as_bytes(), 64, 0, 0)?;
-        assert_eq!(rt; ran.status, status, "{line}: {text}");
-        assert_eq!(rt; ran.out.bytes().len(), 0, "{line}: {text}");
-        assert_eq!(rt; ran.err.bytes(), want.as_bytes(), "{line}: {text}");
+        let ended = run_on(alloc, line, text.as_bytes(), 64, 0, 0)?;
+        assert_eq!(rt; ended.status, status, "{line}: {text}");
+        assert_eq!(rt; ended.out.bytes().len(), 0, "{line}: {text}");
+        assert_eq!(rt; ended.err.bytes(), want.as_bytes(), "{line}: {text}");
     }
-    let checkpoint = ran(alloc, "table 1", b"\xF1", 64, 0, 0)?;
+    let checkpoint = run_on(alloc, "table 1", b"\xF1", 64, 0, 0)?;
     assert_eq!(rt; checkpoint.status, Status::NotBuilt);
     Ok(())
 }
@@ -238,32 +238,32 @@ fn says_why_nothing_is_written(rt: HostRuntime) -> Result<(), Fail> {
 fn ends_at_each_failing_call(rt: HostRuntime) -> Result<(), Fail> {
     let alloc = rt.alloc();
     for k in 1..22 {
-        let ran = ran(alloc, "table 1", PLAIN.as_bytes(), 1, k, 0)?;
+        let ended = run_on(alloc, "table 1", PLAIN.as_bytes(), 1, k, 0)?;
         if k < 21 {
-            assert_eq!(rt; ran.status, Status::ReadFault, "read {k}");
-            assert_eq!(rt; ran.out.bytes().len(), 0, "read {k}");
-            assert_eq!(rt; ran.err.bytes(), b"read fault\n".as_slice(), "read {k}");
+            assert_eq!(rt; ended.status, Status::ReadFault, "read {k}");
+            assert_eq!(rt; ended.out.bytes().len(), 0, "read {k}");
+            assert_eq!(rt; ended.err.bytes(), b"read fault\n".as_slice(), "read {k}");
         } else {
-            assert_eq!(rt; ran.status, Status::Done, "read {k}");
+            assert_eq!(rt; ended.status, Status::Done, "read {k}");
         }
     }
     for k in 1..108 {
-        let ran = ran(alloc, "table 1", PLAIN.as_bytes(), 1, 0, k)?;
+        let ended = run_on(alloc, "table 1", PLAIN.as_bytes(), 1, 0, k)?;
         if k < 107 {
-            assert_eq!(rt; ran.status, Status::WriteFault, "put {k}");
+            assert_eq!(rt; ended.status, Status::WriteFault, "put {k}");
             assert_eq!(rt;
-                ran.out.bytes(),
+                ended.out.bytes(),
                 &PLAIN_TABLE.as_bytes()[..(k as usize - 1).min(PLAIN_TABLE.len())],
                 "put {k}"
             );
-            assert_eq!(rt; ran.err.bytes(), b"write fault\n".as_slice(), "put {k}");
+            assert_eq!(rt; ended.err.bytes(), b"write fault\n".as_slice(), "put {k}");
         } else {
-            assert_eq!(rt; ran.status, Status::Done, "put {k}");
+            assert_eq!(rt; ended.status, Status::Done, "put {k}");
         }
     }
-    let early = ran(alloc, "table 1", PLAIN.as_bytes(), 10, 0, 2)?;
+    let early = run_on(alloc, "table 1", PLAIN.as_bytes(), 10, 0, 2)?;
     assert_eq!(rt; early.out.bytes(), b"table 7 th".as_slice());
-    let unread = ran(alloc, "sample 3", PLAIN.as_bytes(), 10, 1, 0)?;
+    let unread = run_on(alloc, "sample 3", PLAIN.as_bytes(), 10, 1, 0)?;
     assert_eq!(rt; unread.status, Status::NotBuilt);
     Ok(())
 }

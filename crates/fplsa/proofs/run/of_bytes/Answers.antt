@@ -1,4 +1,4 @@
-use Rattle.std.proofs.Common.{inr, rules, IsTrue}
+use Rattle.std.proofs.Common.{inr, rules}
 use Rattle.fplsa.specs.Answer.{AnswersText, AnswersCommand, IsCheckpoint}
 use Rattle.fplsa.specs.Answer.AnswersCommand.{checkpoint_not_built, text}
 use Rattle.fplsa.proofs.Replies.{settles_through}

@@ -1,5 +1,5 @@
 use Rattle.std.proofs.Common.{inr, rules}
-use Rattle.fplsa.specs.Answer.{AnswersCommand, IsUnread}
+use Rattle.fplsa.specs.Answer.{IsUnread}
 use Rattle.fplsa.specs.Answer.AnswersCommand.{unread, input_too_long}
 use Rattle.fplsa.proofs.Replies.{always, whole_input, passed_input, settled_plain}
 use Rattle.fplsa.proofs.run.of_command.Goals as goal

@@ -1,4 +1,4 @@
-use Rattle.std.proofs.Common.{◌≡◌, ap, ◌∙◌, rules}
+use Rattle.std.proofs.Common.{ap, ◌∙◌, rules}
 use mathlib.Core.Path.{ap₂}
 use Rattle.fpl_print.specs.TableText.{table_text, names_of}
 use Rattle.fplsa.proofs.Starts.{done_reply, limit_reply}

@@ -1,4 +1,4 @@
-use Rattle.std.proofs.Common.{rules, arith, sym}
+use Rattle.std.proofs.Common.{rules, arith}
 use Rattle.std.proofs.lemmas.Grind.{common_steps}
 use Rattle.fplsa.proofs.Names.{names, one_command}
 use Rattle.fplsa.proofs.spelling.command.Goals as goal
