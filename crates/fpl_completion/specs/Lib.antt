@@ -1,2 +1,3 @@
 pub mod Weight
 pub mod Laws
+pub mod Section
