@@ -1,26 +1,47 @@
 -- The state of a completion, and what raising it answers.
 --
---   PlainState                  a presentation and a table, as contracts see a state
---   IsState p T n               T is the table of p through its weight, and n is how many symbols there are of the weights 1 to it
+--   PlainState                  a presentation, a table and the sections of its weights, as contracts see a state
+--   section_at sections w       the section of weight w, where there is one
+--   AreOfWeights d sections     one section for each weight from 1 to d, in their order
+--   IsState p T n sections      T is raised for p, n is how many symbols there are of the weights from 1 to its own, and each of these has a section
 --   PassesAfter p from d e w c  w is the least weight above `from` and up to d at which the symbols of weights 1 to w number more than e, and c is their number
 --   unfit_of op a b             an operation with its operands
-use Rattle.std.specs.Prelude.{ℕ, ◌≡◌, ◌≤◌, ◌<◌, ◌-◌}
+--   sum_after count from n      the sum of count v over the n weights v that follow `from`
+--   BoundsOrigins p from d count   each weight v of p above `from` and up to d has at most count v origins
+--   weighed_as rows section     the closed rows of a weight, and its section
+use Rattle.std.specs.Prelude.{ℕ, zero, suc, ◌≡◌, ◌≤◌, ◌<◌, ◌+◌, ◌-◌, List, [], length, None, slice_index_or}
 use Rattle.fpl_numbers.specs.declared.number.Num.{Num}
 use Rattle.fpl_numbers.specs.declared.number.Op.{Op}
 use Rattle.fpl_numbers.specs.declared.number.Unfit.{Unfit}
+use Rattle.fpl_log.specs.declared.section.Section.{Section}
 use Rattle.fpl_model.specs.declared.presentation.Presentation.{Presentation}
 use Rattle.fpl_table.specs.Plain.{PlainTable}
 use Rattle.fpl_table.specs.Standard.{IsTableOf, count_through}
+use Rattle.fpl_rewrite.specs.Origins.{origins_of}
 use Rattle.fpl_next.specs.Holds.{Holds}
+use Rattle.fpl_next.specs.Raised.{IsRaised}
 
 pub record PlainState : Type 0 where
   pub presentation : Presentation
   pub table : PlainTable
+  pub sections : List Section
 
-pub record IsState (p : Presentation) (T : PlainTable) (n : ℕ) : Type 0 where
+abbrev pub no_section : Section
+no_section = record { weight = 0; origins = None; steps = []; closed = [] }
+
+abbrev pub section_at : List Section → ℕ → Section
+section_at sections w = slice_index_or sections (w - 1) no_section
+
+pub record AreOfWeights (d : ℕ) (sections : List Section) : Type 0 where
+  pub count : length sections ≡ d
+  pub weights : (w : ℕ) → 1 ≤ w → w ≤ d → (section_at sections w).weight ≡ w
+
+pub record IsState (p : Presentation) (T : PlainTable) (n : ℕ) (sections : List Section) : Type 0 where
   pub holds : Holds p T
+  pub raised : IsRaised p T
   pub number : count_through T T.weight ≡ n
   pub few : n ≤ 2000000
+  pub sections_are : AreOfWeights T.weight sections
 
 pub record PassesAfter (p : Presentation) (from d entries w count : ℕ) : Type 0 where
   pub above : from < w
@@ -33,3 +54,18 @@ pub record PassesAfter (p : Presentation) (from d entries w count : ℕ) : Type 
 
 abbrev pub unfit_of : Op → Num → Num → Unfit
 unfit_of op a b = record { op = op; a = a; b = b }
+
+abbrev pub sum_after : (ℕ → ℕ) → ℕ → ℕ → ℕ
+sum_after count from zero = 0
+sum_after count from (suc n) = sum_after count from n + count (suc (from + n))
+
+abbrev pub BoundsOrigins : Presentation → ℕ → ℕ → (ℕ → ℕ) → Type 0
+BoundsOrigins p from d count = (v : ℕ) → from < v → v ≤ d → (T : PlainTable) → IsRaised p T → suc T.weight ≡ v → length (origins_of T p) ≤ count v
+
+-- the closed rows of a weight, and its section
+pub record PlainWeighed : Type 0 where
+  pub rows : List (List Num)
+  pub section : Section
+
+abbrev pub weighed_as : List (List Num) → Section → PlainWeighed
+weighed_as rows section = record { rows = rows; section = section }

@@ -2,6 +2,7 @@
 #![tactic(auto)]
 
 mod fault;
+mod section;
 mod state;
 mod weight;
 

@@ -1,15 +1,18 @@
-ghost use Rattle.std.specs.Prelude.{◌≡◌, ◌≤◌, ◌<◌, ◌+◌, ◌↔◌, ℕ, max, length, Ok, Err, IfOk, OnOk, OnErr, IsErrOf};
+ghost use Rattle.std.specs.Prelude.{◌≡◌, ◌≤◌, ◌<◌, ◌+◌, ◌-◌, ◌++◌, ◌∷◌, [], ◌↔◌, ℕ, max, take, length, Ok, Err, IfOk, OnOk, OnErr, IsErrOf};
 ghost use Rattle.fpl_numbers.specs.declared.number.Num.{Num};
 ghost use Rattle.fpl_numbers.specs.declared.number.Op.{Op};
 ghost use Rattle.fpl_numbers.specs.declared.number.Kind.{Kind};
 ghost use Rattle.fpl_model.specs.Sound.{IsSound};
 ghost use Rattle.fpl_table.specs.Standard.{start_of, count_through, IsTableOf};
 ghost use Rattle.fpl_rewrite.specs.Origins.{origins_of};
+ghost use Rattle.fpl_next.specs.Raised.{IsRaised};
 ghost use Rattle.fpl_completion.specs.Weight.{next_of};
-ghost use Rattle.fpl_complete.specs.State.{PassesAfter, unfit_of};
+ghost use Rattle.fpl_completion.specs.Section.{Computes, OverflowsAt};
+ghost use Rattle.fpl_complete.specs.State.{AreOfWeights, BoundsOrigins, PassesAfter, section_at, sum_after, unfit_of};
 
 use crate::RaiseFault;
-use crate::weight::close_weight;
+use crate::weight::complete_weight;
+use fpl_log::Sections;
 use fpl_model::Presentation;
 use fpl_scalar::{Fault, Field};
 use fpl_steps::Steps;
@@ -18,12 +21,13 @@ use std::alloc::{AllocError, Global};
 use std::marker::Model;
 use std::sync::ledger::Ledger;
 
-/// A presentation, and its table through a weight.
+/// A presentation, its table through a weight, and the sections of the weights from 1 to it.
 #[derive(Drop)]
 pub struct State<F: Field> {
     alloc: Global,
     presentation: Presentation,
     table: Table<F>,
+    sections: Sections,
     /// How many symbols there are of the weights from 1 to the table's.
     count: u64,
 }
@@ -37,9 +41,9 @@ impl<F: Field> Model for State<F> {
 
     ghost coded = { Prim.hlevel (codes, e.the_row.coded) };
 
-    ghost view = { λ s. record { presentation = s.presentation; table = s.table } };
+    ghost view = { λ s. record { presentation = s.presentation; table = s.table; sections = s.sections } };
 
-    ghost invariant = { λ s. IsState s.presentation s.table s.count };
+    ghost invariant = { λ s. IsState s.presentation s.table s.count s.sections };
 }
 
 impl<F: Field> State<F> {
@@ -47,13 +51,14 @@ impl<F: Field> State<F> {
     pub fn start(alloc: Global, field: F, p: Presentation) -> Result<State<F>, AllocError>
         requires kind { F.kind_of field ≡ p.field }
         requires sound { IsSound p }
-        ensures { IfOk result (λ s. s ≡ record { presentation = p; table = start_of p }) }
+        ensures { IfOk result (λ s. s ≡ record { presentation = p; table = start_of p; sections = [] }) }
     {
         let table = Table::start(alloc, field, &p)?;
         Ok(State {
             alloc,
             presentation: p,
             table,
+            sections: Sections::new(alloc),
             count: 0,
         })
     }
@@ -61,6 +66,7 @@ impl<F: Field> State<F> {
     pub fn table(&self) -> &Table<F>
         ensures same { result.now ≡ self.now.table }
         ensures standard { IsTableOf self.now.presentation self.now.table.weight self.now.table }
+        ensures raised { IsRaised self.now.presentation self.now.table }
     {
         &self.table
     }
@@ -72,6 +78,14 @@ impl<F: Field> State<F> {
         &self.presentation
     }
 
+    /// One section for each weight from 1 to the table's, in their order.
+    pub fn sections(&self) -> &Sections
+        ensures same { result.now ≡ self.now.sections }
+        ensures weights { AreOfWeights self.now.table.weight self.now.sections }
+    {
+        &self.sections
+    }
+
     pub fn weight(&self) -> u32
         ensures value { result ≡ self.now.table.weight }
         ensures standard { IsTableOf self.now.presentation self.now.table.weight self.now.table }
@@ -79,7 +93,7 @@ impl<F: Field> State<F> {
         self.table.weight()
     }
 
-    /// Adds the next weight.
+    /// Adds the next weight, and keeps its section.
     ///
     /// `Limit` comes, before any operation, exactly where the symbols of the weights from 1 to
     /// the new one number more than `entries`; `Overflow` names the first operation that does
@@ -95,10 +109,12 @@ impl<F: Field> State<F> {
         ensures presentation { self.new.presentation ≡ self.old.presentation }
         ensures next { OnOk result (next_of self.old.table self.old.presentation ≡ Ok self.new.table) }
         ensures weight { OnOk result (self.new.table.weight ≡ self.old.table.weight + 1) }
+        ensures sections { OnOk result (self.new.sections ≡ self.old.sections ++ section_at self.new.sections self.new.table.weight ∷ []) }
+        ensures section { OnOk result (Computes self.old.presentation self.new.table.weight (Ok (section_at self.new.sections self.new.table.weight))) }
         ensures within { OnOk result (count_through self.new.table self.new.table.weight ≤ entries) }
         ensures counts { OnOk result ((v : ℕ) → v ≤ self.old.table.weight + 1 → count_through self.new.table v ≡ count_through self.old.table v) }
         ensures limit { (w c : ℕ) → IsErrOf result (RaiseFault.Limit w c) ↔ ((w ≡ self.old.table.weight + 1) × (c ≡ count_through self.old.table w) × (entries < c)) }
-        ensures overflow { (w : ℕ) (op : Op) (a b : Num) → IsErrOf result (RaiseFault.Overflow w op a b) → (w ≡ self.old.table.weight + 1) × (next_of self.old.table self.old.presentation ≡ Err (unfit_of op a b)) }
+        ensures overflow { (w : ℕ) (op : Op) (a b : Num) → IsErrOf result (RaiseFault.Overflow w op a b) → (w ≡ self.old.table.weight + 1) × OverflowsAt self.old.presentation w (unfit_of op a b) × (count_through self.old.table w ≤ entries) }
         ensures fractions { (w : ℕ) (op : Op) (a b : Num) → IsErrOf result (RaiseFault.Overflow w op a b) → self.old.presentation.field ≡ Kind.Rational }
         ensures unchanged { OnErr result (self.new ≡ self.old) }
         ensures step { OnOk result (steps.new ≡ steps.old + length (origins_of self.old.table self.old.presentation)) }
@@ -110,8 +126,8 @@ impl<F: Field> State<F> {
         if count > entries {
             return Err(RaiseFault::Limit { weight, count });
         }
-        let closed = match close_weight(self.alloc, &self.table, &self.presentation, steps) {
-            Ok(closed) => closed,
+        let weighed = match complete_weight(self.alloc, &self.table, &self.presentation, steps) {
+            Ok(weighed) => weighed,
             Err(Fault::NoMemory) => return Err(RaiseFault::NoMemory),
             Err(Fault::Unfit(u)) => {
                 return Err(RaiseFault::Overflow {
@@ -122,17 +138,25 @@ impl<F: Field> State<F> {
                 });
             }
         };
-        match self.table.push_weight(&closed.rows) {
+        match self.sections.push(weighed.section) {
+            Ok(()) => {}
+            Err(_) => return Err(RaiseFault::NoMemory),
+        }
+        match self.table.push_weight(&weighed.rows) {
             Ok(()) => {
                 self.count = count;
                 Ok(())
             }
-            Err(_) => Err(RaiseFault::NoMemory),
+            Err(_) => {
+                self.sections.pop();
+                Err(RaiseFault::NoMemory)
+            }
         }
     }
-    /// Adds weights up to `d`, if the table has not come so far.
+
+    /// Adds weights up to `d`, if the table has not come so far, and keeps their sections.
     ///
-    /// A refusal names the weight that was refused, and the table then has all weights below
+    /// A refusal names the weight that was refused, and the state then has all weights below
     /// it: `Limit` the least weight at which the symbols number more than `entries`, with their
     /// number; `Overflow` the first operation that does not fit, over fractions alone.
     pub fn raise<L: Ledger>(
@@ -147,10 +171,17 @@ impl<F: Field> State<F> {
         ensures weight { OnOk result (self.new.table.weight ≡ max self.old.table.weight d) }
         ensures reached { (self.old.table.weight ≤ self.new.table.weight) × (self.new.table.weight ≤ max self.old.table.weight d) }
         ensures within { (v : ℕ) → self.old.table.weight < v → v ≤ self.new.table.weight → count_through self.new.table v ≤ entries }
+        ensures sections { take (length self.old.sections) self.new.sections ≡ self.old.sections }
+        ensures fits { (v : ℕ) → self.old.table.weight < v → v ≤ self.new.table.weight → Computes self.old.presentation v (Ok (section_at self.new.sections v)) }
+
+        // What a refusal names.
         ensures limit { (w c : ℕ) → IsErrOf result (RaiseFault.Limit w c) → PassesAfter self.old.presentation self.old.table.weight d entries w c × (w ≡ self.new.table.weight + 1) }
-        ensures overflow { (w : ℕ) (op : Op) (a b : Num) → IsErrOf result (RaiseFault.Overflow w op a b) → (w ≡ self.new.table.weight + 1) × (w ≤ d) × (next_of self.new.table self.new.presentation ≡ Err (unfit_of op a b)) }
+        ensures overflow { (w : ℕ) (op : Op) (a b : Num) → IsErrOf result (RaiseFault.Overflow w op a b) → (w ≡ self.new.table.weight + 1) × (w ≤ d) × OverflowsAt self.old.presentation w (unfit_of op a b) × (count_through self.new.table w ≤ entries) }
         ensures fractions { (w : ℕ) (op : Op) (a b : Num) → IsErrOf result (RaiseFault.Overflow w op a b) → self.old.presentation.field ≡ Kind.Rational }
+
+        // Each origin takes one step, whatever the answer.
         ensures steps { steps.old ≤ steps.new }
+        ensures cost { (count : ℕ → ℕ) → BoundsOrigins self.old.presentation self.old.table.weight d count → steps.new ≤ steps.old + sum_after count self.old.table.weight (d - self.old.table.weight) }
     {
         while self.weight() < d {
             match self.next_weight(entries, steps) {

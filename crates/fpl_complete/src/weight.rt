@@ -1,4 +1,4 @@
-ghost use Rattle.std.specs.Prelude.{◌≡◌, ◌≤◌, ◌+◌, length, Ok, IfOk, OnOk, Contains};
+ghost use Rattle.std.specs.Prelude.{◌≡◌, ◌≤◌, ◌<◌, ◌+◌, length, Ok, IfOk, OnOk, Contains};
 ghost use Rattle.fpl_numbers.specs.Results.{Gives, GivesBy, map_ok, and_then};
 ghost use Rattle.fpl_rows.specs.Meaning.{IsClosedList};
 ghost use Rattle.fpl_elimination.specs.Plain.{Held, rows_of, sweep_rows};
@@ -8,9 +8,12 @@ ghost use Rattle.fpl_table.specs.Plain.{symbols_in};
 ghost use Rattle.fpl_next.specs.Holds.{Holds};
 ghost use Rattle.fpl_rewrite.specs.Origins.{origins_of};
 ghost use Rattle.fpl_completion.specs.Weight.{begun, put_of, gather, again, close_weight};
+ghost use Rattle.fpl_completion.specs.Section.{section_of};
+ghost use Rattle.fpl_complete.specs.State.{weighed_as};
 
+use crate::section::section_of;
 use fpl_echelon::{Closed, Echelon, sweep};
-use fpl_log::Origin;
+use fpl_log::{Origin, Section};
 use fpl_model::Presentation;
 use fpl_rewrite::{Origins, origin_row};
 use fpl_rows::Rows;
@@ -132,7 +135,7 @@ fn sweep_again<F: Field>(
 }
 
 /// Closes the weight after the table's.
-pub fn close_weight<F: Field, L: Ledger>(
+fn close_weight<F: Field, L: Ledger>(
     alloc: Global,
     table: &Table<F>,
     p: &Presentation,
@@ -163,5 +166,38 @@ pub fn close_weight<F: Field, L: Ledger>(
             Ok(()) => Ok(closed),
             Err(fault) => Err(fault),
         },
+    }
+}
+
+/// The closed rows of a weight, and its section.
+#[derive(Drop)]
+pub struct Weighed<F: Field> {
+    pub rows: Rows<F>,
+    pub section: Section,
+}
+
+/// Completes the weight after the table's: its closed rows, and its slimmed section.
+pub fn complete_weight<F: Field, L: Ledger>(
+    alloc: Global,
+    table: &Table<F>,
+    p: &Presentation,
+    steps: &mut Steps<L>,
+) -> Result<Weighed<F>, Fault>
+    requires holds { Holds p.now table.now }
+    requires few { length (symbols_in table.now) ≤ 2000000 }
+    requires weight { table.now.weight < 1000 }
+    ensures value { GivesBy (λ w. weighed_as w.rows w.section) result (map_ok (λ h. weighed_as (rows_of h.pivots) (section_of table.now p.now h)) (close_weight table.now p.now)) }
+    ensures closed { IfOk result (λ w. IsClosedList table.now.kind (length (symbols_in table.now)) w.rows) }
+    ensures step { OnOk result (steps.new ≡ steps.old + length (origins_of table.now p.now)) }
+    ensures most { (steps.old ≤ steps.new) × (steps.new ≤ steps.old + length (origins_of table.now p.now)) }
+{
+    let closed = match close_weight(alloc, table, p, steps) {
+        Ok(closed) => closed,
+        Err(fault) => return Err(fault),
+    };
+    let Closed { steps, rows } = closed;
+    match section_of(alloc, table.field(), table.weight() + 1, steps, &rows) {
+        Ok(section) => Ok(Weighed { rows, section }),
+        Err(_) => Err(Fault::NoMemory),
     }
 }

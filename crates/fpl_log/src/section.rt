@@ -91,4 +91,11 @@ impl Sections {
         self.items.push(item)?;
         Ok(())
     }
+
+    /// Takes the last section back.
+    pub fn pop(&mut self)
+        ensures { (xs : List Section) (x : Section) → self.old ≡ xs ++ x ∷ [] → self.new ≡ xs }
+    {
+        self.items.pop();
+    }
 }

@@ -4,6 +4,7 @@
 #![tactic(auto)]
 
 ghost use Rattle.fpl_next.specs.Holds.{HeldIsTable, PushHolds, PushKeepsShape, SoundIsSound, StartHolds, SymbolsAreSame, TablesAreOne, TruncatesBuilt};
+ghost use Rattle.fpl_next.specs.Raised.{RaisedAreOne};
 
 /// A sound presentation is sound as far as the algebra goes, and a table names the symbols of its presentation.
 pub fn presentations()
@@ -20,9 +21,10 @@ pub fn raising()
     ensures table { HeldIsTable }
 {}
 
-/// A presentation has one table through a weight.
+/// A presentation has one table through a weight. Raised tables are one list by list.
 pub fn one_table()
-    ensures { TablesAreOne }
+    ensures one { TablesAreOne }
+    ensures raised { RaisedAreOne }
 {}
 
 /// The part of a table through a lower weight is built too.

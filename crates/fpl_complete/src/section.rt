@@ -1,0 +1,68 @@
+ghost use Rattle.std.specs.Prelude.{◌≡◌, ◌≤◌, ◌<◌, ◌^◌, ◌-◌, [], length, IfOk, Some};
+ghost use Rattle.fpl_log.specs.Slim.{AreInOrder, slim_steps};
+ghost use Rattle.fpl_completion.specs.Section.{coefficients_from, closed_list};
+
+use fpl_log::{ClosedList, ClosedRow, Coefficient, Section, StepList};
+use fpl_rows::{Row, Rows};
+use fpl_scalar::Field;
+use std::alloc::{AllocError, Global};
+
+/// The numbers of a row that are not 0, each with its symbol.
+fn coefficients_of<F: Field>(
+    alloc: Global,
+    field: &F,
+    row: &Row<F>,
+) -> Result<ClosedRow, AllocError>
+    ensures { IfOk result (λ kept. kept ≡ coefficients_from 1 row.now) }
+{
+    let mut kept = ClosedRow::new(alloc);
+    let mut after = 0;
+    while let Some(symbol) = row.next(after) {
+        let number = field.num(row.at(symbol));
+        kept.push(Coefficient { symbol, number })?;
+        after = symbol;
+    }
+    Ok(kept)
+}
+
+/// Closed rows, each as its coefficients.
+fn list_of<F: Field>(
+    alloc: Global,
+    field: &F,
+    rows: &Rows<F>,
+) -> Result<ClosedList, AllocError>
+    ensures { IfOk result (λ list. list ≡ closed_list rows.now) }
+{
+    let mut list = ClosedList::new(alloc);
+    for i in 0..rows.len() {
+        match rows.get(i) {
+            None => {}
+            Some(row) => list.push(coefficients_of(alloc, field, row)?)?,
+        }
+    }
+    Ok(list)
+}
+
+/// The slimmed section of a weight: of its steps, one Insert step for each origin and one Close
+/// step for each closed row.
+pub fn section_of<F: Field>(
+    alloc: Global,
+    field: &F,
+    weight: u32,
+    steps: StepList,
+    rows: &Rows<F>,
+) -> Result<Section, AllocError>
+    requires order { AreInOrder [] 0 steps }
+    requires closes { length rows.now ≤ length steps }
+    ensures { IfOk result (λ s. s ≡ record { weight = weight; origins = Some (length steps - length rows.now); steps = slim_steps [] 0 steps; closed = closed_list rows.now }) }
+{
+    let origins = (steps.len() - rows.len()) as u64;
+    let closed = list_of(alloc, field, rows)?;
+    let whole = Section {
+        weight,
+        origins: None,
+        steps,
+        closed,
+    };
+    whole.slim(alloc, origins)
+}
