@@ -4,5 +4,6 @@ pub mod Places
 pub mod Pushed
 pub mod Holding
 pub mod One
+pub mod OneRaised
 pub mod Shaped
 pub mod LowerParts

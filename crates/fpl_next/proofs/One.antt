@@ -35,14 +35,14 @@ all_or P xs i d h k = go (dec_lt i (length xs))
 none_all : {X : Type 0} (P : X → Type 0) → All P []
 none_all P i d l = absurd (omega (arith, l))
 
-list_same : {X : Type 0} (xs ys : List X) (d : X) → length xs ≡ length ys → ((i : ℕ) → i < length xs → get_or xs i d ≡ get_or ys i d) → xs ≡ ys
+pub list_same : {X : Type 0} (xs ys : List X) (d : X) → length xs ≡ length ys → ((i : ℕ) → i < length xs → get_or xs i d ≡ get_or ys i d) → xs ≡ ys
 list_same [] [] d l h = refl
 list_same [] (y ∷ ys) d l h = absurd (omega (arith, l))
 list_same (x ∷ xs) [] d l h = absurd (omega (arith, l))
 list_same (x ∷ xs) (y ∷ ys) d l h = ap₂ (λ a b. a ∷ b) (h 0 (omega arith)) (list_same xs ys d (omega (arith, l)) (λ i k. h (suc i) (omega (arith, k))))
 
 -- rows of elements that stand for one vector have equal numbers at each place
-numbers_same : (k : Kind) → IsField k → (xs ys : List Num) → AreElements k xs → AreElements k ys → vector_in k xs ≡ vector_in k ys → (s : ℕ) → get_or xs s (residue 0) ≡ get_or ys s (residue 0)
+pub numbers_same : (k : Kind) → IsField k → (xs ys : List Num) → AreElements k xs → AreElements k ys → vector_in k xs ≡ vector_in k ys → (s : ℕ) → get_or xs s (residue 0) ≡ get_or ys s (residue 0)
 numbers_same k is xs ys a b e s =
     (kind_reads k is).apart _ _ (all_or (IsElement k) xs s (residue 0) a (zero_element k is)) (all_or (IsElement k) ys s (residue 0) b (zero_element k is))
     (sym (value xs) ∙ ap (λ v. v s) e ∙ value ys)
