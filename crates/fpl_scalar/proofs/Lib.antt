@@ -7,3 +7,4 @@ pub mod FractionArithmetic
 pub mod FractionElements
 pub mod ReducedQuotients
 pub mod WholeFractions
+pub mod ResidueRows

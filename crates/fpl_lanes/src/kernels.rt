@@ -1,0 +1,45 @@
+ghost use Rattle.std.specs.Prelude.{◌≡◌, ◌<◌, ◌≤◌, length};
+ghost use Rattle.fpl_lanes.specs.Lanes.{AllBelow, added, multiplied, first_of};
+
+/// Adds `c` times `other` to `row` modulo `p`: each place becomes the remainder of
+/// `row[k] + c * other[k]`. The modulus is from 3 to 65521.
+pub fn axpy(p: u32, row: &mut [u32], c: u32, other: &[u32])
+    requires least { 3 ≤ p }
+    requires most { p ≤ 65521 }
+    requires row { AllBelow p row.old }
+    requires factor { c < p }
+    requires other { AllBelow p other.now }
+    requires same_length { length row.old ≡ length other.now }
+    ensures { row.new ≡ added p row.old c other.now }
+{
+    for i in 0..other.len() {
+        // at most 65520 + 65520 * 65520, which is below 2^32
+        row[i] = (row[i] + c * other[i]) % p;
+    }
+}
+
+/// Multiplies each place by `c` modulo `p`: it becomes the remainder of `c * row[k]`. The
+/// modulus is from 3 to 65521.
+pub fn scale(p: u32, row: &mut [u32], c: u32)
+    requires least { 3 ≤ p }
+    requires most { p ≤ 65521 }
+    requires row { AllBelow p row.old }
+    requires factor { c < p }
+    ensures { row.new ≡ multiplied p c row.old }
+{
+    for i in 0..row.len() {
+        row[i] = c * row[i] % p;
+    }
+}
+
+/// The least place, from 0, that is not 0; `None` exactly where there is none.
+pub fn first_nonzero(row: &[u32]) -> Option<usize>
+    ensures { result ≡ first_of row.now }
+{
+    for (i, x) in row.iter().enumerate() {
+        if *x != 0 {
+            return Some(i);
+        }
+    }
+    None
+}
