@@ -3,7 +3,7 @@
 //! Each function does nothing: what it ensures is a law.
 #![tactic(auto)]
 
-ghost use Rattle.fpl_next.specs.Holds.{HeldIsTable, PushHolds, PushKeepsShape, SoundIsSound, StartHolds, SymbolsAreSame, TablesAreOne, TruncatesBuilt};
+ghost use Rattle.fpl_next.specs.Holds.{HeldIsTable, PushHolds, PushKeepsShape, SoundIsSound, StartHolds, SymbolsAreSame, TablesAreOne, TruncatesHold};
 
 /// A sound presentation is sound as far as the algebra goes, and a table names the symbols of its presentation.
 pub fn presentations()
@@ -25,7 +25,7 @@ pub fn one_table()
     ensures { TablesAreOne }
 {}
 
-/// The part of a table through a lower weight is built too.
+/// The invariant holds of the part of a table through a lower weight.
 pub fn truncated()
-    ensures { TruncatesBuilt }
+    ensures { TruncatesHold }
 {}

@@ -1,7 +1,6 @@
 -- The part of a table through a weight has its shape, and the trees of its basis are the first of the table's.
-use Rattle.std.proofs.Common.{◌≡◌, ◌≤◌, ◌<◌, ◌+◌, ◌-◌, ◌*◌, ◌++◌, ℕ, zero, suc, max, List, [], ◌∷◌, length, map, get_or, take, drop, cond, nat_le, All, refl, ap, ap₂, sym, subst, ◌∙◌, arith, append_assoc, append-nil}
+use Rattle.std.proofs.Common.{◌≡◌, ◌≤◌, ◌<◌, ◌+◌, ◌-◌, ◌++◌, ℕ, zero, suc, max, List, [], ◌∷◌, length, map, get_or, take, drop, cond, nat_le, All, refl, ap, ap₂, sym, subst, ◌∙◌, arith, append_assoc, append-nil}
 use Rattle.std.proofs.lemmas.List.{length-take-le, get_or-take, take_at, take-append-drop, take-map, length-map}
-use Rattle.std.proofs.lemmas.Bool.Decides.{nat_tests}
 use native.Mathlib.Decide.{dec_le}
 use Rattle.fpl_numbers.specs.declared.number.Num.{Num}
 use Rattle.fpl_numbers.specs.declared.number.Kind.{Kind}
@@ -9,7 +8,7 @@ use Rattle.fpl_algebra.specs.Tree.{Tree, Generator}
 use Rattle.fpl_algebra.specs.Table.{Symbol, of_generator, of_pair, Basis, no_basis}
 use Rattle.fpl_algebra.specs.Symbols.{is_odd}
 use Rattle.fpl_table.specs.Plain.{PlainTable, plain_basis, leading, through, first_partner, partner_from}
-use Rattle.fpl_table.specs.Shape.{HasShape, IsRowUpTo, IsOfTable, IsBefore, partners, images_at, entries_at, IsNumbered, grown, basis_trees, symbol_tree_in}
+use Rattle.fpl_table.specs.Shape.{HasShape, IsRowUpTo, IsOfTable, IsBefore, partners, images_at, entries_at, IsNumbered, grown, symbol_tree_in}
 use Rattle.fpl_table.specs.Truncate.{truncate_of}
 use Rattle.fpl_table.specs.Whole.{IsWhole}
 use Rattle.fpl_table.specs.declared.symbol.Symbol as code
