@@ -1,5 +1,5 @@
 //! The texts of expressions.
-ghost use Rattle.std.specs.Prelude.{◌≡◌, ◌-◌, ◌++◌, [], map, get_or, OnOk};
+ghost use Rattle.std.specs.Prelude.{◌≡◌, ◌++◌, true, map, OnOk};
 ghost use Rattle.fpl_algebra.specs.Tree.{trees};
 ghost use Rattle.fpl_model.specs.Meaning.{plain};
 ghost use Rattle.fpl_canonical.specs.Canonical.{name_text, opening, closing, encloses_sum, encloses_multiple, own_sign, begins_below, expression_text, sum_text};

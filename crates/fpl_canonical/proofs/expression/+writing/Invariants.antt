@@ -1,4 +1,4 @@
-use Rattle.std.proofs.Common.{◌≡◌, ◌++◌, drop, map}
+use Rattle.std.proofs.Common.{◌≡◌, ◌++◌, true, drop, map}
 use Rattle.fpl_algebra.specs.Tree.{trees}
 use Rattle.fpl_model.specs.Meaning.{plain}
 use Rattle.fpl_canonical.specs.Canonical.{sum_text}
