@@ -1,13 +1,13 @@
 -- A fraction is in lowest terms exactly where reducing it changes nothing.
-use Rattle.std.specs.Prelude.{◌≡◌, ◌≢◌, ℕ, zero, suc, ◌+◌, ◌*◌, ◌/◌, ◌%◌, ◌<◌, ◌≤◌, ℤ, pos, negsuc, ◌*ℤ◌, unsigned_abs, ◌<ℤ◌, int_lt, Bool, true, false, ◌&&◌, nat_eq, nat_le, Option, Some, None, if◌then◌else◌}
-use Rattle.std.specs.Int.{IsGcd, w128}
-use Rattle.std.proofs.Common.{refl, sym, ap, ap₂, subst, ◌∙◌, arith, to_z, of_z}
-use Rattle.std.proofs.lemmas.Int.{ints, to_z-of_z, to_z_pos}
+use Rattle.std.specs.Prelude.{◌≡◌, ℕ, zero, suc, ◌+◌, ◌*◌, ◌/◌, ◌%◌, ◌<◌, ◌≤◌, ℤ, pos, ◌*ℤ◌, unsigned_abs, int_lt, Bool, true, false, ◌&&◌, nat_eq, nat_le, Option, Some, None, if◌then◌else◌}
+use Rattle.std.specs.Int.{w128}
+use Rattle.std.proofs.Common.{refl, sym, ap, ap₂, subst, ◌∙◌, arith, to_z}
+use Rattle.std.proofs.lemmas.Int.{to_z_pos}
 use Rattle.std.proofs.lemmas.Bool.{eqb-true, ne_eqb, le-leb, lt-ltb, and_from, and_parts}
 use native.Mathlib.Nat.{div-one, div-add-mod, pos_of_dvd_of_pos}
 use Rattle.fpl_numbers.specs.declared.number.Num.{Num}
 use Rattle.fpl_numbers.specs.declared.number.Kind.TheVariants.{Rational}
-use Rattle.fpl_numbers.specs.Numbers.{gcd, reduced, divided, bound, IsNumber, IsLowest}
+use Rattle.fpl_numbers.specs.Numbers.{gcd, reduced, divided, bound}
 use Rattle.fpl_numbers.specs.Kinds.{up_part, down_part}
 use Rattle.fpl_numbers.specs.Quotients.{quotient_of}
 use Rattle.fpl_numbers.proofs.Gcd.{gcd_is}

@@ -1,5 +1,5 @@
 -- Two parts that are pushed one after another.
-use Rattle.std.proofs.Common.{◌≡◌, ℕ, ℤ, List, ◌++◌, ap, ap₂, ◌∙◌, append_assoc, unsigned_abs, sym}
+use Rattle.std.proofs.Common.{◌≡◌, ℕ, ℤ, List, ◌++◌, ap, ap₂, ◌∙◌, append_assoc, unsigned_abs}
 
 pub parts_pushed : (bytes_of : ℕ → List ℕ) (bits_of : ℤ → ℕ) (old mid new first second : List ℕ) (n d n' d' : ℤ) (m : ℕ) → n' ≡ n → d' ≡ d →
     first ≡ bytes_of (bits_of n') → m ≡ unsigned_abs d' → second ≡ bytes_of m → mid ≡ old ++ first → new ≡ mid ++ second →

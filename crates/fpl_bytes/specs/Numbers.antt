@@ -1,5 +1,6 @@
 -- Numbers of a field as bytes.
 --
+--   version_of n              the first version for 1, the second for every other number
 --   part_width version        the width of each part of a fraction
 --   limit_of version          the greatest magnitude of a part
 --   fraction_of above below   above/below as it stands
@@ -9,7 +10,7 @@
 --   parts_at w bytes          the two parts of a fraction
 --   number_at version kind end bytes   a number as a field: FieldCut where its bytes aren't all there, BadNumber where it isn't stored
 --   IsStored version kind a   the numbers that have bytes: canonical ones that fit, within the limit of the version
-use Rattle.std.specs.Prelude.{ℕ, ◌-◌, ◌^◌, ◌<◌, ◌≤◌, ℤ, pos, unsigned_abs, int_lt, List, ◌++◌, Bool, nat_lt, nat_le, nat_eq, ◌&&◌, Option, Some, Result, Ok, Err, if◌then◌else◌}
+use Rattle.std.specs.Prelude.{ℕ, ◌-◌, ◌^◌, ◌<◌, ◌≤◌, ℤ, pos, unsigned_abs, int_lt, List, ◌++◌, Bool, nat_lt, nat_le, nat_eq, ◌==◌, ◌&&◌, Option, Some, Result, Ok, Err, if◌then◌else◌}
 use Rattle.std.specs.Option.{option_and_then}
 use Rattle.std.specs.Int.{Width, w32, w64, w128, to_be_bytes, cast_signed, cast_unsigned}
 use Rattle.fpl_numbers.specs.declared.number.Num.{Num}
@@ -21,6 +22,9 @@ use Rattle.fpl_bytes.specs.declared.version.Version.TheVariants.{One, Two}
 use Rattle.fpl_bytes.specs.declared.fault.ByteWhy.TheVariants.{BadNumber}
 use Rattle.fpl_bytes.specs.declared.fault.BadBytes.{BadBytes}
 use Rattle.fpl_bytes.specs.Reading.{◌>>=◌, fault, raw_at, field_at, whole_at}
+
+abbrev pub version_of : ℕ → Version
+version_of n = if n == 1 then One else Two
 
 abbrev pub part_width : Version → Width
 part_width One = w64

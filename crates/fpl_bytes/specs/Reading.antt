@@ -8,6 +8,7 @@
 --   field_at end bytes o    a field, where the bytes for it are there
 --   whole_at w end bytes    a whole number as a field
 --   items_at item n bytes   n items, one after another
+--   counted_at w item end bytes   a count, and so many items
 use Rattle.std.specs.Prelude.{◌≡◌, ℕ, zero, suc, ◌-◌, List, [], ◌∷◌, length, take, drop, Option, Some, None, Result, Ok, Err, nat_lt, if◌then◌else◌}
 use Rattle.std.specs.Int.{Width, byte_len, from_be_bytes}
 use Rattle.fpl_bytes.specs.declared.fault.ByteWhy.{ByteWhy}
@@ -48,3 +49,6 @@ items_at item (suc n) bytes = do
   first ← item bytes
   others ← items_at item n first.1
   Ok (first.0 ∷ others.0, others.1)
+
+abbrev pub counted_at : {A : Type 0} → Width → (List ℕ → Result (A × List ℕ) BadBytes) → ℕ → List ℕ → Result (List A × List ℕ) BadBytes
+counted_at w item end bytes = whole_at w end bytes >>= λ n. items_at item n.0 n.1

@@ -12,5 +12,5 @@ pub use fault::{BadBytes, ByteWhy, ScanError, bad_bytes};
 pub use laws::{numbers_are_read_back, wholes_are_read_back};
 pub use numbers::number_field;
 pub use version::Version;
-pub use wholes::{u32_field, u64_field};
+pub use wholes::{u32_at, u32_field, u64_at, u64_field};
 pub use writing::push_number;

@@ -69,11 +69,7 @@ fn stored_fraction(version: Version, above: i128, below: u128) -> Option<Num>
 }
 
 #[tactic(auto, unfolding(crate::specs::Numbers::fraction_at))]
-fn fraction_field(
-    version: Version,
-    end: usize,
-    bytes: &[u8],
-) -> Result<(Num, &[u8]), ScanError>
+fn fraction_field(version: Version, end: usize, bytes: &[u8]) -> Result<(Num, &[u8]), ScanError>
     ensures { Gives (λ x. (x.0, x.1.now)) result (fraction_at version end bytes.now) }
 {
     let Some(((above, below), rest)) = parts(version, bytes) else {

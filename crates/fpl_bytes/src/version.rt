@@ -1,5 +1,5 @@
 ghost use Rattle.std.specs.Prelude.{◌≡◌};
-ghost use Rattle.fpl_bytes.specs.Numbers.{limit_of};
+ghost use Rattle.fpl_bytes.specs.Numbers.{limit_of, version_of};
 
 /// The versions of the format. The second is written; both are read.
 #[derive(Clone, Copy, Debug, PartialEq, Eq)]
@@ -11,6 +11,17 @@ pub enum Version {
 }
 
 impl Version {
+    /// The version that a byte names: the first by 1, the second by every other.
+    pub fn of(number: u8) -> Version
+        ensures { result ≡ version_of number }
+    {
+        if number == 1 {
+            Version::One
+        } else {
+            Version::Two
+        }
+    }
+
     /// The greatest magnitude of a part of a fraction.
     pub fn limit(self) -> u128
         ensures { result ≡ limit_of self }

@@ -4,7 +4,8 @@ ghost use Rattle.fpl_bytes.specs.Reading.{Gives, raw_at, whole_at};
 
 use crate::fault::{ByteWhy, ScanError, bad_bytes};
 
-fn u32_at(bytes: &[u8]) -> Option<(u32, &[u8])>
+/// A whole number in 4 bytes, and the bytes after it, where they are there.
+pub fn u32_at(bytes: &[u8]) -> Option<(u32, &[u8])>
     ensures { option_map (λ x. (x.0, x.1.now)) result ≡ raw_at w32 bytes.now }
 {
     match bytes.split_first_chunk::<4>() {
@@ -13,6 +14,7 @@ fn u32_at(bytes: &[u8]) -> Option<(u32, &[u8])>
     }
 }
 
+/// A whole number in 8 bytes, and the bytes after it, where they are there.
 pub fn u64_at(bytes: &[u8]) -> Option<(u64, &[u8])>
     ensures { option_map (λ x. (x.0, x.1.now)) result ≡ raw_at w64 bytes.now }
 {
