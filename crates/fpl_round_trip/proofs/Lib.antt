@@ -1,3 +1,6 @@
 pub mod Trees
 pub mod Decimals
 pub mod Spelled
+pub mod Coefficients
+pub mod NameSymbols
+pub mod Written
