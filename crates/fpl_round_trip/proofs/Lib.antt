@@ -4,3 +4,4 @@ pub mod Spelled
 pub mod Coefficients
 pub mod NameSymbols
 pub mod Written
+pub mod Lines
