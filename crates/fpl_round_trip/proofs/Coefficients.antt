@@ -58,7 +58,7 @@ fraction_back n d some h =
 
 -- residues
 
-listed_small : (p : ℕ) → IsListed p → p ≤ 65521
+pub listed_small : (p : ℕ) → IsListed p → p ≤ 65521
 listed_small p h =
     All-contains (λ q. q ≤ 65521) PRIMES p
     (All-from_recursion (λ q. q ≤ 65521) PRIMES (omega arith, (omega arith, (omega arith, (omega arith, (omega arith, (omega arith, (omega arith, (omega arith, (omega arith, (omega arith, (omega arith, (omega arith, (omega arith, (omega arith, (omega arith, tt))))))))))))))))

@@ -5,3 +5,4 @@ pub mod Coefficients
 pub mod NameSymbols
 pub mod Written
 pub mod Lines
+pub mod Declarations

@@ -92,7 +92,7 @@ no_place : (t : Bool) (place : ℕ) → t ≡ false → (◌≡◌ {A = Option �
 no_place true place e = cc
 no_place false place e = refl
 
-or_none : (a b : Option ℕ) → a ≡ None → b ≡ None → or_else a b ≡ None
+pub or_none : (a b : Option ℕ) → a ≡ None → b ≡ None → or_else a b ≡ None
 or_none None b h k = k
 or_none (Some place) b h k = cc
 
@@ -174,7 +174,7 @@ module _ (text : List ℕ) (p : Presentation) (known : IsField p.field) (named :
 
   -- the sides of claims
 
-  spells_line_end : (after : List ℕ) (symbols : List Symbol) → IsLeft text (59 ∷ 10 ∷ after) → Spells text 0 after symbols → Spells text 0 (59 ∷ 10 ∷ after) (mark.Semicolon ∷ symbols)
+  pub spells_line_end : (after : List ℕ) (symbols : List Symbol) → IsLeft text (59 ∷ 10 ∷ after) → Spells text 0 after symbols → Spells text 0 (59 ∷ 10 ∷ after) (mark.Semicolon ∷ symbols)
   spells_line_end after symbols e s = spells_mark text 0 0 59 (10 ∷ after) symbols refl refl (omega arith) e (spells_blank text 0 10 after symbols refl (later text (59 ∷ []) (10 ∷ after) e) s)
 
   abbrev side : Expr → List ℕ
@@ -235,7 +235,7 @@ module _ (text : List ℕ) (p : Presentation) (known : IsField p.field) (named :
       ∙ append_assoc (word ++ L) (codes " = ") (R ++ (59 ∷ 10 ∷ after)) ∙ append_assoc word L (32 ∷ 61 ∷ 32 ∷ (R ++ (59 ∷ 10 ∷ after)))
 
   -- the first word of a line
-  spells_first : (word rest : List ℕ) (symbols : List Symbol) → IsTrue (is_word word) → length word ≤ 32 → IsLeft text (word ++ (32 ∷ rest)) → Spells text 0 rest symbols
+  pub spells_first : (word rest : List ℕ) (symbols : List Symbol) → IsTrue (is_word word) → length word ≤ 32 → IsLeft text (word ++ (32 ∷ rest)) → Spells text 0 rest symbols
       → Spells text 0 (word ++ (32 ∷ rest)) (word_symbol word (place text (word ++ (32 ∷ rest))) (place text (word ++ (32 ∷ rest)) + length word) ∷ symbols)
   spells_first word rest symbols is few e s = spells_word text 0 word (32 ∷ rest) symbols is few refl (omega arith) e (spells_blank text 0 32 rest symbols refl (later text word (32 ∷ rest) e) s)
 
