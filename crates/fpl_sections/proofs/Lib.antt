@@ -1,2 +1,4 @@
+pub mod Pairs
 pub mod Fields
 pub mod Bodies
+pub mod Framed
