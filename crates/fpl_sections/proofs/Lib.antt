@@ -2,3 +2,4 @@ pub mod Pairs
 pub mod Fields
 pub mod Bodies
 pub mod Framed
+pub mod Written
