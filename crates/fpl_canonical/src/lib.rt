@@ -1,0 +1,8 @@
+//! The canonical text of a presentation.
+#![tactic(auto)]
+
+mod expression;
+mod numerals;
+mod writing;
+
+pub use writing::write;
