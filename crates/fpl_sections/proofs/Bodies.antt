@@ -1,8 +1,8 @@
 -- Payloads: what is read is what was written, and stands for one section.
-use Rattle.std.proofs.Common.{◌≡◌, ℕ, ◌-◌, ◌^◌, ◌<◌, ◌≤◌, List, [], ◌∷◌, ◌++◌, length, get_or, take, drop, Option, Some, None, Result, Ok, Err, refl, sym, ap, subst, ◌∙◌, arith}
-use Rattle.std.specs.Prelude.{IfOk, slice_range}
+use Rattle.std.proofs.Common.{◌≡◌, ℕ, ◌^◌, ◌<◌, List, [], ◌∷◌, ◌++◌, length, Option, Some, None, Result, Ok, Err, refl, sym, ap, subst, ◌∙◌}
+use Rattle.std.specs.Prelude.{IfOk}
 use Rattle.std.specs.List.{AllByRecursion}
-use Rattle.std.specs.Int.{w32, w64, to_be_bytes}
+use Rattle.std.specs.Int.{w32, w64}
 use Rattle.std.proofs.lemmas.List.{append-nil}
 use Rattle.fpl_numbers.specs.declared.number.Kind.{Kind}
 use Rattle.fpl_log.specs.declared.step.Step.{Step}
@@ -14,7 +14,7 @@ use Rattle.fpl_bytes.specs.declared.fault.BadBytes.{BadBytes}
 use Rattle.fpl_bytes.specs.declared.fault.ScanError.{ScanError}
 use Rattle.fpl_bytes.specs.Codes.{IsBytes, Takes, IsCode, counted_bytes}
 use Rattle.fpl_bytes.specs.Reading.{◌>>=◌, Gives, whole_at, counted_at}
-use Rattle.fpl_bytes.proofs.Steps.{bind_ok, ok_is, IsBytes-take, IsBytes-drop}
+use Rattle.fpl_bytes.proofs.Steps.{bind_ok, ok_is}
 use Rattle.fpl_bytes.proofs.WholeNumbers.{wide32, wide64, whole_code}
 use Rattle.fpl_bytes.proofs.Items.{counted_code}
 use Rattle.fpl_sections.specs.Spelling.{origins_bytes, step_bytes, row_bytes, payload_bytes}
@@ -54,18 +54,18 @@ module _ (version : Version) (kind : Kind) (w end : ℕ) where
   unfolding body_at
   body_takes bytes x rest fits e =
       let t = three_take (origins_bytes version) (origins_at version end) (IsStoredCount version) (origins_code version end) (counted_bytes w64 (step_bytes version kind)) (counted_at w64 (step_at version kind end) end)
-        (λ ss. (length ss < 2 ^ 64) × AllByRecursion (IsStoredStep version kind) ss) steps_code
-        (counted_bytes w32 (row_bytes version kind)) (counted_at w32 (row_at version kind end) end) (λ rs. (length rs < 2 ^ 32) × AllByRecursion (IsStoredRow version kind) rs) rows_code section_of bytes x rest fits e in
+      (λ ss. (length ss < 2 ^ 64) × AllByRecursion (IsStoredStep version kind) ss) steps_code
+      (counted_bytes w32 (row_bytes version kind)) (counted_at w32 (row_at version kind end) end) (λ rs. (length rs < 2 ^ 32) × AllByRecursion (IsStoredRow version kind) rs) rows_code section_of bytes x rest fits e in
       subst (λ (y : Section). Takes bytes (payload_bytes version kind y) rest × (IsStoredSection version kind y × (y.weight ≡ w))) t.value
-        (t.text, (record { origins = t.left_fits; steps = t.middle_fits; closed = t.right_fits }, refl))
+      (t.text, (record { origins = t.left_fits; steps = t.middle_fits; closed = t.right_fits }, refl))
 
   body_again : (s : Section) (rest : List ℕ) → IsStoredSection version kind s → s.weight ≡ w → body_at version kind w end (payload_bytes version kind s ++ rest) ≡ Ok (s, rest)
   unfolding body_at
   body_again s rest fits e =
       three_again (origins_bytes version) (origins_at version end) (IsStoredCount version) (origins_code version end) (counted_bytes w64 (step_bytes version kind)) (counted_at w64 (step_at version kind end) end)
-        (λ ss. (length ss < 2 ^ 64) × AllByRecursion (IsStoredStep version kind) ss) steps_code
-        (counted_bytes w32 (row_bytes version kind)) (counted_at w32 (row_at version kind end) end) (λ rs. (length rs < 2 ^ 32) × AllByRecursion (IsStoredRow version kind) rs) rows_code section_of
-        s.origins s.steps s.closed rest fits.origins fits.steps fits.closed
+      (λ ss. (length ss < 2 ^ 64) × AllByRecursion (IsStoredStep version kind) ss) steps_code
+      (counted_bytes w32 (row_bytes version kind)) (counted_at w32 (row_at version kind end) end) (λ rs. (length rs < 2 ^ 32) × AllByRecursion (IsStoredRow version kind) rs) rows_code section_of
+      s.origins s.steps s.closed rest fits.origins fits.steps fits.closed
       ∙ ap (λ (v : ℕ). Ok (record { weight = v; origins = s.origins; steps = s.steps; closed = s.closed }, rest)) (sym e)
 
   all_is : (p : Section × List ℕ) (s : Section) → all_of end p ≡ Ok s → (p.1 ≡ []) × (p.0 ≡ s)

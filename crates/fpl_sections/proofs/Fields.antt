@@ -1,7 +1,6 @@
 -- The fields of a section that are read are those that were written, and what was written is read again.
-use Rattle.std.proofs.Common.{◌≡◌, ℕ, zero, suc, ◌^◌, ◌<◌, Bool, true, false, cond, List, [], ◌∷◌, ◌++◌, length, Option, Some, None, Result, Ok, Err, refl, sym, ap, subst, ◌∙◌, append_assoc, arith, ◌⊎◌, inl, inr}
+use Rattle.std.proofs.Common.{◌≡◌, ℕ, ◌^◌, ◌<◌, Bool, true, false, cond, List, [], ◌∷◌, ◌++◌, Result, Ok, Err, refl, sym, ap, subst, ◌∙◌, ◌⊎◌, inl, inr}
 use Rattle.std.specs.Prelude.{◌&&◌, ◌==◌, if◌then◌else◌}
-use Rattle.std.specs.List.{flat_map, AllByRecursion}
 use Rattle.std.specs.Int.{w32, w64, to_be_bytes}
 use Rattle.std.proofs.lemmas.Bool.{eqb-true, and_parts}
 use Rattle.fpl_numbers.specs.declared.number.Num.{Num}
@@ -15,20 +14,19 @@ use Rattle.fpl_log.specs.declared.step.Step.TheVariants.{Insert, Close}
 use Rattle.fpl_log.specs.declared.closed.Coefficient.{Coefficient}
 use Rattle.fpl_bytes.specs.declared.version.Version.{Version}
 use Rattle.fpl_bytes.specs.declared.version.Version.TheVariants.{One, Two}
-use Rattle.fpl_bytes.specs.declared.fault.ByteWhy.{ByteWhy}
 use Rattle.fpl_bytes.specs.declared.fault.ByteWhy.TheVariants.{BadTag, BadNumber}
 use Rattle.fpl_bytes.specs.declared.fault.BadBytes.{BadBytes}
-use Rattle.fpl_bytes.specs.Codes.{IsBytes, Takes, IsCode, counted_bytes}
-use Rattle.fpl_bytes.specs.Reading.{◌>>=◌, fault, whole_at, counted_at}
+use Rattle.fpl_bytes.specs.Codes.{IsBytes, Takes, IsCode}
+use Rattle.fpl_bytes.specs.Reading.{fault, whole_at}
 use Rattle.fpl_bytes.specs.Numbers.{number_bytes, number_at, IsStored}
-use Rattle.fpl_bytes.proofs.Steps.{bind_ok, ok_is, Takes-then, IsBytes-rest}
+use Rattle.fpl_bytes.proofs.Steps.{bind_ok, ok_is, IsBytes-rest}
 use Rattle.fpl_bytes.proofs.WholeNumbers.{wide32, wide64, whole_code}
 use Rattle.fpl_bytes.proofs.StoredNumbers.{number_code}
 use Rattle.fpl_bytes.proofs.Items.{counted_code}
 use Rattle.fpl_sections.proofs.Pairs.{both_take, both_again, three_take, three_again}
 use Rattle.fpl_sections.specs.declared.tags.TheConstants.{INSERT, CLOSE, RELATION, JACOBI, CUBE}
 use Rattle.fpl_sections.specs.Spelling.{origin_bytes, term_bytes, terms_bytes, step_bytes, coefficient_bytes, row_bytes}
-use Rattle.fpl_sections.specs.Reading.{is_two, tag_at, relation_at, jacobi_at, cube_at, origin_at, scale_at, term_at, terms_at, insert_at, close_at, step_at, coefficient_at, row_at}
+use Rattle.fpl_sections.specs.Reading.{is_two, relation_at, jacobi_at, cube_at, origin_at, scale_at, term_at, terms_at, insert_at, close_at, step_at, coefficient_at, row_at}
 use Rattle.fpl_sections.specs.Stored.{IsStoredOrigin, IsStoredScale, IsStoredTerm, AreStoredTerms, IsStoredStep, IsStoredCoefficient, IsStoredRow}
 
 four : (end : ℕ) → IsCode (to_be_bytes w32) (whole_at w32 end) (λ n. n < 2 ^ 32)
@@ -70,14 +68,14 @@ jacobi_takes : (version : Version) (end : ℕ) (bytes : List ℕ) (x : Origin) (
 unfolding jacobi_at
 jacobi_takes version end bytes x rest fits e =
     let t = three_take (to_be_bytes w32) (whole_at w32 end) (λ n. n < 2 ^ 32) (four end) (to_be_bytes w32) (whole_at w32 end) (λ n. n < 2 ^ 32) (four end) (to_be_bytes w32) (whole_at w32 end) (λ n. n < 2 ^ 32) (four end)
-      (λ (i j k : ℕ). Jacobi i j k) bytes x rest fits e in
+    (λ (i j k : ℕ). Jacobi i j k) bytes x rest fits e in
     subst (λ (y : Origin). Takes (JACOBI ∷ bytes) (origin_bytes y) rest × IsStoredOrigin version y) t.value (tagged JACOBI bytes _ rest t.text, (t.left_fits, t.middle_fits, t.right_fits))
 
 jacobi_again : (end i j k : ℕ) (rest : List ℕ) → i < 2 ^ 32 → j < 2 ^ 32 → k < 2 ^ 32 → jacobi_at end ((to_be_bytes w32 i ++ (to_be_bytes w32 j ++ to_be_bytes w32 k)) ++ rest) ≡ Ok (Jacobi i j k, rest)
 unfolding jacobi_at
 jacobi_again end i j k rest p q r =
     three_again (to_be_bytes w32) (whole_at w32 end) (λ n. n < 2 ^ 32) (four end) (to_be_bytes w32) (whole_at w32 end) (λ n. n < 2 ^ 32) (four end) (to_be_bytes w32) (whole_at w32 end) (λ n. n < 2 ^ 32) (four end)
-      (λ (i j k : ℕ). Jacobi i j k) i j k rest p q r
+    (λ (i j k : ℕ). Jacobi i j k) i j k rest p q r
 
 origin_takes : (version : Version) (end : ℕ) (bytes : List ℕ) (x : Origin) (rest : List ℕ) → IsBytes bytes → origin_at version end bytes ≡ Ok (x, rest) → Takes bytes (origin_bytes x) rest × IsStoredOrigin version x
 unfolding origin_at
@@ -94,7 +92,7 @@ origin_takes version end (tag ∷ bytes) x rest fits e =
                 elim (chosen (tag == CUBE && is_two version) (cube_at end bytes) bad (Ok (x, rest)) q.1) [
                   | inl r ↦ let both = and_parts (tag == CUBE) (is_two version) r.0 in
                       subst (λ (t : ℕ). Takes (t ∷ bytes) (origin_bytes x) rest × IsStoredOrigin version x) (sym (eqb-true tag CUBE both.0))
-                        (subst (λ (v : Version). Takes (CUBE ∷ bytes) (origin_bytes x) rest × IsStoredOrigin v x) (two_is version both.1) (cube_takes end bytes x rest (IsBytes-rest tag bytes fits) r.1))
+                      (subst (λ (v : Version). Takes (CUBE ∷ bytes) (origin_bytes x) rest × IsStoredOrigin v x) (two_is version both.1) (cube_takes end bytes x rest (IsBytes-rest tag bytes fits) r.1))
                   | inr r ↦ absurd (let k : ⊥ = cc (r.1) in k)
                 ]
           ]
@@ -139,11 +137,11 @@ module _ (version : Version) (kind : Kind) (end : ℕ) where
   unfolding term_at
   term_code = record {
     takes = λ bytes x rest fits e.
-      let t = both_take (to_be_bytes w64) (whole_at w64 end) (λ n. n < 2 ^ 64) (eight end) (number_bytes version kind) (number_at version kind end) (IsStored version kind) (number_code version kind end)
+        let t = both_take (to_be_bytes w64) (whole_at w64 end) (λ n. n < 2 ^ 64) (eight end) (number_bytes version kind) (number_at version kind end) (IsStored version kind) (number_code version kind end)
         (λ (n : ℕ) (a : Num). record { step = n; factor = a }) bytes x rest fits e in
-      subst (λ (y : Term). Takes bytes (term_bytes version kind y) rest × IsStoredTerm version kind y) t.value (t.text, record { step = t.left_fits; factor = t.right_fits });
+        subst (λ (y : Term). Takes bytes (term_bytes version kind y) rest × IsStoredTerm version kind y) t.value (t.text, record { step = t.left_fits; factor = t.right_fits });
     again = λ x rest fits.
-      both_again (to_be_bytes w64) (whole_at w64 end) (λ n. n < 2 ^ 64) (eight end) (number_bytes version kind) (number_at version kind end) (IsStored version kind) (number_code version kind end)
+        both_again (to_be_bytes w64) (whole_at w64 end) (λ n. n < 2 ^ 64) (eight end) (number_bytes version kind) (number_at version kind end) (IsStored version kind) (number_code version kind end)
         (λ (n : ℕ) (a : Num). record { step = n; factor = a }) x.step x.factor rest fits.step fits.factor;
   }
 
@@ -151,11 +149,11 @@ module _ (version : Version) (kind : Kind) (end : ℕ) where
   unfolding coefficient_at
   coefficient_code = record {
     takes = λ bytes x rest fits e.
-      let t = both_take (to_be_bytes w32) (whole_at w32 end) (λ n. n < 2 ^ 32) (four end) (number_bytes version kind) (number_at version kind end) (IsStored version kind) (number_code version kind end)
+        let t = both_take (to_be_bytes w32) (whole_at w32 end) (λ n. n < 2 ^ 32) (four end) (number_bytes version kind) (number_at version kind end) (IsStored version kind) (number_code version kind end)
         (λ (n : ℕ) (a : Num). record { symbol = n; number = a }) bytes x rest fits e in
-      subst (λ (y : Coefficient). Takes bytes (coefficient_bytes version kind y) rest × IsStoredCoefficient version kind y) t.value (t.text, record { symbol = t.left_fits; number = t.right_fits });
+        subst (λ (y : Coefficient). Takes bytes (coefficient_bytes version kind y) rest × IsStoredCoefficient version kind y) t.value (t.text, record { symbol = t.left_fits; number = t.right_fits });
     again = λ x rest fits.
-      both_again (to_be_bytes w32) (whole_at w32 end) (λ n. n < 2 ^ 32) (four end) (number_bytes version kind) (number_at version kind end) (IsStored version kind) (number_code version kind end)
+        both_again (to_be_bytes w32) (whole_at w32 end) (λ n. n < 2 ^ 32) (four end) (number_bytes version kind) (number_at version kind end) (IsStored version kind) (number_code version kind end)
         (λ (n : ℕ) (a : Num). record { symbol = n; number = a }) x.symbol x.number rest fits.symbol fits.number;
   }
 
@@ -174,14 +172,14 @@ module _ (version : Version) (kind : Kind) (end : ℕ) where
   unfolding insert_at
   insert_takes bytes x rest fits e =
       let t = three_take origin_bytes (origin_at version end) (IsStoredOrigin version) (origin_code version end) (number_bytes version kind) (scale_at version kind end) (IsStoredScale version kind) scale_code
-        (terms_bytes version kind) (terms_at version kind end) (AreStoredTerms version kind) terms_code (λ (o : Origin) (k : Num) (ts : List Term). Insert o ts k) bytes x rest fits e in
+      (terms_bytes version kind) (terms_at version kind end) (AreStoredTerms version kind) terms_code (λ (o : Origin) (k : Num) (ts : List Term). Insert o ts k) bytes x rest fits e in
       subst (λ (y : Step). Takes (INSERT ∷ bytes) (step_bytes version kind y) rest × IsStoredStep version kind y) t.value (tagged INSERT bytes _ rest t.text, (t.left_fits, t.middle_fits, t.right_fits))
 
   close_takes : (bytes : List ℕ) (x : Step) (rest : List ℕ) → IsBytes bytes → close_at version kind end bytes ≡ Ok (x, rest) → Takes (CLOSE ∷ bytes) (step_bytes version kind x) rest × IsStoredStep version kind x
   unfolding close_at
   close_takes bytes x rest fits e =
       let t = both_take (to_be_bytes w64) (whole_at w64 end) (λ n. n < 2 ^ 64) (eight end) (terms_bytes version kind) (terms_at version kind end) (AreStoredTerms version kind) terms_code
-        (λ (n : ℕ) (ts : List Term). Close n ts) bytes x rest fits e in
+      (λ (n : ℕ) (ts : List Term). Close n ts) bytes x rest fits e in
       subst (λ (y : Step). Takes (CLOSE ∷ bytes) (step_bytes version kind y) rest × IsStoredStep version kind y) t.value (tagged CLOSE bytes _ rest t.text, (t.left_fits, t.right_fits))
 
   step_takes : (bytes : List ℕ) (x : Step) (rest : List ℕ) → IsBytes bytes → step_at version kind end bytes ≡ Ok (x, rest) → Takes bytes (step_bytes version kind x) rest × IsStoredStep version kind x
@@ -202,10 +200,10 @@ module _ (version : Version) (kind : Kind) (end : ℕ) where
   unfolding step_at insert_at close_at
   step_again (Insert o ts k) rest fits =
       three_again origin_bytes (origin_at version end) (IsStoredOrigin version) (origin_code version end) (number_bytes version kind) (scale_at version kind end) (IsStoredScale version kind) scale_code
-        (terms_bytes version kind) (terms_at version kind end) (AreStoredTerms version kind) terms_code (λ (o : Origin) (k : Num) (ts : List Term). Insert o ts k) o k ts rest fits.0 fits.1 fits.2
+      (terms_bytes version kind) (terms_at version kind end) (AreStoredTerms version kind) terms_code (λ (o : Origin) (k : Num) (ts : List Term). Insert o ts k) o k ts rest fits.0 fits.1 fits.2
   step_again (Close n ts) rest fits =
       both_again (to_be_bytes w64) (whole_at w64 end) (λ n. n < 2 ^ 64) (eight end) (terms_bytes version kind) (terms_at version kind end) (AreStoredTerms version kind) terms_code
-        (λ (n : ℕ) (ts : List Term). Close n ts) n ts rest fits.0 fits.1
+      (λ (n : ℕ) (ts : List Term). Close n ts) n ts rest fits.0 fits.1
 
   pub step_code : IsCode (step_bytes version kind) (step_at version kind end) (IsStoredStep version kind)
   step_code = record { takes = step_takes; again = step_again }

@@ -1,5 +1,5 @@
 -- Frames: what is found is what stands there.
-use Rattle.std.proofs.Common.{◌≡◌, ℕ, ◌+◌, ◌-◌, ◌^◌, ◌<◌, ◌≤◌, Bool, true, false, cond, ltb, eqb, List, [], ◌∷◌, ◌++◌, length, get_or, take, drop, Option, Some, None, Result, Ok, Err, refl, sym, ap, ap₂, ◌∙◌, append_assoc, arith}
+use Rattle.std.proofs.Common.{◌≡◌, ℕ, ◌+◌, ◌-◌, ◌^◌, ◌<◌, ◌≤◌, Bool, true, false, ltb, eqb, List, ◌++◌, length, take, drop, Option, Some, None, Result, Ok, Err, refl, sym, ap, ap₂, ◌∙◌, append_assoc, arith}
 use Rattle.std.specs.Prelude.{slice_range, if◌then◌else◌}
 use Rattle.std.specs.Int.{w32, w64, to_be_bytes}
 use Rattle.std.proofs.lemmas.Bool.{ltb-false, le-ltb, eqb-true, eq-eqb}
@@ -21,7 +21,7 @@ frame_found before payload after w small short =
     let at = length before in
     let text = to_be_bytes w64 (length payload) ++ (payload ++ after) in
     let grouped : frame_bytes w payload ++ after ≡ to_be_bytes w32 w ++ text =
-      append_assoc (to_be_bytes w32 w) (to_be_bytes w64 (length payload) ++ payload) after ∙ ap (λ (l : List ℕ). to_be_bytes w32 w ++ l) (append_assoc (to_be_bytes w64 (length payload)) payload after) in
+    append_assoc (to_be_bytes w32 w) (to_be_bytes w64 (length payload) ++ payload) after ∙ ap (λ (l : List ℕ). to_be_bytes w32 w ++ l) (append_assoc (to_be_bytes w64 (length payload)) payload after) in
     let rest : drop at (before ++ (frame_bytes w payload ++ after)) ≡ to_be_bytes w32 w ++ text = drop_at before (frame_bytes w payload ++ after) at refl ∙ grouped in
     let long : ltb (length (payload ++ after)) (length payload) ≡ false = le-ltb _ _ (omega (arith, length-append payload after)) in
     ap (λ (l : List ℕ). weighed_at at w (raw_at w32 l)) rest ∙ ap (weighed_at at w) (raw_again w32 wide32 w text small) ∙ ap (sized_at at w w) (raw_again w64 wide64 (length payload) (payload ++ after) short)
@@ -82,7 +82,7 @@ frame_stands bytes at w from to fits e =
     let sized : length (slice_range bytes from to) ≡ q.0.0 = ap length payload ∙ length-take-le q.0.0 q.0.1 f.long in
     let joined : slice_range bytes from to ++ drop to bytes ≡ q.0.1 = ap₂ (λ (x y : List ℕ). x ++ y) payload after ∙ take-append-drop q.0.0 q.0.1 in
     let made : frame_bytes w (slice_range bytes from to) ++ drop to bytes ≡ to_be_bytes w32 w ++ (to_be_bytes w64 q.0.0 ++ q.0.1) =
-      regrouped w (length (slice_range bytes from to)) (slice_range bytes from to) (drop to bytes) ∙ ap₂ (λ (n : ℕ) (l : List ℕ). to_be_bytes w32 w ++ (to_be_bytes w64 n ++ l)) sized joined in
+    regrouped w (length (slice_range bytes from to)) (slice_range bytes from to) (drop to bytes) ∙ ap₂ (λ (n : ℕ) (l : List ℕ). to_be_bytes w32 w ++ (to_be_bytes w64 n ++ l)) sized joined in
     (sym f.from_is, order, inside, whole ∙ sym made)
   where
     regrouped : (w n : ℕ) (x y : List ℕ) → (to_be_bytes w32 w ++ (to_be_bytes w64 n ++ x)) ++ y ≡ to_be_bytes w32 w ++ (to_be_bytes w64 n ++ (x ++ y))

@@ -1,5 +1,5 @@
 -- Fields that stand one after another, and what is made of them.
-use Rattle.std.proofs.Common.{◌≡◌, ℕ, ◌<◌, List, ◌++◌, Result, Ok, Err, ap, subst, ◌∙◌, append_assoc}
+use Rattle.std.proofs.Common.{◌≡◌, ℕ, List, ◌++◌, Result, Ok, ap, subst, ◌∙◌, append_assoc}
 use Rattle.fpl_bytes.specs.declared.fault.BadBytes.{BadBytes}
 use Rattle.fpl_bytes.specs.Codes.{IsBytes, Takes, IsCode}
 use Rattle.fpl_bytes.specs.Reading.{◌>>=◌}

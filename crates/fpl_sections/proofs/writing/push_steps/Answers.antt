@@ -12,5 +12,5 @@ loop-n-preserved c = elim c.match-get.branch [
   | in-None w ↦ absurd (let l : length c.args.steps.now ≤ c.loop-n.n = past_end c.args.steps.now c.loop-n.n w.in-None.ensures in omega arith)
   | in-Some+in_ok-push_step-in-Some w ↦
       item_written (step_bytes Two c.args.kind) c.args.steps.now c.loop-n.n w.in-Some.step.now c.args.out.now.items (to_be_bytes w64 (length c.args.steps.now)) c.loop-n.out.items c.match-get.out.items
-        w.in-Some.ensures c.loop-n.invariant (ap (λ v. v.items) w.out-is ∙ w.in_ok-push_step-in-Some.ensures)
+      w.in-Some.ensures c.loop-n.invariant (ap (λ v. v.items) w.out-is ∙ w.in_ok-push_step-in-Some.ensures)
 ]
