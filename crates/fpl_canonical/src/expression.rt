@@ -11,7 +11,7 @@ use std::alloc::AllocError;
 
 /// Where an expression stands.
 #[derive(Clone, Copy, Debug, PartialEq, Eq)]
-pub(crate) enum Stand {
+pub enum Stand {
     /// As a side of an equation, an ideal element or a member of a bracket.
     Alone,
     /// As a member of a sum, after its sign.
