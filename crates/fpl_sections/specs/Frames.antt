@@ -2,8 +2,8 @@
 --
 --   frame_of bytes at w   the payload's range of the section that begins at a place, the dropped tail where it isn't all there,
 --                         or SectionWeight where it is whole and its weight isn't w
-use Rattle.std.specs.Prelude.{◌≡◌, ℕ, ◌+◌, ◌-◌, List, length, take, drop, nat_lt, ◌==◌, Option, Some, None, Result, Ok, Err, if◌then◌else◌}
-use Rattle.std.specs.Int.{w32, w64, from_be_bytes}
+use Rattle.std.specs.Prelude.{ℕ, ◌+◌, List, length, drop, nat_lt, ◌==◌, Option, Some, None, Result, Ok, Err, if◌then◌else◌}
+use Rattle.std.specs.Int.{w32, w64}
 use Rattle.fpl_bytes.specs.declared.fault.ByteWhy.TheVariants.{SectionWeight}
 use Rattle.fpl_bytes.specs.declared.fault.BadBytes.{BadBytes}
 use Rattle.fpl_bytes.specs.Reading.{raw_at}
