@@ -1,5 +1,5 @@
 -- What the plain run of a weight gives is the table's next weight.
-use Rattle.std.specs.Prelude.{◌≡◌, ◌<◌, ◌≤◌, ◌↔◌, List, length, Ok, Contains}
+use Rattle.std.specs.Prelude.{◌≡◌, ◌<◌, ◌≤◌, ◌↔◌, List, [], length, Ok, Contains}
 use mathlib.Core.Path.{sym, subst}
 use Rattle.fpl_linear.specs.Vector.{Vector}
 use Rattle.fpl_linear.specs.Span.{Spanned, SpansKind}
@@ -10,6 +10,7 @@ use Rattle.fpl_numbers.specs.Numbers.{IsField}
 use Rattle.fpl_numbers.specs.Kinds.{field_of}
 use Rattle.fpl_rows.specs.Meaning.{row_in, IsClosedList, InSpanOf}
 use Rattle.fpl_log.specs.declared.step.Origin.{Origin}
+use Rattle.fpl_log.specs.Slim.{AreInOrder}
 use Rattle.fpl_elimination.specs.Plain.{Held, rows_of}
 use Rattle.fpl_algebra.specs.SourceRows.{IsSource}
 use Rattle.fpl_model.specs.declared.presentation.Presentation.{Presentation}
@@ -17,6 +18,8 @@ use Rattle.fpl_model.specs.Meaning.{presentation_in}
 use Rattle.fpl_table.specs.Plain.{PlainTable, table_in, symbols_in}
 use Rattle.fpl_table.specs.Push.{push_of}
 use Rattle.fpl_next.specs.Holds.{Holds}
+use Rattle.fpl_next.specs.Raised.{IsRaised}
+use Rattle.fpl_next.specs.Raised.IsRaised.{pushed}
 use Rattle.fpl_next.proofs.Holding.{push_holds}
 use Rattle.fpl_rewrite.specs.Origins.{origins_of}
 use Rattle.fpl_rewrite.specs.Rows.{row_of_origin}
@@ -26,6 +29,7 @@ use Rattle.fpl_faithful.specs.TableLaws.{vector_of_origin}
 use Rattle.fpl_faithful.proofs.Laws.{rows_of_shape, weights_of_built, rows_stand, origins_are_sources, sources_are_origins}
 use Rattle.fpl_completion.specs.Weight.{close_weight}
 use Rattle.fpl_completion.proofs.Closed.{close_weight_closes}
+use Rattle.fpl_completion.proofs.Recorded.{steps_in_order}
 
 module _ (p : Presentation) (T : PlainTable) where
   -- each row of an origin stands for its vector, over the field of kind k
@@ -98,3 +102,19 @@ module _ (p : Presentation) (T : PlainTable) where
     -- so the table with the weight pushed is built again
     pub next_holds : (h : Held) → close_weight T p ≡ Ok h → T.weight < 1000 → length (symbols_in T) ≤ 2000000 → Holds p (push_of T (rows_of h.pivots))
     next_holds h run below few = push_holds p T (rows_of h.pivots) holds below few (weighed_closed h run) (weighed_spans h run)
+
+    -- and raised again
+    pub next_raised : (h : Held) → close_weight T p ≡ Ok h → IsRaised p T → IsRaised p (push_of T (rows_of h.pivots))
+    next_raised h run raised = pushed T (rows_of h.pivots) raised (weighed_closed h run) (weighed_spans h run)
+
+    pub weighed_in_order : (h : Held) → close_weight T p ≡ Ok h → AreInOrder [] 0 h.steps
+    weighed_in_order h run =
+        subst (λ k. (vector : Origin → Vector (field_of k)) → RowsStand k vector → AreInOrder [] 0 h.steps) holds.kind
+        (λ vector stand.
+        steps_in_order T p is_field vector
+        (record {
+          elements = λ o c row f. (stand o c row f).elements;
+          long = λ o c row f. (stand o c row f).long;
+          stands = λ o c row f. (stand o c row f).vector;
+        }) h run)
+        vector stand

@@ -53,7 +53,7 @@ module _ (T : PlainTable) (is_field : IsField T.kind) (p : Presentation) (n : �
   abbrev pub IsAmong : List Origin → Vector K → Type 0
   IsAmong os x = (o : Origin) × Contains os o × (vector o ≡ x)
 
-  first_of : (o : Origin) (os : List Origin) → Contains (o ∷ os) o
+  pub first_of : (o : Origin) (os : List Origin) → Contains (o ∷ os) o
   first_of o os = (0, omega arith, refl)
 
   later : (o : Origin) (os : List Origin) (x : Origin) → Contains os x → Contains (o ∷ os) x
@@ -62,7 +62,7 @@ module _ (T : PlainTable) (is_field : IsField T.kind) (p : Presentation) (n : �
       at : (k : ℕ) → get_or os k x ≡ x → get_or (o ∷ os) (k + 1) x ≡ x
       at k e = subst (λ w. get_or (o ∷ os) w x ≡ x) (let f : suc k ≡ k + 1 = omega arith in f) e
 
-  rest : (o : Origin) (os : List Origin) → ReadsRows (o ∷ os) → ReadsRows os
+  pub rest : (o : Origin) (os : List Origin) → ReadsRows (o ∷ os) → ReadsRows os
   rest o os h = record {
     elements = λ x c. h.elements x (later o os x c);
     long = λ x c. h.long x (later o os x c);

@@ -17,13 +17,13 @@ pub fn completion()
 {}
 
 /// The steps that a weight's run records are in order, and there is one Insert step for each origin.
-pub fn recorded()
+pub fn recording()
     ensures order { StepsAreInOrder }
     ensures origins { OriginsAreCounted }
 {}
 
 /// Computing a weight of a presentation gives one thing, and over a prime its section.
-pub fn computed()
+pub fn computing()
     ensures one { ComputesOne }
     ensures primes { ComputesOverPrimes }
 {}

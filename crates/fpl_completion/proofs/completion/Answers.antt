@@ -7,7 +7,7 @@ use Rattle.fpl_next.proofs.Holding.{held_is_table}
 use Rattle.fpl_faithful.proofs.Fits.{part_fits}
 use Rattle.fpl_faithful.proofs.Fitting.{Always, prime_always}
 use Rattle.fpl_completion.specs.Weight.{close_weight}
-use Rattle.fpl_completion.proofs.Completed.{weighed_closed, next_holds}
+use Rattle.fpl_completion.proofs.Completed.{weighed_closed, next_holds, next_raised}
 use Rattle.fpl_completion.proofs.Counts.{counts_pushed}
 use Rattle.fpl_completion.proofs.Fitting.{close_weight_fits}
 use Rattle.fpl_completion.proofs.completion.Goals as goal
@@ -15,6 +15,7 @@ use Rattle.fpl_completion.proofs.completion.Goals as goal
 pub returns : goal.returns
 returns c = record {
   next = λ p T h holds below few run. (weighed_closed p T holds h run, next_holds p T holds h run below few);
+  raised = λ p T h holds raised run. next_raised p T holds h run raised;
   table = λ p T S holds below few run.
       let f = part_fits {T = Held} (λ h. push_of T (rows_of h.pivots)) (close_weight T p) S run in
       subst (IsTableOf p (suc T.weight)) (sym f.1.1) (held_is_table p (push_of T (rows_of f.0.pivots)) (next_holds p T holds f.0 f.1.0 below few));
