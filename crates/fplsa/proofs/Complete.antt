@@ -8,7 +8,7 @@ use Rattle.fpl_model.specs.Sound.{IsSound}
 use Rattle.fpl_reader.proofs.OneAnswer.{one_presentation, not_both}
 use Rattle.fpl_reader.proofs.Soundness.{presentation_sound}
 use Rattle.fpl_table.specs.Standard.{count_through}
-use Rattle.fpl_completion.specs.Section.{ComputesOverPrimes}
+use Rattle.fpl_completion.proofs.Computed.{computes_over_primes}
 use Rattle.fpl_complete.specs.State.{unfit_of}
 use Rattle.fplsa.specs.declared.status.Status.{Status}
 use Rattle.fplsa.specs.declared.status.Status.TheVariants.{Done, Usage, Refused, Limit, Overflow, NoMemory, ReadFault, WriteFault, NotBuilt}
@@ -41,10 +41,6 @@ free_cases NotBuilt h = absurd h
 table_read : IsUnread Table → ⊥
 table_read (inl e) = cc
 table_read (inr e) = cc
-
--- TEMPORARY
-computes_over_primes : ComputesOverPrimes
-computes_over_primes = ?
 
 module _ (words : List (List ℕ)) (bytes : List ℕ) (h : HasTable words bytes) where
   sound : IsSound h.presentation

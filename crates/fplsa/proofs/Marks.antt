@@ -10,16 +10,16 @@ use Rattle.fplsa.specs.Answer.{IsCheckpoint, checkpoint_mark}
 
 odd_piece : (f : Form) (bs after : List ℕ) → IsPiece f bs after → slice_index (bs ++ after) 0 ≡ checkpoint_mark → f ≡ other
 odd_piece blank [] after h e = absurd h
-odd_piece blank (b ∷ []) after h e = absurd (subst (λ x. IsTrue (is_blank x)) e h)
+odd_piece blank (b ∷ []) after h e = let no : IsTrue (is_blank checkpoint_mark) = subst (λ x. IsTrue (is_blank x)) e h in cc
 odd_piece blank (b ∷ c ∷ bs) after h e = absurd h
 odd_piece comment [] after h e = absurd h
 odd_piece comment (b ∷ bs) after h e = absurd (omega (arith, h.0, e))
 odd_piece word [] after h e = absurd h
-odd_piece word (b ∷ bs) after h e = absurd (subst (λ x. IsTrue (is_letter x)) e h.0)
+odd_piece word (b ∷ bs) after h e = let no : IsTrue (is_letter checkpoint_mark) = subst (λ x. IsTrue (is_letter x)) e h.0 in cc
 odd_piece number [] after h e = absurd h
-odd_piece number (b ∷ bs) after h e = absurd (subst (λ x. IsTrue (is_digit x)) e h.0)
+odd_piece number (b ∷ bs) after h e = let no : IsTrue (is_digit checkpoint_mark) = subst (λ x. IsTrue (is_digit x)) e h.0 in cc
 odd_piece mark [] after h e = absurd h
-odd_piece mark (b ∷ []) after h e = absurd (subst (λ x. IsTrue (is_mark x)) e h)
+odd_piece mark (b ∷ []) after h e = let no : IsTrue (is_mark checkpoint_mark) = subst (λ x. IsTrue (is_mark x)) e h in cc
 odd_piece mark (b ∷ c ∷ bs) after h e = absurd h
 odd_piece other bs after h e = refl
 

@@ -13,7 +13,8 @@ use Rattle.fpl_table.specs.Plain.{PlainTable}
 use Rattle.fpl_table.specs.Standard.{IsTableOf, count_through}
 use Rattle.fpl_next.specs.Holds.{AreOne}
 use Rattle.fpl_next.proofs.One.{tables_are_one}
-use Rattle.fpl_completion.specs.Section.{FitsAt, OverflowsAt, ComputesOne}
+use Rattle.fpl_completion.specs.Section.{FitsAt, OverflowsAt}
+use Rattle.fpl_completion.proofs.Computed.{computes_one}
 use Rattle.fpl_complete.specs.State.{unfit_of}
 use Rattle.fpl_print.specs.TableText.{table_text, names_of}
 use Rattle.fpl_print.proofs.OneText.{one_text}
@@ -29,10 +30,6 @@ use Rattle.fplsa.specs.Answer.Answers.{no_command, command}
 use Rattle.fplsa.specs.OneReply.{OneReply}
 use Rattle.fplsa.proofs.Names.{one_command}
 use Rattle.fplsa.proofs.Parts.{counts_through}
-
--- TEMPORARY
-pub computes_one : ComputesOne
-computes_one = ?
 
 pub numbers_one : (p : Presentation) (w m n : ℕ) → IsSound p → NumberThrough p w m → NumberThrough p w n → m ≡ n
 numbers_one p w m n sound h k = go (dec_lt k.through h.through)

@@ -4,7 +4,8 @@ ghost use Rattle.fpl_outside.specs.Outside.{Rose, Takes};
 ghost use Rattle.fpl_outside.specs.Whole.{WrotePrefix};
 ghost use Rattle.fpl_print.specs.Combinations.{below_text, magnitude_text, number_text, sign_text, is_below_nought};
 ghost use Rattle.fplsa.specs.Reply.{line_of, op_text};
-ghost use Rattle.fplsa.specs.Outcome.{reply_of, piece_text, pieces_text};
+ghost use Rattle.fplsa.specs.Line.{piece_text, pieces_text};
+ghost use Rattle.fplsa.specs.Outcome.{reply_of};
 
 use crate::outcome::Outcome;
 use fpl_numbers::{Num, Op};
