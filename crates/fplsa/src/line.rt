@@ -1,13 +1,13 @@
 //! The line that says why nothing was written. It is put piece by piece and takes no memory.
-ghost use Rattle.std.specs.Prelude.{◌≡◌, ◌≤◌, ◌++◌, OnOk, OnErr};
+ghost use Rattle.std.specs.Prelude.{◌≡◌, ◌≤◌, true, OnOk, OnErr};
 ghost use Rattle.fpl_outside.specs.Outside.{Rose, Takes};
 ghost use Rattle.fpl_outside.specs.Whole.{WrotePrefix};
 ghost use Rattle.fpl_print.specs.Combinations.{below_text, magnitude_text, number_text, sign_text, is_below_nought};
-ghost use Rattle.fplsa.specs.Reply.{line_of, op_text};
+ghost use Rattle.fplsa.specs.Reply.{Reply, line_of, op_text, refused, limit, overflow};
 ghost use Rattle.fplsa.specs.Line.{piece_text, pieces_text};
-ghost use Rattle.fplsa.specs.Outcome.{reply_of};
+ghost use Rattle.fplsa.specs.Outcome.{refusal_text, reply_of};
 
-use crate::outcome::Outcome;
+use crate::outcome::{Outcome, Refusal};
 use fpl_numbers::{Num, Op};
 use fpl_outside::{Sink, WriteFault, write_whole};
 use itoa::{Buffer, Integer};
@@ -105,6 +105,76 @@ fn op_text(op: Op) -> &'static [u8]
     }
 }
 
+fn put_refused<E: Sink>(
+    err: &mut E,
+    place: u64,
+    why: Refusal,
+) -> Result<(), WriteFault>
+    ensures whole { OnOk result (Takes (E.taken err.old) (E.taken err.new) (line_of (refused place (refusal_text why)))) }
+    ensures part { OnErr result (WrotePrefix (E.taken err.old) (E.taken err.new) (line_of (refused place (refusal_text why)))) }
+    ensures fault { OnErr result (Rose (E.faults err.old) (E.faults err.new)) }
+    ensures later { E.faults err.old ≤ E.faults err.new }
+{
+    put_pieces(
+        err,
+        &[
+            Piece::Text(b"refused at byte "),
+            Piece::Count(place),
+            Piece::Text(b": "),
+            Piece::Text(why.text()),
+            Piece::Text(b"\n"),
+        ],
+    )
+}
+
+fn put_limit<E: Sink>(
+    err: &mut E,
+    weight: u32,
+    count: u64,
+) -> Result<(), WriteFault>
+    ensures whole { OnOk result (Takes (E.taken err.old) (E.taken err.new) (line_of (limit weight count))) }
+    ensures part { OnErr result (WrotePrefix (E.taken err.old) (E.taken err.new) (line_of (limit weight count))) }
+    ensures fault { OnErr result (Rose (E.faults err.old) (E.faults err.new)) }
+    ensures later { E.faults err.old ≤ E.faults err.new }
+{
+    put_pieces(
+        err,
+        &[
+            Piece::Text(b"limit at weight "),
+            Piece::Count(u64::from(weight)),
+            Piece::Text(b": "),
+            Piece::Count(count),
+            Piece::Text(b" symbols\n"),
+        ],
+    )
+}
+
+fn put_overflow<E: Sink>(
+    err: &mut E,
+    weight: u32,
+    op: Op,
+    a: Num,
+    b: Num,
+) -> Result<(), WriteFault>
+    ensures whole { OnOk result (Takes (E.taken err.old) (E.taken err.new) (line_of (overflow weight op a b))) }
+    ensures part { OnErr result (WrotePrefix (E.taken err.old) (E.taken err.new) (line_of (overflow weight op a b))) }
+    ensures fault { OnErr result (Rose (E.faults err.old) (E.faults err.new)) }
+    ensures later { E.faults err.old ≤ E.faults err.new }
+{
+    put_pieces(
+        err,
+        &[
+            Piece::Text(b"overflow at weight "),
+            Piece::Count(u64::from(weight)),
+            Piece::Text(b": "),
+            Piece::Number(a),
+            Piece::Text(op_text(op)),
+            Piece::Number(b),
+            Piece::Text(b"\n"),
+        ],
+    )
+}
+
 /// Puts the line of an outcome, and nothing where its text was written.
 pub fn put_line<E: Sink>(err: &mut E, outcome: &Outcome) -> Result<(), WriteFault>
     ensures whole { OnOk result (Takes (E.taken err.old) (E.taken err.new) (line_of (reply_of outcome.now))) }
@@ -115,38 +185,9 @@ pub fn put_line<E: Sink>(err: &mut E, outcome: &Outcome) -> Result<(), WriteFaul
     match outcome {
         Outcome::Done(_) => write_whole(err, b""),
         Outcome::Usage => write_whole(err, b"usage: fplsa VIEW LIMIT [ENTRIES]\n"),
-        Outcome::Refused { place, why } => put_pieces(
-            err,
-            &[
-                Piece::Text(b"refused at byte "),
-                Piece::Count(*place),
-                Piece::Text(b": "),
-                Piece::Text(why.text()),
-                Piece::Text(b"\n"),
-            ],
-        ),
-        Outcome::Limit { weight, count } => put_pieces(
-            err,
-            &[
-                Piece::Text(b"limit at weight "),
-                Piece::Count(u64::from(*weight)),
-                Piece::Text(b": "),
-                Piece::Count(*count),
-                Piece::Text(b" symbols\n"),
-            ],
-        ),
-        Outcome::Overflow { weight, op, a, b } => put_pieces(
-            err,
-            &[
-                Piece::Text(b"overflow at weight "),
-                Piece::Count(u64::from(*weight)),
-                Piece::Text(b": "),
-                Piece::Number(*a),
-                Piece::Text(op_text(*op)),
-                Piece::Number(*b),
-                Piece::Text(b"\n"),
-            ],
-        ),
+        Outcome::Refused { place, why } => put_refused(err, *place, *why),
+        Outcome::Limit { weight, count } => put_limit(err, *weight, *count),
+        Outcome::Overflow { weight, op, a, b } => put_overflow(err, *weight, *op, *a, *b),
         Outcome::NoMemory => write_whole(err, b"no memory\n"),
         Outcome::ReadFault => write_whole(err, b"read fault\n"),
         Outcome::WriteFault => write_whole(err, b"write fault\n"),
