@@ -76,7 +76,7 @@ pub raised_cost : (p q : Presentation) (from d old new : ℕ) → q ≡ p → fr
     (count : ℕ → ℕ) → BoundsOrigins p 0 d count → new ≤ old + sum_after count 0 d
 raised_cost p q from d old new same start most count bounds =
     let whole : (count : ℕ → ℕ) → BoundsOrigins p 0 d count → new ≤ old + sum_after count 0 (d - 0) =
-        subst (λ x. (count : ℕ → ℕ) → BoundsOrigins x 0 d count → new ≤ old + sum_after count 0 (d - 0)) same
-        (subst (λ n. (count : ℕ → ℕ) → BoundsOrigins q n d count → new ≤ old + sum_after count n (d - n)) start most) in
+    subst (λ x. (count : ℕ → ℕ) → BoundsOrigins x 0 d count → new ≤ old + sum_after count 0 (d - 0)) same
+    (subst (λ n. (count : ℕ → ℕ) → BoundsOrigins q n d count → new ≤ old + sum_after count n (d - n)) start most) in
     let none : d - 0 ≡ d = omega arith in
     subst (λ n. new ≤ old + sum_after count 0 n) none (whole count bounds)

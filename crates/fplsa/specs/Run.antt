@@ -61,7 +61,6 @@ pub record HasTable (words : List (List ℕ)) (bytes : List ℕ) : Type 0 where
   pub within : (w : ℕ) → w ≤ command.limit → count_through table w ≤ command.entries
   pub fits : presentation.field ≡ Rational → (w : ℕ) → 1 ≤ w → w ≤ command.limit → FitsAt presentation w
 
-
 pub record CostsAtMost (d : ℕ) (bytes : List ℕ) (old new : ℕ) : Type 0 where
   pub rises : old ≤ new
   pub most : (p : Presentation) (count : ℕ → ℕ) → HasPresentation bytes p → BoundsOrigins p 0 d count → new ≤ old + sum_after count 0 d

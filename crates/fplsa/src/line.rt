@@ -105,11 +105,7 @@ fn op_text(op: Op) -> &'static [u8]
     }
 }
 
-fn put_refused<E: Sink>(
-    err: &mut E,
-    place: u64,
-    why: Refusal,
-) -> Result<(), WriteFault>
+fn put_refused<E: Sink>(err: &mut E, place: u64, why: Refusal) -> Result<(), WriteFault>
     ensures whole { OnOk result (Takes (E.taken err.old) (E.taken err.new) (line_of (refused place (refusal_text why)))) }
     ensures part { OnErr result (WrotePrefix (E.taken err.old) (E.taken err.new) (line_of (refused place (refusal_text why)))) }
     ensures fault { OnErr result (Rose (E.faults err.old) (E.faults err.new)) }
@@ -127,11 +123,7 @@ fn put_refused<E: Sink>(
     )
 }
 
-fn put_limit<E: Sink>(
-    err: &mut E,
-    weight: u32,
-    count: u64,
-) -> Result<(), WriteFault>
+fn put_limit<E: Sink>(err: &mut E, weight: u32, count: u64) -> Result<(), WriteFault>
     ensures whole { OnOk result (Takes (E.taken err.old) (E.taken err.new) (line_of (limit weight count))) }
     ensures part { OnErr result (WrotePrefix (E.taken err.old) (E.taken err.new) (line_of (limit weight count))) }
     ensures fault { OnErr result (Rose (E.faults err.old) (E.faults err.new)) }
@@ -149,13 +141,7 @@ fn put_limit<E: Sink>(
     )
 }
 
-fn put_overflow<E: Sink>(
-    err: &mut E,
-    weight: u32,
-    op: Op,
-    a: Num,
-    b: Num,
-) -> Result<(), WriteFault>
+fn put_overflow<E: Sink>(err: &mut E, weight: u32, op: Op, a: Num, b: Num) -> Result<(), WriteFault>
     ensures whole { OnOk result (Takes (E.taken err.old) (E.taken err.new) (line_of (overflow weight op a b))) }
     ensures part { OnErr result (WrotePrefix (E.taken err.old) (E.taken err.new) (line_of (overflow weight op a b))) }
     ensures fault { OnErr result (Rose (E.faults err.old) (E.faults err.new)) }
