@@ -15,6 +15,7 @@ use Rattle.fpl_linear.proofs.Closed.{swept_iff, at_pivot, rows_number, rows_same
 use Rattle.fpl_linear.proofs.Closing.{rows_closing}
 use Rattle.fpl_linear.proofs.Echelon.{reduce_iff}
 use Rattle.fpl_linear.proofs.Reduced.{put_echelon, kept_leads, kept_place, kept_within, kept_whole, close_reduced, close_spans, reduced_same}
+use Rattle.fpl_linear.proofs.ReducedRows.{reduced_is_closed}
 use Rattle.fpl_linear.proofs.Kernel.{solutions_are, same_solutions}
 use Rattle.fpl_theorems.specs.Linear.{SpansAreOne, SweepsToZero, SweepsInSpan, SweepsPivots, SomeClosedList, OneClosedList, ReducesToZero, PutSpansMore, ClosesReduced, OneReduced, AreRowsOf, ReducedIsClosed, FreeRowsSolve, KernelOfRows}
 
@@ -71,29 +72,8 @@ module _ (K : Field) where
   pub one_reduced : OneReduced K
   one_reduced n at at' r r' same = reduced_same K n at at' r r' (λ u h. (same u).0 (spanned_one K _ u h)) (λ u h. (same u).1 (spanned_one K _ u h))
 
-  some_is : {T : Type 0} {x y : T} → Some x ≡ Some y → x ≡ y
-  some_is e = cc
-
-  rows_of_pivots : (at : Pivots K) (count : ℕ) (row : ℕ → Vector K) (pivot : ℕ → ℕ) → AreRowsOf K at count row pivot → SpansKind K (IsRow K at) count row
-  rows_of_pivots at count row pivot h = record {
-    each = λ u r. let f = h.all r.0 u r.1 in subst (InSpan K count row) (some_is (sym (h.there f.0 f.1) ∙ ap at f.2 ∙ r.1)) (in_span K count row f.0 f.1);
-    from = λ i l. spanned_one K (IsRow K at) (row i) (pivot i, h.there i l);
-  }
-
-  pub reduced_is_closed : ReducedIsClosed K
-  reduced_is_closed n at r count row pivot h = (
-    record {
-      leads = λ i l. (r.echelon.has_lead (pivot i) (row i) (h.there i l)).leads;
-      above = λ i s l k. (r.echelon.has_lead (pivot i) (row i) (h.there i l)).above s k;
-      ascend = h.ascend;
-      apart = λ i j l k d. r.apart (pivot i) (pivot j) (row i) (row j) (h.there i l) (h.there j k) (apart i j l k d (dec_lt i j));
-    },
-    λ v. let s = kind_span_iff K (IsRow K at) count row (rows_of_pivots at count row pivot h) v in (s.1, s.0),
-  )
-    where
-      apart : (i j : ℕ) → i < count → j < count → i ≢ j → Dec (i < j) → pivot i ≢ pivot j
-      apart i j l k d (yes o) e = absurd (omega (arith, h.ascend i j o k, e))
-      apart i j l k d (no o) e = let p : j < i = omega (arith, o, d) in absurd (omega (arith, h.ascend j i p l, e))
+  pub rows_are_closed : ReducedIsClosed K
+  rows_are_closed n at r count row pivot h = reduced_is_closed K n at r count row pivot h
 
   pub free_rows_solve : FreeRowsSolve K
   free_rows_solve n at r x = solutions_are K n at r x
