@@ -1,12 +1,10 @@
 -- Proofs of the theorems of linear algebra.
-use Rattle.std.specs.Prelude.{ℕ, ◌≡◌, ◌≢◌, ◌<◌, Some}
+use Rattle.std.specs.Prelude.{◌≡◌}
 use mathlib.Core.Path.{sym, ap, ◌∙◌, subst}
-use native.Mathlib.Omega.{arith}
-use native.Mathlib.Decide.{dec_lt}
 use Rattle.fpl_fields.specs.Field.{Field}
 use Rattle.fpl_linear.specs.Vector.{Vector, vplus, scale}
-use Rattle.fpl_linear.specs.Span.{InSpan, IsRowOf, SpansKind, combination}
-use Rattle.fpl_linear.specs.Echelon.{Pivots, IsRow}
+use Rattle.fpl_linear.specs.Span.{InSpan, IsRowOf, combination}
+use Rattle.fpl_linear.specs.Echelon.{IsRow}
 use Rattle.fpl_linear.proofs.Vectors.{vplus_assoc, vzero-vplus, vplus_comm, minus-vplus, scale_scale, scale-vplus, scale-unit}
 use Rattle.fpl_linear.proofs.Numbers.{minus_squared}
 use Rattle.fpl_linear.proofs.Span.{rows_span, kind_span_iff, in_span, spanned_one}
@@ -17,7 +15,7 @@ use Rattle.fpl_linear.proofs.Echelon.{reduce_iff}
 use Rattle.fpl_linear.proofs.Reduced.{put_echelon, kept_leads, kept_place, kept_within, kept_whole, close_reduced, close_spans, reduced_same}
 use Rattle.fpl_linear.proofs.ReducedRows.{reduced_is_closed}
 use Rattle.fpl_linear.proofs.Kernel.{solutions_are, same_solutions}
-use Rattle.fpl_theorems.specs.Linear.{SpansAreOne, SweepsToZero, SweepsInSpan, SweepsPivots, SomeClosedList, OneClosedList, ReducesToZero, PutSpansMore, ClosesReduced, OneReduced, AreRowsOf, ReducedIsClosed, FreeRowsSolve, KernelOfRows}
+use Rattle.fpl_theorems.specs.Linear.{SpansAreOne, SweepsToZero, SweepsInSpan, SweepsPivots, SomeClosedList, OneClosedList, ReducesToZero, PutSpansMore, ClosesReduced, OneReduced, ReducedIsClosed, FreeRowsSolve, KernelOfRows}
 
 module _ (K : Field) where
   pub spans_are_one : SpansAreOne K

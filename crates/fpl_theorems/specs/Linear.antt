@@ -13,7 +13,7 @@
 --   ReducedIsClosed        the rows of a reduced echelon, in the order of their places, are a closed list
 --   FreeRowsSolve          the solutions of a reduced echelon are what its free rows span
 --   KernelOfRows           and so are the solutions of any rows with its span
-use Rattle.std.specs.Prelude.{ℕ, ◌≡◌, ◌<◌, ◌≤◌, ◌↔◌, ◌⊎◌, Some, None}
+use Rattle.std.specs.Prelude.{ℕ, ◌≡◌, ◌<◌, ◌≤◌, ◌↔◌, ◌⊎◌, None}
 use Rattle.fpl_fields.specs.Field.{Field}
 use Rattle.fpl_linear.specs.Vector.{Vector, vzero, vplus, scale}
 use Rattle.fpl_linear.specs.Span.{Spanned, InSpan, IsRowOf}
