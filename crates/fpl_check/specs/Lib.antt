@@ -1,0 +1,5 @@
+pub mod Refusal
+pub mod Premises
+pub mod Steps
+pub mod ClosedRows
+pub mod Check
