@@ -44,20 +44,23 @@ test_origins T p rows (o ∷ os) = passing (test_origin T p rows o) (test_origin
 abbrev pub rows_stored : PlainTable → Section → List (List Num)
 rows_stored T s = map (stored_row (length (symbols_in T))) s.closed
 
--- the tests after those of the steps, of which these are the conclusions
-abbrev pub tests_after : PlainTable → Presentation → Section → List (List Num) → Result (Unit {0}) Refusal
-tests_after T p s conclusions =
-    let rows = rows_stored T s in
+-- tests 2 to 6, where the steps have these conclusions
+abbrev pub test_closed : PlainTable → Section → List (List Num) → Result (Unit {0}) Refusal
+test_closed T s conclusions =
     passing (test_closes s)
     (passing (test_forms (length (symbols_in T)) 1 s.closed)
-    (passing (test_conclusions 1 rows (close_rows s.steps conclusions))
-    (passing (test_leads 1 0 rows)
-    (passing (test_apart 1 rows rows)
-    (passing (test_count s.origins (length (origins_of T p)))
-    (test_origins T p rows (origins_of T p)))))))
+    (passing (test_conclusions 1 (rows_stored T s) (close_rows s.steps conclusions))
+    (passing (test_leads 1 0 (rows_stored T s))
+    (test_apart 1 (rows_stored T s) (rows_stored T s)))))
 
 abbrev pub check_of : PlainTable → Presentation → Section → Result (List (List Num)) Refusal
-check_of T p s = and_then (λ conclusions. passing (tests_after T p s conclusions) (Ok (rows_stored T s))) (conclusions_of T p s)
+check_of T p s =
+    and_then (λ conclusions.
+    passing (test_closed T s conclusions)
+    (passing (test_count s.origins (length (origins_of T p)))
+    (passing (test_origins T p (rows_stored T s) (origins_of T p))
+    (Ok (rows_stored T s)))))
+    (conclusions_of T p s)
 
 abbrev pub Accepts : PlainTable → Presentation → Section → List (List Num) → Type 0
 Accepts T p s rows = check_of T p s ≡ Ok rows

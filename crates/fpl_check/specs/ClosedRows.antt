@@ -63,6 +63,12 @@ test_same k s [] concluded = Ok tt
 test_same k s (a ∷ as') [] = Ok tt
 test_same k s (a ∷ as') (b ∷ bs) = passing (demand (same_num a b) (AtClosed k) (Differs s a b)) (test_same k (s + 1) as' bs)
 
+-- the same, where there are both rows
+abbrev pub test_at : ℕ → Option (List Num) → Option (List Num) → Result (Unit {0}) Refusal
+test_at k None concluded = Ok tt
+test_at k (Some stored) None = Ok tt
+test_at k (Some stored) (Some concluded) = test_same k 1 stored concluded
+
 abbrev pub test_conclusions : ℕ → List (List Num) → List (List Num) → Result (Unit {0}) Refusal
 test_conclusions k [] closes = Ok tt
 test_conclusions k (row ∷ rows) [] = Ok tt
