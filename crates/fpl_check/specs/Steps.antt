@@ -42,7 +42,7 @@ is_relation T p r = nat_le 1 r && weighs_next T (slice_get p.relations (r - 1))
 
 -- (i, j, k), and i, are basis elements of the table
 abbrev pub is_triple_of : PlainTable → ℕ → ℕ → ℕ → Bool
-is_triple_of T i j k = nat_le 1 i && nat_le k (length T.basis) && is_triple T (i - 1) (j - 1) (k - 1)
+is_triple_of T i j k = nat_le 1 i && nat_le i j && nat_le j k && nat_le k (length T.basis) && is_triple T (i - 1) (j - 1) (k - 1)
 
 abbrev pub is_cube_of : PlainTable → ℕ → Bool
 is_cube_of T i = is_three T.kind && nat_le 1 i && nat_le i (length T.basis) && is_cube T (i - 1)

@@ -22,9 +22,8 @@ fn count_closes(steps: &StepList) -> u64
 {
     let mut closes = 0;
     for i in 0..steps.len() {
-        match steps.get(i) {
-            Some(Step::Close { .. }) => closes += 1,
-            _ => {}
+        if is_close(steps, i) {
+            closes += 1;
         }
     }
     closes

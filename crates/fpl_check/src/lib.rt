@@ -5,6 +5,7 @@ mod check;
 mod cites;
 mod closed;
 mod fault;
+mod laws;
 mod leads;
 mod origin;
 mod origins;
@@ -13,4 +14,5 @@ mod steps;
 mod stored;
 
 pub use check::check_section;
+pub use laws::accepted;
 pub use fault::{CheckFault, Spot, Why};
