@@ -299,8 +299,9 @@ module _ (T : PlainTable) (is_field : IsField T.kind) (p : Presentation) (s : Se
         let r = conclusions_spanned T is_field p vector stand s.steps [] s.steps k.conclusions (λ i d l. absurd (omega (arith, l))) section.numbers.steps k.concluded in
         let closes = close_among (IsSpannedRow T is_field p vector) s.steps k.conclusions r.0 in
         let count : close_count s.steps ≡ length s.closed = same_count _ _ (demanded _ _ _ k.closes) in
+        let whole : length k.conclusions ≡ length s.steps = (let l = r.1 in omega (arith, l)) in
         let many : length rows ≡ length (close_rows s.steps k.conclusions) =
-            ap length (sym k.are) ∙ length-map s.closed (stored_row (length (symbols_in T))) ∙ sym count ∙ sym (close_length s.steps k.conclusions r.1) in
+            ap length (sym k.are) ∙ length-map s.closed (stored_row (length (symbols_in T))) ∙ sym count ∙ sym (close_length s.steps k.conclusions whole) in
         subst (All (IsSpannedRow T is_field p vector))
         (sym (all_same T.kind (length (symbols_in T)) 1 rows (close_rows s.steps k.conclusions) (passed_rows rows k) (λ i d l. (closes i d l).row) many k.same)) closes
 
