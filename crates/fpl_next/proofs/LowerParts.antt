@@ -1,5 +1,5 @@
--- The part of a table through a lower weight is built.
-use Rattle.std.specs.Prelude.{ℕ, suc, ◌≡◌, ◌<◌, ◌≤◌, ◌+◌, ◌-◌, List, [], ◌∷◌, length, get_or, take, max, cond, nat_le}
+-- The invariant holds of the part of a table through a lower weight.
+use Rattle.std.specs.Prelude.{ℕ, ◌≡◌, ◌<◌, ◌≤◌, ◌+◌, ◌-◌, List, [], length, get_or, take}
 use mathlib.Core.Path.{sym, refl, ap, ap₂, ◌∙◌, fun_ext}
 use native.Mathlib.Omega.{arith}
 use native.Mathlib.Decide.{dec_le}
@@ -10,37 +10,18 @@ use Rattle.fpl_numbers.specs.declared.number.Kind.{Kind}
 use Rattle.fpl_numbers.specs.Kinds.{Number, field_of}
 use Rattle.fpl_rows.specs.Meaning.{vector_in}
 use Rattle.fpl_algebra.specs.Tree.{Presentation as Algebra, generator, no_generator}
-use Rattle.fpl_algebra.specs.Symbols.{is_odd}
-use Rattle.fpl_algebra.specs.Table.{Basis, no_basis}
 use Rattle.fpl_algebra.specs.Built.{IsLower}
 use Rattle.fpl_theorems.proofs.StandardLaws.{lower_is_built}
 use Rattle.fpl_model.specs.Meaning.{presentation_in}
-use Rattle.fpl_table.specs.Plain.{PlainTable, plain_basis, leading, through, partner_from, first_partner, generator_at, image_row, entry_row, table_in}
+use Rattle.fpl_table.specs.Plain.{PlainTable, plain_basis, through, partner_from, generator_at, image_row, entry_row, table_in}
 use Rattle.fpl_table.specs.Truncate.{truncate_of}
 use Rattle.fpl_table.specs.Shape.{HasShape}
+use Rattle.fpl_table.proofs.Truncated.{basis_long, basis_kept, partner_kept, truncate_shape}
 use Rattle.fpl_table.proofs.Weights.{through_above, through_below, through_within}
-use Rattle.fpl_next.specs.Holds.{TruncatesBuilt}
+use Rattle.fpl_next.specs.Holds.{TruncatesHold}
 use Rattle.fpl_next.proofs.Holding.{sound_is_sound}
 
--- counting up to a weight sees only the elements up to a greater one
-leading_take : (bs : List Basis) (d v : ℕ) → v ≤ d → leading (take (leading bs d) bs) v ≡ leading bs v
-unfolding leading
-leading_take [] d v l = refl
-leading_take (b ∷ bs) d v l = go (dec_le b.weight d) (leading_take bs d v l)
-  where
-    go : Dec (b.weight ≤ d) → leading (take (leading bs d) bs) v ≡ leading bs v → leading (take (cond (nat_le b.weight d) (suc (leading bs d)) 0) (b ∷ bs)) v ≡ cond (nat_le b.weight v) (suc (leading bs v)) 0
-    go (yes h) r =
-        ap (λ n. leading (take n (b ∷ bs)) v) (let e : cond (nat_le b.weight d) (suc (leading bs d)) 0 ≡ suc (leading bs d) = grind arith in e) ∙ ap (λ n. cond (nat_le b.weight v) (suc n) 0) r
-    go (no h) r =
-        ap (λ n. leading (take n (b ∷ bs)) v) (let e : cond (nat_le b.weight d) (suc (leading bs d)) 0 ≡ 0 = grind arith in e) ∙ (let e : 0 ≡ cond (nat_le b.weight v) (suc (leading bs v)) 0 = grind arith in e)
-
 module _ (T : PlainTable) (shape : HasShape T) (d : ℕ) (within : d ≤ T.weight) where
-  long : length (truncate_of T d).basis ≡ through T d
-  long = length-take-le (through T d) T.basis (through_within T shape d)
-
-  basis_is : (i : ℕ) → i < through T d → plain_basis (truncate_of T d) i ≡ plain_basis T i
-  basis_is i l = get_or-take (through T d) T.basis i no_basis l
-
   image_is : (g : ℕ) → g < length T.generators → (generator_at T g).weight ≤ d → image_row (truncate_of T d) g ≡ image_row T g
   image_is g l w = ap (λ r. get_or r g []) (get_or-take d T.images ((generator_at T g).weight - 1) [] (omega (arith, w, (shape.weights g l).0)))
 
@@ -51,20 +32,15 @@ module _ (T : PlainTable) (shape : HasShape T) (d : ℕ) (within : d ≤ T.weigh
 
   entry_is : (i j : ℕ) → i < through T d → j < through T d → (plain_basis T i).weight + (plain_basis T j).weight ≤ d → entry_row (truncate_of T d) i j ≡ entry_row T i j
   entry_is i j l k w =
-      ap (at_level (truncate_of T d) i j) (ap₂ (λ a b. a.weight + b.weight) (basis_is i l) (basis_is j k))
+      ap (at_level (truncate_of T d) i j) (ap₂ (λ a b. a.weight + b.weight) (basis_kept T shape d within i l) (basis_kept T shape d within j k))
       ∙ ap₂ (λ a b. get_or (get_or a i []) (j - b) []) (get_or-take d T.entries ((plain_basis T i).weight + (plain_basis T j).weight - 1) [] (omega (arith, w, shape.heavy i here)))
-      (partner_is ((plain_basis T i).weight + (plain_basis T j).weight) w)
+      (partner_kept T shape d within i ((plain_basis T i).weight + (plain_basis T j).weight) l w)
     where
       here : i < length T.basis
       here = omega (arith, l, through_within T shape d)
 
       at_level : PlainTable → ℕ → ℕ → ℕ → List Num
       at_level S i j w = get_or (get_or (get_or S.entries (w - 1) []) i []) (j - partner_from S i w) []
-
-      partner_is : (w : ℕ) → w ≤ d → partner_from (truncate_of T d) i w ≡ partner_from T i w
-      partner_is w h =
-          ap (λ b. max (cond (is_odd b.parity) i (i + 1)) (through (truncate_of T d) (w - b.weight - 1))) (basis_is i l)
-          ∙ ap (max (first_partner T i)) (leading_take T.basis d (w - (plain_basis T i).weight - 1) (omega (arith, h)))
 
   module _ (k : Kind) (P : Algebra (Number k)) (gens : P.generators ≡ T.generators) where
     weight_is : (g : ℕ) → (generator P g).weight ≡ (generator_at T g).weight
@@ -77,23 +53,29 @@ module _ (T : PlainTable) (shape : HasShape T) (d : ℕ) (within : d ≤ T.weigh
     pub lower_is : IsLower (field_of k) P (table_in k T) (table_in k (truncate_of T d))
     lower_is = record {
       less = within;
-      fewer = omega (arith, long, through_within T shape d);
-      basis = λ i l. sym (basis_is i (omega (arith, l, long)));
+      fewer = omega (arith, basis_long T shape d within, through_within T shape d);
+      basis = λ i l. sym (basis_kept T shape d within i (omega (arith, l, basis_long T shape d within)));
       heavier = λ i l h. heavier i l h (dec_le (plain_basis T i).weight d);
-      lighter = λ i l. let h : i < through T d = omega (arith, l, long) in omega (arith, ap (λ b. b.weight) (basis_is i h), through_below T shape d i h);
+      lighter = λ i l. let h : i < through T d = omega (arith, l, basis_long T shape d within) in omega (arith, ap (λ b. b.weight) (basis_kept T shape d within i h), through_below T shape d i h);
       images = λ g l w. sym (ap (vector_in k) (image_is g (omega (arith, l, ap length gens)) (omega (arith, w, weight_is g))));
       past = λ g l w. ap (vector_in k) (image_past g (omega (arith, w, weight_is g))) ∙ no_vector;
       entries = λ i j l h r w.
-          let p : i < through T d = omega (arith, l, long) in
-          let q : j < through T d = omega (arith, h, long) in
-          sym (ap (vector_in k) (entry_is i j p q (omega (arith, w, ap (λ b. b.weight) (basis_is i p), ap (λ b. b.weight) (basis_is j q)))));
+          let p : i < through T d = omega (arith, l, basis_long T shape d within) in
+          let q : j < through T d = omega (arith, h, basis_long T shape d within) in
+          sym (ap (vector_in k) (entry_is i j p q (omega (arith, w, ap (λ b. b.weight) (basis_kept T shape d within i p), ap (λ b. b.weight) (basis_kept T shape d within j q)))));
     }
       where
         heavier : (i : ℕ) → length (truncate_of T d).basis ≤ i → i < length T.basis → Dec ((plain_basis T i).weight ≤ d) → d < (plain_basis T i).weight
-        heavier i l h (yes w) = absurd (omega (arith, l, long, through_above T shape d i h w))
+        heavier i l h (yes w) = absurd (omega (arith, l, basis_long T shape d within, through_above T shape d i h w))
         heavier i l h (no w) = omega (arith, w)
 
-pub truncates_built : TruncatesBuilt
-truncates_built p T d h l =
-    (lower_is_built (field_of p.field) (presentation_in p) (sound_is_sound p h.sound) (table_in p.field T) (table_in p.field (truncate_of T d)) h.built
-    (lower_is T h.shape d l p.field (presentation_in p) (sym h.generators))).0
+pub truncates_hold : TruncatesHold
+truncates_hold p T d h l = record {
+  sound = h.sound;
+  kind = h.kind;
+  generators = h.generators;
+  shape = truncate_shape T h.shape d l;
+  built =
+      (lower_is_built (field_of p.field) (presentation_in p) (sound_is_sound p h.sound) (table_in p.field T) (table_in p.field (truncate_of T d)) h.built
+      (lower_is T h.shape d l p.field (presentation_in p) (sym h.generators))).0;
+}

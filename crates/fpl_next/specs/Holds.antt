@@ -7,7 +7,7 @@
 --   HeldIsTable           such a table is the table of p through its weight
 --   SymbolsAreSame        the symbols that a table names are those of its presentation, in every weight
 --   TablesAreOne          two tables of p through one weight have one basis, equal numbers at each place, and as many symbols
---   TruncatesBuilt        the part of such a table through a lower weight is built
+--   TruncatesHold         so is the part of such a table through a lower weight
 --   SoundIsSound          a sound presentation is sound as far as the algebra goes
 use Rattle.std.specs.Prelude.{ℕ, ◌≡◌, ◌≤◌, ◌<◌, ◌+◌, List, length, get_or}
 use Rattle.fpl_linear.specs.Span.{SpansKind}
@@ -71,6 +71,5 @@ TablesAreOne = (p : Presentation) (d : ℕ) (T S : PlainTable) → IsSound p →
 abbrev pub SoundIsSound : Type 0
 SoundIsSound = (p : Presentation) → IsSound p → IsSoundPresentation (presentation_in p)
 
-abbrev pub TruncatesBuilt : Type 0
-TruncatesBuilt =
-    (p : Presentation) (T : PlainTable) (d : ℕ) → Holds p T → d ≤ T.weight → Built (field_of p.field) (presentation_in p) (table_in p.field (truncate_of T d))
+abbrev pub TruncatesHold : Type 0
+TruncatesHold = (p : Presentation) (T : PlainTable) (d : ℕ) → Holds p T → d ≤ T.weight → Holds p (truncate_of T d)

@@ -3,7 +3,7 @@
 //! Each function does nothing: what it ensures is a law.
 #![tactic(auto)]
 
-ghost use Rattle.fpl_next.specs.Holds.{HeldIsTable, PushHolds, PushKeepsShape, SoundIsSound, StartHolds, SymbolsAreSame, TablesAreOne, TruncatesBuilt};
+ghost use Rattle.fpl_next.specs.Holds.{HeldIsTable, PushHolds, PushKeepsShape, SoundIsSound, StartHolds, SymbolsAreSame, TablesAreOne, TruncatesHold};
 ghost use Rattle.fpl_next.specs.Raised.{RaisedAreOne};
 
 /// A sound presentation is sound as far as the algebra goes, and a table names the symbols of its presentation.
@@ -27,7 +27,7 @@ pub fn one_table()
     ensures raised { RaisedAreOne }
 {}
 
-/// The part of a table through a lower weight is built too.
+/// The invariant holds of the part of a table through a lower weight.
 pub fn truncated()
-    ensures { TruncatesBuilt }
+    ensures { TruncatesHold }
 {}

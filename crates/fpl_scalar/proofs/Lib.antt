@@ -7,3 +7,5 @@ pub mod FractionArithmetic
 pub mod FractionElements
 pub mod ReducedQuotients
 pub mod WholeFractions
+pub mod ResidueRows
+pub mod Noughts

@@ -95,4 +95,18 @@ impl Field for Residue {
             denominator: 1,
         }
     }
+
+    fn axpy(&self, row: &mut [u32], c: u32, other: &[u32]) -> Result<(), Unfit> {
+        fpl_lanes::axpy(self.p, row, c, other);
+        Ok(())
+    }
+
+    fn scale(&self, row: &mut [u32], c: u32) -> Result<(), Unfit> {
+        fpl_lanes::scale(self.p, row, c);
+        Ok(())
+    }
+
+    fn first(&self, row: &[u32]) -> Option<usize> {
+        fpl_lanes::first_nonzero(row)
+    }
 }

@@ -10,3 +10,4 @@ pub mod Leads
 pub mod Places
 pub mod NewRows
 pub mod Pushed
+pub mod Truncated

@@ -9,7 +9,7 @@ use Rattle.fpl_algebra.specs.Tree.{Generator, Tree, none, bracket_of}
 use Rattle.fpl_algebra.specs.Table.{Symbol, of_generator, of_pair, Basis, no_basis}
 use Rattle.fpl_algebra.specs.Symbols.{no_symbol, is_odd, symbols, symbols_of}
 use Rattle.fpl_table.specs.Plain.{PlainTable, leading, through, plain_basis, first_partner, symbols_in, shell_in, table_in}
-use Rattle.fpl_table.specs.Shape.{HasShape, IsRowUpTo, IsOfTable, partners, images_at, entries_at, IsNumbered, grown, basis_trees, symbol_tree_in}
+use Rattle.fpl_table.specs.Shape.{HasShape, IsRowUpTo, IsOfTable, IsBefore, partners, images_at, entries_at, IsNumbered, grown, basis_trees, symbol_tree_in}
 use Rattle.fpl_table.specs.Push.{free_of, new_basis, new_images, new_entries, new_partners, push_of}
 use Rattle.fpl_table.specs.Standard.{count_of}
 use Rattle.fpl_table.specs.Leads.{trees_of, IsNext}
@@ -153,6 +153,25 @@ module _ (T : PlainTable) (rows : List (List Num)) (shape : HasShape T) (below :
           grows (plain_basis (push_of T rows) i).symbol
           (subst (λ b. IsOfTable T b.symbol) (sym (ap (plain_basis (push_of T rows)) (sym is) ∙ fresh_basis q ltq)) (symbol_of_table T (get_or (free_of T rows) q 0) at))
 
+  before_more : (m n : ℕ) (x : Symbol) → m ≤ n → IsBefore m x → IsBefore n x
+  before_more m n (of_generator g) le h = tt
+  before_more m n (of_pair i j) le h = (omega (arith, h.0, le), omega (arith, h.1, le))
+
+  of_table_before : (x : Symbol) → IsOfTable T x → IsBefore (length T.basis) x
+  of_table_before (of_generator g) h = tt
+  of_table_before (of_pair i j) h = h
+
+  members_earlier : (i : ℕ) → i < length (push_of T rows).basis → IsBefore i (plain_basis (push_of T rows) i).symbol
+  members_earlier i lt = go (place i lt)
+    where
+      go : Place i → IsBefore i (plain_basis (push_of T rows) i).symbol
+      go (old within) = subst (λ b. IsBefore i b.symbol) (sym (old_basis i within)) (shape.earlier i within)
+      go (new q ltq is) =
+          let at : get_or (free_of T rows) q 0 < length (symbols_in T) = free_below rows (length (symbols_in T)) q 0 ltq in
+          before_more (length T.basis) i (plain_basis (push_of T rows) i).symbol (omega arith)
+          (subst (λ b. IsBefore (length T.basis) b.symbol) (sym (ap (plain_basis (push_of T rows)) (sym is) ∙ fresh_basis q ltq))
+          (of_table_before (get_or (symbols_in T) (get_or (free_of T rows) q 0) no_symbol) (symbol_of_table T (get_or (free_of T rows) q 0) at)))
+
   first_old : (i : ℕ) → i < length T.basis → first_partner (push_of T rows) i ≡ first_partner T i
   first_old i lt = ap (λ b. cond (is_odd b.parity) i (i + 1)) (old_basis i lt)
 
@@ -254,6 +273,15 @@ module _ (T : PlainTable) (rows : List (List Num)) (shape : HasShape T) (below :
       let k : length T.basis ≤ 2000000 * T.weight = shape.small in
       rw basis_length (omega arith)
 
+  small_through : (w : ℕ) → w ≤ suc T.weight → through (push_of T rows) w ≤ 2000000 * w
+  small_through w le =
+      elim (nat_split T.weight w) [
+        | inl above ↦
+            let here : w ≡ suc T.weight = omega arith in
+            subst (λ v. through (push_of T rows) v ≤ 2000000 * v) (sym here) (let h : through (push_of T rows) (suc T.weight) ≡ length (push_of T rows).basis = through_new ∙ sym basis_length in omega (arith, h, small_enough))
+        | inr within ↦ let h : through (push_of T rows) w ≡ through T w = through_old w within in let k : through T w ≤ 2000000 * w = shape.small_parts w within in omega arith
+      ]
+
   pub push_shape : All (IsRowUpTo T.kind (length T.basis + length (free_of T rows))) (new_images T rows 0 T.generators) →
       All (λ l. All (IsRowUpTo T.kind (length T.basis + length (free_of T rows))) l) (new_entries T rows 0 T.basis) → HasShape (push_of T rows)
   push_shape images entries = record {
@@ -262,10 +290,12 @@ module _ (T : PlainTable) (rows : List (List Num)) (shape : HasShape T) (below :
     weights = shape.weights;
     weight = omega arith;
     small = small_enough;
+    small_parts = small_through;
     heavy = weight_positive;
     light = weight_up;
     ascend = weights_ascend;
     symbols = symbols_of_table;
+    earlier = members_earlier;
     images_length = rw (length-append, shape.images_length) (omega arith);
     image_lengths = image_count;
     image_rows = image_whole images;
@@ -279,12 +309,12 @@ pub symbols_next : (T : PlainTable) → symbols_of (shell_in T.kind T) (table_in
 unfolding symbols symbols_of
 symbols_next T = refl
 
-grown_more : (ts : List (Tree Num)) (bs cs : List Basis) → grown ts (bs ++ cs) ≡ grown (grown ts bs) cs
+pub grown_more : (ts : List (Tree Num)) (bs cs : List Basis) → grown ts (bs ++ cs) ≡ grown (grown ts bs) cs
 unfolding grown
 grown_more ts [] cs = refl
 grown_more ts (b ∷ bs) cs = grown_more (ts ++ symbol_tree_in ts b.symbol ∷ []) bs cs
 
-length-grown : (ts : List (Tree Num)) (bs : List Basis) → length (grown ts bs) ≡ length ts + length bs
+pub length-grown : (ts : List (Tree Num)) (bs : List Basis) → length (grown ts bs) ≡ length ts + length bs
 unfolding grown
 length-grown ts [] = omega arith
 length-grown ts (b ∷ bs) = let h : length (ts ++ symbol_tree_in ts b.symbol ∷ []) ≡ length ts + 1 = length-append ts (symbol_tree_in ts b.symbol ∷ []) in length-grown (ts ++ symbol_tree_in ts b.symbol ∷ []) bs ∙ omega arith

@@ -7,6 +7,7 @@ use Rattle.fpl_algebra.specs.Tree.{no_generator}
 use Rattle.fpl_model.specs.declared.presentation.Generator as declared
 use Rattle.fpl_model.specs.Meaning.{generator_in}
 use Rattle.fpl_model.specs.Sound.{HaveWeights}
+use Rattle.fpl_table.specs.Plain.{leading}
 use Rattle.fpl_table.specs.Shape.{grown}
 use Rattle.fpl_table.specs.Whole.{IsWhole}
 
@@ -19,7 +20,7 @@ weights_within (x ∷ xs) h (suc g) lt = weights_within xs (λ k d below. h (suc
 -- the table through weight 0
 pub start_whole : (kind : Kind) (gs : List declared.Generator) → IsField kind → length gs ≤ 64 → HaveWeights gs →
     IsWhole (record { kind = kind; generators = map generator_in gs; weight = 0; basis = []; images = []; entries = [] }) [] [] []
-unfolding grown
+unfolding grown leading
 start_whole kind gs is few h = record {
   shape = record {
     field = is;
@@ -27,10 +28,12 @@ start_whole kind gs is few h = record {
     weights = weights_within gs h;
     weight = omega arith;
     small = omega arith;
+    small_parts = λ w le. omega arith;
     heavy = λ i lt. absurd (omega (arith, lt));
     light = λ i lt. absurd (omega (arith, lt));
     ascend = λ i j le lt. absurd (omega (arith, lt));
     symbols = λ i lt. absurd (omega (arith, lt));
+    earlier = λ i lt. absurd (omega (arith, lt));
     images_length = refl;
     image_lengths = λ v lt. absurd (omega (arith, lt));
     image_rows = λ v g lt. absurd (omega (arith, lt));

@@ -2,6 +2,7 @@
 --
 --   IsRowUpTo kind n row   a row of at most n numbers, which are canonical and fit
 --   IsOfTable T x          a symbol over the generators and basis elements of T
+--   IsBefore n x           a generator, or a pair of basis elements that stand before place n
 --   partners T i w         how many j there are for which (i, j) is regular and of weight w
 --   HasShape T             weights ascend and are within bounds; there is a row for each generator and each regular pair through the weight
 --   basis_trees T          the bracket tree of each basis element, with generators counted from 1
@@ -28,6 +29,10 @@ abbrev pub IsOfTable : PlainTable → Symbol → Type 0
 IsOfTable T (of_generator g) = g < length T.generators
 IsOfTable T (of_pair i j) = (i < length T.basis) × (j < length T.basis)
 
+abbrev pub IsBefore : ℕ → Symbol → Type 0
+IsBefore n (of_generator g) = Unit {0}
+IsBefore n (of_pair i j) = (i < n) × (j < n)
+
 abbrev pub partners : PlainTable → ℕ → ℕ → ℕ
 partners T i w = through T (w - (plain_basis T i).weight) - partner_from T i w
 
@@ -43,10 +48,12 @@ pub record HasShape (T : PlainTable) : Type 0 where
   pub weights : (g : ℕ) → g < length T.generators → (1 ≤ (generator_at T g).weight) × ((generator_at T g).weight ≤ 1000)
   pub weight : T.weight ≤ 1000
   pub small : length T.basis ≤ 2000000 * T.weight
+  pub small_parts : (w : ℕ) → w ≤ T.weight → through T w ≤ 2000000 * w
   pub heavy : (i : ℕ) → i < length T.basis → 1 ≤ (plain_basis T i).weight
   pub light : (i : ℕ) → i < length T.basis → (plain_basis T i).weight ≤ T.weight
   pub ascend : (i j : ℕ) → i ≤ j → j < length T.basis → (plain_basis T i).weight ≤ (plain_basis T j).weight
   pub symbols : (i : ℕ) → i < length T.basis → IsOfTable T (plain_basis T i).symbol
+  pub earlier : (i : ℕ) → i < length T.basis → IsBefore i (plain_basis T i).symbol
   pub images_length : length T.images ≡ T.weight
   pub image_lengths : (v : ℕ) → v < T.weight → length (images_at T v) ≡ length T.generators
   pub image_rows : (v g : ℕ) → v < T.weight → g < length T.generators → IsRowUpTo T.kind (through T (suc v)) (get_or (images_at T v) g [])

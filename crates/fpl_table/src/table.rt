@@ -14,6 +14,7 @@ mod entry;
 mod leads;
 mod push;
 mod solve;
+mod truncate;
 mod value;
 
 use crate::shape::Shape;

@@ -1,0 +1,7 @@
+use Rattle.std.proofs.Common.{◌≡◌, ◌++◌, drop}
+use Rattle.fpl_canonical.specs.Canonical.{generator_line, equation_line, ideal_line, lines}
+use Rattle.fpl_canonical.proofs.writing.push_equations.Given as goal
+
+-- what is out so far, then what the rest gives, is what all gives
+abbrev pub invariant-loop-q : goal.invariant-loop-q
+invariant-loop-q l = l.initial.out.items ++ lines (equation_line l.word l.p) l.equations ≡ l.out.items ++ lines (equation_line l.word l.p) (drop l.q-index l.equations)

@@ -1,0 +1,7 @@
+use Rattle.std.proofs.Common.{◌≡◌, ◌++◌, drop}
+use Rattle.fpl_canonical.specs.Canonical.{generator_line, equation_line, ideal_line, lines}
+use Rattle.fpl_canonical.proofs.writing.push_ideals.Given as goal
+
+-- what is out so far, then what the rest gives, is what all gives
+abbrev pub invariant-loop-e : goal.invariant-loop-e
+invariant-loop-e l = l.initial.out.items ++ lines (ideal_line l.p) l.p.ideals ≡ l.out.items ++ lines (ideal_line l.p) (drop l.e-index l.p.ideals)

@@ -1,0 +1,102 @@
+//! The lines of a presentation.
+ghost use Rattle.std.specs.Prelude.{◌≡◌, ◌++◌, map, codes, IfOk, OnOk};
+ghost use Rattle.fpl_canonical.specs.Canonical.{names_of, side_text, field_line, generator_line, equation_line, ideal_line, lines, canonical_of};
+
+use crate::expression::{Stand, push_expression};
+use crate::numerals::{push_field, push_number, push_parity};
+use fpl_model::{Equation, Expr, Generator, Presentation};
+use std::alloc::{AllocError, Global};
+
+fn push_field_line(out: &mut Vec<u8>, p: &Presentation) -> Result<(), AllocError>
+    ensures { OnOk result (out.new.items ≡ out.old.items ++ field_line p.now.field) }
+{
+    out.extend_from_slice(b"field ")?;
+    push_field(out, p.field)?;
+    out.extend_from_slice(b";\n")
+}
+
+fn push_generator_line(out: &mut Vec<u8>, g: &Generator) -> Result<(), AllocError>
+    ensures { OnOk result (out.new.items ≡ out.old.items ++ generator_line g.now) }
+{
+    push_parity(out, g.parity)?;
+    out.extend_from_slice(b" ")?;
+    out.extend_from_slice(g.name.text().as_bytes())?;
+    out.extend_from_slice(b":")?;
+    push_number(out, g.weight)?;
+    out.extend_from_slice(b";\n")
+}
+
+fn push_side(out: &mut Vec<u8>, p: &Presentation, e: &Expr) -> Result<(), AllocError>
+    ensures { OnOk result (out.new.items ≡ out.old.items ++ side_text p.now e.now) }
+{
+    push_expression(out, &p.generators, Stand::Alone, e)
+}
+
+fn push_equation_line(
+    out: &mut Vec<u8>,
+    word: &[u8],
+    p: &Presentation,
+    q: &Equation,
+) -> Result<(), AllocError>
+    ensures { OnOk result (out.new.items ≡ out.old.items ++ equation_line word.now p.now q.now) }
+{
+    out.extend_from_slice(word)?;
+    push_side(out, p, &q.left)?;
+    out.extend_from_slice(b" = ")?;
+    push_side(out, p, &q.right)?;
+    out.extend_from_slice(b";\n")
+}
+
+fn push_ideal_line(out: &mut Vec<u8>, p: &Presentation, e: &Expr) -> Result<(), AllocError>
+    ensures { OnOk result (out.new.items ≡ out.old.items ++ ideal_line p.now e.now) }
+{
+    out.extend_from_slice(b"ideal ")?;
+    push_side(out, p, e)?;
+    out.extend_from_slice(b";\n")
+}
+
+fn push_generators(out: &mut Vec<u8>, p: &Presentation) -> Result<(), AllocError>
+    ensures { OnOk result (out.new.items ≡ out.old.items ++ lines generator_line p.now.generators) }
+{
+    for g in p.generators.as_slice() {
+        push_generator_line(out, g)?;
+    }
+    Ok(())
+}
+
+fn push_equations(
+    out: &mut Vec<u8>,
+    word: &[u8],
+    p: &Presentation,
+    equations: &[Equation],
+) -> Result<(), AllocError>
+    ensures { OnOk result (out.new.items ≡ out.old.items ++ lines (equation_line word.now p.now) equations.now) }
+{
+    for q in equations {
+        push_equation_line(out, word, p, q)?;
+    }
+    Ok(())
+}
+
+fn push_ideals(out: &mut Vec<u8>, p: &Presentation) -> Result<(), AllocError>
+    ensures { OnOk result (out.new.items ≡ out.old.items ++ lines (ideal_line p.now) p.now.ideals) }
+{
+    for e in p.ideals.as_slice() {
+        push_ideal_line(out, p, e)?;
+    }
+    Ok(())
+}
+
+/// The canonical text of a presentation: a line for its field, and one for each generator with its weight, each
+/// relation and query with both sides, and each ideal element.
+pub fn write(alloc: Global, p: &Presentation) -> Result<Vec<u8>, AllocError>
+    ensures { IfOk result (λ text. text.items ≡ canonical_of p.now) }
+{
+    let mut out = Vec::new(alloc);
+    push_field_line(&mut out, p)?;
+    push_generators(&mut out, p)?;
+    push_equations(&mut out, b"relation ", p, p.relations.as_slice())?;
+    push_ideals(&mut out, p)?;
+    push_equations(&mut out, b"equal ", p, p.queries.as_slice())?;
+    Ok(out)
+}

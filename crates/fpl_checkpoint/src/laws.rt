@@ -1,0 +1,1 @@
+//! Laws of heads. Each function does nothing: what it ensures is the law.

@@ -1,0 +1,8 @@
+//! Loops over rows of residues modulo a prime, which spend most of the program's time.
+#![tactic(auto)]
+
+mod kernels;
+#[cfg(test)]
+mod tests;
+
+pub use kernels::{axpy, first_nonzero, scale};

@@ -1,0 +1,5 @@
+pub mod Pairs
+pub mod Fields
+pub mod Bodies
+pub mod Framed
+pub mod Written
