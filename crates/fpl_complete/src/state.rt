@@ -173,7 +173,6 @@ impl<F: Field> State<F> {
         requires entries { entries ≤ 2000000 }
         ensures presentation { self.new.presentation ≡ self.old.presentation }
         ensures weight { OnOk result (self.new.table.weight ≡ max self.old.table.weight d) }
-        ensures table { IsTableOf self.new.presentation self.new.table.weight self.new.table }
         ensures reached { (self.old.table.weight ≤ self.new.table.weight) × (self.new.table.weight ≤ max self.old.table.weight d) }
         ensures within { (v : ℕ) → self.old.table.weight < v → v ≤ self.new.table.weight → count_through self.new.table v ≤ entries }
         ensures table { IsTableOf self.new.presentation self.new.table.weight self.new.table }
