@@ -4,6 +4,7 @@
 mod fault;
 mod section;
 mod state;
+mod weighed;
 mod weight;
 
 pub use fault::RaiseFault;

@@ -6,7 +6,7 @@ ghost use Rattle.fpl_model.specs.Sound.{IsSound};
 ghost use Rattle.fpl_table.specs.Standard.{start_of, count_through, IsTableOf};
 ghost use Rattle.fpl_rewrite.specs.Origins.{origins_of};
 ghost use Rattle.fpl_next.specs.Raised.{IsRaised};
-ghost use Rattle.fpl_completion.specs.Weight.{next_of};
+ghost use Rattle.fpl_completion.specs.Weight.{close_weight, next_of};
 ghost use Rattle.fpl_completion.specs.Section.{Computes, OverflowsAt};
 ghost use Rattle.fpl_complete.specs.State.{AreOfWeights, BoundsOrigins, PassesAfter, section_at, sum_after, unfit_of};
 
@@ -95,6 +95,14 @@ impl<F: Field> State<F> {
         self.table.weight()
     }
 
+    /// How many symbols there are of the weights from 1 to the one after the table's.
+    pub fn next_count(&self) -> u64
+        requires { self.now.table.weight < 1000 }
+        ensures { result ≡ count_through self.now.table (self.now.table.weight + 1) }
+    {
+        self.count + self.table.symbol_count(self.table.weight() + 1)
+    }
+
     /// Adds the next weight, and keeps its section.
     ///
     /// `Limit` comes, before any operation, exactly where the symbols of the weights from 1 to
@@ -117,14 +125,15 @@ impl<F: Field> State<F> {
         ensures counts { OnOk result ((v : ℕ) → v ≤ self.old.table.weight + 1 → count_through self.new.table v ≡ count_through self.old.table v) }
         ensures limit { (w c : ℕ) → IsErrOf result (RaiseFault.Limit w c) ↔ ((w ≡ self.old.table.weight + 1) × (c ≡ count_through self.old.table w) × (entries < c)) }
         ensures overflow { (w : ℕ) (op : Op) (a b : Num) → IsErrOf result (RaiseFault.Overflow w op a b) → (w ≡ self.old.table.weight + 1) × OverflowsAt self.old.presentation w (unfit_of op a b) × (count_through self.old.table w ≤ entries) }
+        ensures refused { (w : ℕ) (op : Op) (a b : Num) → IsErrOf result (RaiseFault.Overflow w op a b) → close_weight self.old.table self.old.presentation ≡ Err (unfit_of op a b) }
         ensures fractions { (w : ℕ) (op : Op) (a b : Num) → IsErrOf result (RaiseFault.Overflow w op a b) → self.old.presentation.field ≡ Kind.Rational }
         ensures unchanged { OnErr result (self.new ≡ self.old) }
         ensures step { OnOk result (steps.new ≡ steps.old + length (origins_of self.old.table self.old.presentation)) }
         ensures most { (steps.old ≤ steps.new) × (steps.new ≤ steps.old + length (origins_of self.old.table self.old.presentation)) }
         ensures before { (w c : ℕ) → IsErrOf result (RaiseFault.Limit w c) → steps.new ≡ steps.old }
     {
-        let weight = self.table.weight() + 1;
-        let count = self.count + self.table.symbol_count(weight);
+        let weight = self.weight() + 1;
+        let count = self.next_count();
         if count > entries {
             return Err(RaiseFault::Limit { weight, count });
         }
@@ -140,19 +149,12 @@ impl<F: Field> State<F> {
                 });
             }
         };
-        match self.sections.push(weighed.section) {
-            Ok(()) => {}
-            Err(_) => return Err(RaiseFault::NoMemory),
-        }
-        match self.table.push_weight(&weighed.rows) {
+        match weighed.keep(&mut self.table, &mut self.sections) {
             Ok(()) => {
                 self.count = count;
                 Ok(())
             }
-            Err(_) => {
-                self.sections.pop();
-                Err(RaiseFault::NoMemory)
-            }
+            Err(_) => Err(RaiseFault::NoMemory),
         }
     }
 
@@ -171,9 +173,9 @@ impl<F: Field> State<F> {
         requires entries { entries ≤ 2000000 }
         ensures presentation { self.new.presentation ≡ self.old.presentation }
         ensures weight { OnOk result (self.new.table.weight ≡ max self.old.table.weight d) }
-        ensures table { IsTableOf self.new.presentation self.new.table.weight self.new.table }
         ensures reached { (self.old.table.weight ≤ self.new.table.weight) × (self.new.table.weight ≤ max self.old.table.weight d) }
         ensures within { (v : ℕ) → self.old.table.weight < v → v ≤ self.new.table.weight → count_through self.new.table v ≤ entries }
+        ensures table { IsTableOf self.new.presentation self.new.table.weight self.new.table }
         ensures sections { take (length self.old.sections) self.new.sections ≡ self.old.sections }
         ensures fits { (v : ℕ) → self.old.table.weight < v → v ≤ self.new.table.weight → Computes self.old.presentation v (Ok (section_at self.new.sections v)) }
 
