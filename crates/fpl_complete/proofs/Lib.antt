@@ -1,3 +1,6 @@
 mod Runs
 mod Closing
+mod Weighing
 mod Raising
+mod Onward
+mod Coefficients

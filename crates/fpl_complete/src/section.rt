@@ -1,4 +1,5 @@
-ghost use Rattle.std.specs.Prelude.{◌≡◌, ◌≤◌, ◌<◌, ◌^◌, ◌-◌, [], length, IfOk, Some};
+ghost use Rattle.std.specs.Prelude.{◌≡◌, ◌≤◌, ◌-◌, [], length, All, IfOk, Some};
+ghost use Rattle.fpl_scalar.specs.Vectors.{AreElements};
 ghost use Rattle.fpl_log.specs.Slim.{AreInOrder, slim_steps};
 ghost use Rattle.fpl_completion.specs.Section.{coefficients_from, closed_list};
 
@@ -13,6 +14,7 @@ fn coefficients_of<F: Field>(
     field: &F,
     row: &Row<F>,
 ) -> Result<ClosedRow, AllocError>
+    requires { AreElements (F.kind_of field.now) row.now }
     ensures { IfOk result (λ kept. kept ≡ coefficients_from 1 row.now) }
 {
     let mut kept = ClosedRow::new(alloc);
@@ -26,11 +28,8 @@ fn coefficients_of<F: Field>(
 }
 
 /// Closed rows, each as its coefficients.
-fn list_of<F: Field>(
-    alloc: Global,
-    field: &F,
-    rows: &Rows<F>,
-) -> Result<ClosedList, AllocError>
+fn list_of<F: Field>(alloc: Global, field: &F, rows: &Rows<F>) -> Result<ClosedList, AllocError>
+    requires { All (AreElements (F.kind_of field.now)) rows.now }
     ensures { IfOk result (λ list. list ≡ closed_list rows.now) }
 {
     let mut list = ClosedList::new(alloc);
@@ -53,6 +52,7 @@ pub fn section_of<F: Field>(
     rows: &Rows<F>,
 ) -> Result<Section, AllocError>
     requires order { AreInOrder [] 0 steps }
+    requires elements { All (AreElements (F.kind_of field.now)) rows.now }
     requires closes { length rows.now ≤ length steps }
     ensures { IfOk result (λ s. s ≡ record { weight = weight; origins = Some (length steps - length rows.now); steps = slim_steps [] 0 steps; closed = closed_list rows.now }) }
 {

@@ -89,6 +89,8 @@ impl<F: Field> State<F> {
     pub fn weight(&self) -> u32
         ensures value { result ≡ self.now.table.weight }
         ensures standard { IsTableOf self.now.presentation self.now.table.weight self.now.table }
+        ensures raised { IsRaised self.now.presentation self.now.table }
+        ensures sections { AreOfWeights self.now.table.weight self.now.sections }
     {
         self.table.weight()
     }

@@ -195,8 +195,11 @@ pub fn complete_weight<F: Field, L: Ledger>(
         Ok(closed) => closed,
         Err(fault) => return Err(fault),
     };
-    let Closed { steps, rows } = closed;
-    match section_of(alloc, table.field(), table.weight() + 1, steps, &rows) {
+    let Closed {
+        steps: recorded,
+        rows,
+    } = closed;
+    match section_of(alloc, table.field(), table.weight() + 1, recorded, &rows) {
         Ok(section) => Ok(Weighed { rows, section }),
         Err(_) => Err(Fault::NoMemory),
     }

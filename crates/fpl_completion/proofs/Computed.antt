@@ -1,14 +1,13 @@
 -- Computing a weight of a presentation gives one thing, and over a prime its section.
-use Rattle.std.specs.Prelude.{ℕ, suc, ◌≡◌, Result, Ok, Err}
+use Rattle.std.specs.Prelude.{◌≡◌, Result, Ok, Err}
 use mathlib.Core.Path.{sym, ap, ◌∙◌, subst}
 use native.Mathlib.Omega.{arith}
-use Rattle.fpl_numbers.specs.declared.number.Kind.TheVariants.{Prime}
 use Rattle.fpl_numbers.specs.declared.number.Unfit.{Unfit}
 use Rattle.fpl_numbers.specs.Results.{map_ok}
 use Rattle.fpl_log.specs.declared.section.Section.{Section}
 use Rattle.fpl_next.proofs.OneRaised.{raised_kind, raised_are_one}
 use Rattle.fpl_faithful.proofs.Fitting.{Always, prime_always}
-use Rattle.fpl_completion.specs.Section.{section_of, section_after, Computes, ComputesOne, ComputesOverPrimes}
+use Rattle.fpl_completion.specs.Section.{section_of, section_after, ComputesOne, ComputesOverPrimes}
 use Rattle.fpl_completion.proofs.Fitting.{close_weight_fits}
 
 pub computes_one : ComputesOne

@@ -1,9 +1,9 @@
 -- The steps that inserting and closing record are in order, and counted.
-use Rattle.std.specs.Prelude.{ℕ, zero, suc, ◌+◌, ◌-◌, ◌≡◌, ◌≢◌, ◌<◌, ◌≤◌, List, [], ◌∷◌, ◌++◌, length, get_or, Option, Some, None, Ok, Bool, true, false, cond, All}
+use Rattle.std.specs.Prelude.{ℕ, zero, suc, ◌+◌, ◌-◌, ◌≡◌, ◌≢◌, List, [], ◌∷◌, ◌++◌, length, get_or, Option, Some, None, Ok, Bool, true, false, cond, All}
 use Rattle.std.specs.List.{find}
 use mathlib.Core.Path.{refl, sym, ap, ◌∙◌, subst}
 use native.Mathlib.Omega.{arith}
-use Rattle.std.proofs.lemmas.List.{length-append, get_or-append-add}
+use Rattle.std.proofs.lemmas.List.{length-append, get_or_append_left, get_or_push}
 use Rattle.fpl_linear.specs.Vector.{vzero}
 use Rattle.fpl_linear.proofs.Numbers.{nought-times}
 use Rattle.fpl_numbers.specs.declared.number.Num.{Num}
@@ -27,15 +27,6 @@ use Rattle.fpl_elimination.proofs.Sweeping.{sweep_reads}
 
 longer : {X : Type 0} (xs : List X) (x : X) → length (xs ++ x ∷ []) ≡ length xs + 1
 longer xs x = length-append xs (x ∷ [])
-
-get-before : {X : Type 0} (xs : List X) (x d : X) (i : ℕ) → i < length xs → get_or (xs ++ x ∷ []) i d ≡ get_or xs i d
-get-before [] x d i l = absurd (omega arith)
-get-before (y ∷ xs) x d zero l = refl
-get-before (y ∷ xs) x d (suc i) l = get-before xs x d i (omega arith)
-
-get-last : {X : Type 0} (xs : List X) (x d : X) → get_or (xs ++ x ∷ []) (length xs) d ≡ x
-get-last [] x d = refl
-get-last (y ∷ xs) x d = get-last xs x d
 
 -- the new numbers, after one step more
 numbers_more : (numbers : List (Option ℕ)) (count : ℕ) (ss : List Step) (s : Step) → (c : ℕ) × (numbers_after numbers count (ss ++ s ∷ []) ≡ numbers_after numbers count ss ++ (next_number (is_left_out s) c) ∷ [])
@@ -75,7 +66,7 @@ stays_more ss s i h =
     let l = longer (numbered ss) (next_number (is_left_out s) m.0) in
     let a = h.earlier.from_one in
     let b = h.earlier.to_end in
-    let same = get-before (numbered ss) (next_number (is_left_out s) m.0) None (i - 1) (omega arith) in
+    let same = get_or_append_left (numbered ss) ((next_number (is_left_out s) m.0) ∷ []) None (i - 1) (omega arith) in
     record {
       earlier = record { from_one = a; to_end = (let e = ap length m.1 in omega arith) };
       stays = subst (λ ns. new_number ns i ≢ None) (sym m.1) (subst (λ o. o ≢ None) (sym same) h.stays);
@@ -86,8 +77,7 @@ stays_last ss s kept =
     let m = numbers_more [] 0 ss s in
     let l = longer (numbered ss) (next_number (is_left_out s) m.0) in
     let long = numbers_long [] 0 ss in
-    let place : length ss + 1 - 1 ≡ length (numbered ss) = omega arith in
-    let here = ap (λ i. get_or (numbered ss ++ (next_number (is_left_out s) m.0) ∷ []) i None) place ∙ get-last (numbered ss) (next_number (is_left_out s) m.0) None ∙ ap (λ b. next_number b m.0) kept in
+    let here = get_or_push (numbered ss) (next_number (is_left_out s) m.0) None (length ss + 1 - 1) (omega arith) ∙ ap (λ b. next_number b m.0) kept in
     record {
       earlier = record { from_one = omega arith; to_end = (let e = ap length m.1 in omega arith) };
       stays = subst (λ ns. new_number ns (length ss + 1) ≢ None) (sym m.1) (some_stays _ here);
