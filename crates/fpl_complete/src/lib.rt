@@ -6,5 +6,5 @@ mod section;
 mod state;
 mod weight;
 
-pub use fault::RaiseFault;
+pub use fault::{AdoptFault, RaiseFault};
 pub use state::State;

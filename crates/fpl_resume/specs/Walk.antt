@@ -1,44 +1,42 @@
 -- A run through the weights of a presentation, over stored sections: each weight in order is adopted, where its section stands whole in the bytes and
 -- so did those before it, or computed.
 --
---   Stored                 stored sections: the version of their format, and the bytes that hold them
+--   Stored                 stored sections: the version of their format, 1 or 2, and the bytes that hold them
 --   Stage                  the table so far and its sections; the place after the last section that was adopted; whether the next may be stored
 --   begun p place stored   the stage at weight 0, where the first section begins at a place
 --   Stop                   why a run goes no further: too many symbols; bytes that are no section; a section that a check refuses; an operation that does
 --                          not fit; or that nothing more is stored, where nothing is to be computed
---   slimmed T p s          a section as it is kept: without the steps of dependent origins, and with the number of origins
 --   adopted stage p s ..   the stage after a section, from what its check gives
 --   computed stage p       the stage after a weight that is computed
 --   step_of ..             one weight: first whether the symbols through it stay within the entries; then its stored section: frame, form, check; or its
 --                          computing, where the run computes
 --   Walked                 a stage, and why the run stopped there, if it did
 --   walk_of .. n stage     n weights, or as many as come before a stop
-use Rattle.std.specs.Prelude.{ℕ, zero, suc, ◌-◌, List, [], ◌∷◌, ◌++◌, length, take, drop, Bool, true, false, nat_lt, Option, Some, None, Result, Ok, Err, if◌then◌else◌}
+use Rattle.std.specs.Prelude.{ℕ, zero, suc, List, [], ◌∷◌, ◌++◌, Bool, true, false, nat_lt, slice_range, Option, Some, None, Result, Ok, Err, if◌then◌else◌}
 use Rattle.fpl_numbers.specs.declared.number.Num.{Num}
 use Rattle.fpl_numbers.specs.declared.number.Unfit.{Unfit}
 use Rattle.fpl_log.specs.declared.section.Section.{Section}
-use Rattle.fpl_log.specs.Slim.{slim_steps}
 use Rattle.fpl_elimination.specs.Plain.{Held, rows_of}
 use Rattle.fpl_model.specs.declared.presentation.Presentation.{Presentation}
 use Rattle.fpl_table.specs.Plain.{PlainTable}
 use Rattle.fpl_table.specs.Push.{push_of}
 use Rattle.fpl_table.specs.Standard.{start_of, count_through}
-use Rattle.fpl_rewrite.specs.Origins.{origins_of}
 use Rattle.fpl_completion.specs.Weight.{close_weight}
 use Rattle.fpl_completion.specs.Section.{section_of}
+use Rattle.fpl_complete.specs.State.{slimmed}
 use Rattle.fpl_check.specs.declared.fault.Spot.{Spot}
 use Rattle.fpl_check.specs.declared.fault.Why.{Why}
 use Rattle.fpl_check.specs.Refusal.{Refusal, bad, unfit}
 use Rattle.fpl_check.specs.Check.{check_of}
-use Rattle.fpl_bytes.specs.declared.version.Version.{Version}
 use Rattle.fpl_bytes.specs.declared.fault.BadBytes.{BadBytes}
 use Rattle.fpl_sections.specs.declared.frame.Frame.{Frame}
 use Rattle.fpl_sections.specs.declared.frame.Frame.TheVariants.{Whole, Tail}
+use Rattle.fpl_bytes.specs.Numbers.{version_of}
 use Rattle.fpl_sections.specs.Frames.{frame_of}
 use Rattle.fpl_sections.specs.Reading.{payload_at}
 
 pub record Stored : Type 0 where
-  pub version : Version
+  pub version : ℕ
   pub bytes : List ℕ
 
 pub record Stage : Type 0 where
@@ -59,9 +57,6 @@ pub data Stop : Type 0 where
 
 abbrev pub next_weight : Stage → ℕ
 next_weight stage = suc stage.table.weight
-
-abbrev pub slimmed : PlainTable → Presentation → Section → Section
-slimmed T p s = record { weight = s.weight; origins = Some (length (origins_of T p)); steps = slim_steps [] 0 s.steps; closed = s.closed }
 
 abbrev pub raised : Stage → List (List Num) → Section → ℕ → Bool → Stage
 raised stage rows section place stored = record {
@@ -90,7 +85,7 @@ computed true p stage = computed_as stage p (close_weight stage.table p)
 computed false p stage = Err ended
 
 abbrev pub framed : (computes : Bool) → Presentation → Stored → Stage → Result Frame BadBytes → Result Stage Stop
-framed computes p at stage (Ok (Whole from to)) = formed stage p to (payload_at at.version p.field (next_weight stage) to (take (to - from) (drop from at.bytes)))
+framed computes p at stage (Ok (Whole from to)) = formed stage p to (payload_at (version_of at.version) p.field (next_weight stage) to (slice_range at.bytes from to))
 framed computes p at stage (Ok Tail) = computed computes p stage
 framed computes p at stage (Err b) = Err (bad_bytes b)
 
