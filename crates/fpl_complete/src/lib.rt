@@ -7,5 +7,5 @@ mod state;
 mod weighed;
 mod weight;
 
-pub use fault::RaiseFault;
+pub use fault::{AdoptFault, RaiseFault};
 pub use state::State;
