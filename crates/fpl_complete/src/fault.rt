@@ -1,4 +1,3 @@
-use fpl_check::{Spot, Why};
 use fpl_numbers::{Num, Op};
 
 /// Why a table was not raised.
@@ -9,13 +8,4 @@ pub enum RaiseFault {
     /// An operation in computing `weight` that does not fit, with its operands in their order.
     Overflow { weight: u32, op: Op, a: Num, b: Num },
     NoMemory,
-}
-
-/// Why a stored section was not adopted.
-#[derive(Clone, Copy, Debug, PartialEq, Eq)]
-pub enum AdoptFault {
-    /// As where a weight is computed.
-    Raise(RaiseFault),
-    /// The section of `weight` fails a test.
-    Bad { weight: u32, spot: Spot, why: Why },
 }

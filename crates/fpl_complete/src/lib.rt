@@ -7,5 +7,5 @@ mod state;
 mod weighed;
 mod weight;
 
-pub use fault::{AdoptFault, RaiseFault};
+pub use fault::RaiseFault;
 pub use state::State;

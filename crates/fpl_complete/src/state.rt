@@ -8,18 +8,11 @@ ghost use Rattle.fpl_rewrite.specs.Origins.{origins_of};
 ghost use Rattle.fpl_next.specs.Raised.{IsRaised};
 ghost use Rattle.fpl_completion.specs.Weight.{close_weight, next_of};
 ghost use Rattle.fpl_completion.specs.Section.{Computes, OverflowsAt};
-ghost use Rattle.std.specs.Prelude.{List};
-ghost use Rattle.fpl_table.specs.Push.{push_of};
-ghost use Rattle.fpl_check.specs.declared.fault.Spot.{Spot};
-ghost use Rattle.fpl_check.specs.declared.fault.Why.{Why};
-ghost use Rattle.fpl_check.specs.Refusal.{bad, unfit};
-ghost use Rattle.fpl_check.specs.Premises.{IsSectionFor};
-ghost use Rattle.fpl_check.specs.Check.{check_of, Accepts};
-ghost use Rattle.fpl_complete.specs.State.{slimmed, AreOfWeights, BoundsOrigins, PassesAfter, section_at, sum_after, unfit_of};
+ghost use Rattle.fpl_complete.specs.State.{AreOfWeights, BoundsOrigins, PassesAfter, section_at, sum_after, unfit_of};
 
-use crate::{AdoptFault, RaiseFault};
+use crate::RaiseFault;
 use crate::weight::complete_weight;
-use fpl_log::{Section, Sections};
+use fpl_log::Sections;
 use fpl_model::Presentation;
 use fpl_scalar::{Fault, Field};
 use fpl_steps::Steps;
@@ -131,7 +124,6 @@ impl<F: Field> State<F> {
         ensures within { OnOk result (count_through self.new.table self.new.table.weight ≤ entries) }
         ensures counts { OnOk result ((v : ℕ) → v ≤ self.old.table.weight + 1 → count_through self.new.table v ≡ count_through self.old.table v) }
         ensures limit { (w c : ℕ) → IsErrOf result (RaiseFault.Limit w c) ↔ ((w ≡ self.old.table.weight + 1) × (c ≡ count_through self.old.table w) × (entries < c)) }
-        ensures unfit { (w : ℕ) (op : Op) (a b : Num) → IsErrOf result (RaiseFault.Overflow w op a b) → close_weight self.old.table self.old.presentation ≡ Err (unfit_of op a b) }
         ensures overflow { (w : ℕ) (op : Op) (a b : Num) → IsErrOf result (RaiseFault.Overflow w op a b) → (w ≡ self.old.table.weight + 1) × OverflowsAt self.old.presentation w (unfit_of op a b) × (count_through self.old.table w ≤ entries) }
         ensures refused { (w : ℕ) (op : Op) (a b : Num) → IsErrOf result (RaiseFault.Overflow w op a b) → close_weight self.old.table self.old.presentation ≡ Err (unfit_of op a b) }
         ensures fractions { (w : ℕ) (op : Op) (a b : Num) → IsErrOf result (RaiseFault.Overflow w op a b) → self.old.presentation.field ≡ Kind.Rational }
@@ -164,36 +156,6 @@ impl<F: Field> State<F> {
             }
             Err(_) => Err(RaiseFault::NoMemory),
         }
-    }
-
-    /// How many symbols there are of the weights from 1 to the next one.
-    pub fn next_count(&self) -> u64
-        requires weight { self.now.table.weight < 1000 }
-        ensures { result ≡ count_through self.now.table (self.now.table.weight + 1) }
-    {
-        self.count + self.table.symbol_count(self.table.weight() + 1)
-    }
-
-    /// STUB
-    pub fn adopt(&mut self, section: Section, entries: u64) -> Result<(), AdoptFault>
-        requires weight { self.old.table.weight < 1000 }
-        requires entries { entries ≤ 2000000 }
-        requires section { IsSectionFor self.old.table section }
-        ensures presentation { self.new.presentation ≡ self.old.presentation }
-        ensures adopted { OnOk result ((rows : List (List Num)) × Accepts self.old.table self.old.presentation section rows × (self.new.table ≡ push_of self.old.table rows)) }
-        ensures sections { OnOk result (self.new.sections ≡ self.old.sections ++ slimmed self.old.table self.old.presentation section ∷ []) }
-        ensures weight { OnOk result (self.new.table.weight ≡ self.old.table.weight + 1) }
-        ensures within { OnOk result (count_through self.new.table self.new.table.weight ≤ entries) }
-        ensures limit { (w c : ℕ) → IsErrOf result (AdoptFault.Raise (RaiseFault.Limit w c)) ↔ ((w ≡ self.old.table.weight + 1) × (c ≡ count_through self.old.table w) × (entries < c)) }
-        ensures bad { (w : ℕ) (spot : Spot) (why : Why) → IsErrOf result (AdoptFault.Bad w spot why) → (w ≡ self.old.table.weight + 1) × (check_of self.old.table self.old.presentation section ≡ Err (bad spot why)) × (count_through self.old.table w ≤ entries) }
-        ensures overflow { (w : ℕ) (op : Op) (a b : Num) → IsErrOf result (AdoptFault.Raise (RaiseFault.Overflow w op a b)) → (w ≡ self.old.table.weight + 1) × (check_of self.old.table self.old.presentation section ≡ Err (unfit (unfit_of op a b))) × (count_through self.old.table w ≤ entries) }
-        ensures unchanged { OnErr result (self.new ≡ self.old) }
-    {
-        let count = self.next_count();
-        if count > entries {
-            return Err(AdoptFault::Raise(RaiseFault::Limit { weight: self.table.weight() + 1, count }));
-        }
-        Err(AdoptFault::Raise(RaiseFault::NoMemory))
     }
 
     /// Adds weights up to `d`, if the table has not come so far, and keeps their sections.
