@@ -15,4 +15,5 @@ mod stored;
 
 pub use check::check_section;
 pub use laws::accepted;
+pub use origins::count_origins;
 pub use fault::{CheckFault, Spot, Why};

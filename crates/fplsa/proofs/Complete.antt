@@ -1,36 +1,51 @@
 -- A run is complete: where there is a table and nothing fails, it writes it.
-use Rattle.std.proofs.Common.{◌≡◌, ℕ, ◌≤◌, ◌⊎◌, inl, inr, List, refl, sym, ap, ◌∙◌, subst, None, Some}
-use Rattle.std.specs.Prelude.{◌≢◌, IfSome}
+use Rattle.std.proofs.Common.{◌≡◌, ℕ, zero, suc, ◌+◌, ◌≤◌, ◌<◌, ◌⊎◌, inl, inr, List, length, Bool, true, false, Ok, Err, refl, sym, ap, ◌∙◌, subst, None, Some, arith}
+use Rattle.std.specs.Prelude.{◌≢◌, IfSome, nat_lt}
 use Rattle.std.specs.declared.option.Option.{Option}
+use Rattle.std.specs.declared.result.Result.{Result}
+use Rattle.fpl_numbers.specs.declared.number.Unfit.{Unfit}
 use Rattle.fpl_numbers.specs.declared.number.Kind.{Kind}
 use Rattle.fpl_numbers.specs.declared.number.Kind.TheVariants.{Rational, Prime}
+use Rattle.fpl_numbers.specs.Results.{map_ok}
+use Rattle.fpl_elimination.specs.Plain.{Held, rows_of}
+use Rattle.fpl_model.specs.declared.presentation.Presentation.{Presentation}
 use Rattle.fpl_model.specs.Sound.{IsSound}
 use Rattle.fpl_reader.proofs.OneAnswer.{one_presentation, not_both}
 use Rattle.fpl_reader.proofs.Soundness.{presentation_sound}
+use Rattle.fpl_table.specs.Plain.{PlainTable, symbols_in}
 use Rattle.fpl_table.specs.Standard.{count_through}
-use Rattle.fpl_completion.proofs.Computed.{computes_over_primes}
-use Rattle.fpl_complete.specs.State.{unfit_of}
+use Rattle.fpl_next.specs.Holds.{Holds}
+use Rattle.fpl_next.specs.Raised.{IsRaised}
+use Rattle.fpl_next.specs.Raised.IsRaised.{started}
+use Rattle.fpl_next.proofs.Holding.{held_is_table, start_holds}
+use Rattle.fpl_completion.specs.Weight.{close_weight}
+use Rattle.fpl_completion.specs.Section.{section_of, FitsAt, OverflowsAt}
+use Rattle.fpl_completion.proofs.Computed.{computes_one, computes_over_primes}
+use Rattle.fpl_completion.proofs.Completed.{next_holds, next_raised}
+use Rattle.fpl_complete.proofs.Raising.{few_symbols}
+use Rattle.fpl_resume.specs.Walk.{Stored, Stage, Stop, Walked, next_weight, raised, computed_as, step_of, walk_on, walk_of}
 use Rattle.fplsa.specs.declared.status.Status.{Status}
-use Rattle.fplsa.specs.declared.status.Status.TheVariants.{Done, Usage, Refused, Limit, Overflow, NoMemory, ReadFault, WriteFault, NotBuilt}
-use Rattle.fplsa.specs.declared.words.View.TheVariants.{Table}
+use Rattle.fplsa.specs.declared.status.Status.TheVariants.{Done, Usage, Refused, BadCheckpoint, Limit, Overflow, NoMemory, ReadFault, WriteFault, NotBuilt}
+use Rattle.fplsa.specs.declared.words.View.{View}
+use Rattle.fplsa.specs.declared.words.View.TheVariants.{Table, Check, Sample}
+use Rattle.fplsa.specs.declared.words.Command.{Command}
 use Rattle.fplsa.specs.Reply.{Reply, IsFree, status_of}
-use Rattle.fplsa.specs.Events.{NumberThrough, StopsAt}
-use Rattle.fplsa.specs.Events.StopsAt.{too_many_symbols, no_fit}
-use Rattle.fplsa.specs.Answer.{Answers, AnswersCommand, AnswersText, AnswersPresentation, IsUnread}
-use Rattle.fplsa.specs.Answer.AnswersPresentation.{view_not_built, stopped, table_done}
+use Rattle.fplsa.specs.Start.{of_text, does_compute, begun_for}
+use Rattle.fplsa.specs.Answer.{Answers, AnswersCommand, AnswersText, AnswersStart, IsCheckpoint}
+use Rattle.fplsa.specs.Answer.AnswersStart.{view_not_built, stopped, table_done, check_done}
 use Rattle.fplsa.specs.Answer.AnswersText.{text_too_long, no_presentation, presentation}
-use Rattle.fplsa.specs.Answer.AnswersCommand.{unread, input_too_long, checkpoint_not_built, text}
+use Rattle.fplsa.specs.Answer.AnswersCommand.{unread, input_too_long, checkpoint, text}
 use Rattle.fplsa.specs.Answer.Answers.{no_command, command}
 use Rattle.fplsa.specs.Run.{IsReplied, HasTable}
-use Rattle.fplsa.proofs.Names.{one_command}
+use Rattle.fplsa.proofs.Names.{one_command, command_in_range}
 use Rattle.fplsa.proofs.Marks.{no_mark}
-use Rattle.fplsa.proofs.OneReply.{numbers_one, fits_not}
-use native.Mathlib.Omega.{arith}
+use Rattle.fplsa.proofs.Parts.{counts_through}
 
 free_cases : (s : Status) → IsFree s → (s ≡ NoMemory) ⊎ ((s ≡ ReadFault) ⊎ (s ≡ WriteFault))
 free_cases Done h = absurd h
 free_cases Usage h = absurd h
 free_cases Refused h = absurd h
+free_cases BadCheckpoint h = absurd h
 free_cases Limit h = absurd h
 free_cases Overflow h = absurd h
 free_cases NoMemory h = inl refl
@@ -38,45 +53,100 @@ free_cases ReadFault h = inr (inl refl)
 free_cases WriteFault h = inr (inr refl)
 free_cases NotBuilt h = absurd h
 
-table_read : IsUnread Table → ⊥
-table_read (inl e) = cc
-table_read (inr e) = cc
+-- the stage after a computed weight
+abbrev raised_by : Stage → Presentation → Held → Stage
+raised_by stage p held = raised stage (rows_of held.pivots) (section_of stage.table p held) stage.place false
+
+computed_next : (e : ℕ) (p : Presentation) (at : Stored) (stage : Stage) → stage.stored ≡ false → nat_lt e (count_through stage.table (next_weight stage)) ≡ false →
+    step_of true e p at stage ≡ computed_as stage p (close_weight stage.table p)
+computed_next e p at stage a b = rw (b, a) refl
 
 module _ (words : List (List ℕ)) (bytes : List ℕ) (h : HasTable words bytes) where
-  sound : IsSound h.presentation
-  sound = presentation_sound bytes h.presentation (omega (arith, h.short)) h.said
+  p : Presentation
+  p = h.presentation
 
-  number : (w : ℕ) → w ≤ h.command.limit → NumberThrough h.presentation w (count_through h.table w)
-  number w l = record { through = h.command.limit; table = h.table; whole = h.standard; near = omega (arith, l); number = refl }
+  sound : IsSound p
+  sound = presentation_sound bytes p (omega (arith, h.short)) h.said
 
-  never_stops : (w : ℕ) (r : Reply) → 1 ≤ w → w ≤ h.command.limit → StopsAt h.presentation h.command.entries w r → ⊥
-  never_stops w _ l m (too_many_symbols n k more) = omega (arith, numbers_one h.presentation w n (count_through h.table w) sound k (number w m), more, h.within w m)
-  never_stops w _ l m (no_fit n k few op a b u) = go h.presentation.field refl
+  range : (h.command.limit ≤ 1000) × (h.command.entries ≤ 2000000)
+  range = command_in_range words h.command h.spelled
+
+  walk : ℕ → Stage → Walked
+  walk n stage = walk_of true h.command.entries p (of_text p).stored n stage
+
+  no_overflow : (T : PlainTable) (u : Unfit) → IsRaised p T → T.weight < h.command.limit → close_weight T p ≡ Err u → ⊥
+  no_overflow T u raised low run = go p.field refl
     where
-      go : (kind : Kind) → h.presentation.field ≡ kind → ⊥
-      go Rational e = fits_not h.presentation w (unfit_of op a b) sound (h.fits e w l m) u
-      go (Prime p) e = computes_over_primes p h.presentation w (unfit_of op a b) e u
+      over : OverflowsAt p (suc T.weight) u
+      over = record { table = T; raised = raised; below = refl; gives = ap (map_ok (section_of T p)) run }
 
-  presentation_table : (r : Reply) → AnswersPresentation h.command h.presentation r → status_of r ≡ Done
-  presentation_table _ (view_not_built a) = absurd (a h.view)
-  presentation_table _ (stopped a w l m below r k) = absurd (never_stops w r l m k)
-  presentation_table _ (table_done a all T t) = refl
+      go : (kind : Kind) → p.field ≡ kind → ⊥
+      go Rational e =
+          let fits : FitsAt p (suc T.weight) = h.fits e (suc T.weight) (omega arith) (omega (arith, low)) in
+          let same : Ok fits.0 ≡ Err u = computes_one p (suc T.weight) (Ok fits.0) (Err u) sound fits.1 over in
+          cc
+      go (Prime n) e = computes_over_primes n p (suc T.weight) u e over
+
+  few : (T : PlainTable) → Holds p T → T.weight < h.command.limit → count_through T (suc T.weight) ≤ h.command.entries
+  few T holds low =
+      let same : count_through T (suc T.weight) ≡ count_through h.table (suc T.weight) =
+          counts_through p T.weight h.command.limit T h.table sound (held_is_table p T holds) h.standard (omega (arith, low)) (suc T.weight) (omega arith) in
+      omega (arith, same, h.within (suc T.weight) (omega (arith, low)))
+
+  goes_on : (n : ℕ) (stage : Stage) → Holds p stage.table → IsRaised p stage.table → stage.stored ≡ false → stage.table.weight + n ≡ h.command.limit → (walk n stage).stop ≡ None
+  unfolding walk
+  goes_on zero stage holds raised plain sum = refl
+  goes_on (suc n) stage holds raised plain sum = ap (λ (r : Result Stage Stop). (walk_on (walk n) stage r).stop) next ∙ go (close_weight stage.table p) refl
+    where
+      T : PlainTable
+      T = stage.table
+
+      low : T.weight < h.command.limit
+      low = omega (arith, sum)
+
+      within : nat_lt h.command.entries (count_through T (next_weight stage)) ≡ false
+      within = let l = few T holds low in grind (arith, l)
+
+      next : step_of true h.command.entries p (of_text p).stored stage ≡ computed_as stage p (close_weight T p)
+      next = computed_next h.command.entries p (of_text p).stored stage plain within
+
+      go : (r : Result Held Unfit) → close_weight T p ≡ r → (walk_on (walk n) stage (computed_as stage p r)).stop ≡ None
+      go (Err u) run = absurd (no_overflow T u raised low run)
+      go (Ok held) run =
+          let small : length (symbols_in T) ≤ 2000000 = few_symbols T (count_through T (T.weight + 1)) refl (let l = few T holds low in let up : T.weight + 1 ≡ suc T.weight = omega arith in rw up (omega (arith, l, range.1))) in
+          goes_on n (raised_by stage p held) (next_holds p T holds held run (omega (arith, low, range.0)) small) (next_raised p T holds held run raised) refl (omega (arith, sum))
+
+  start_table : (r : Reply) → AnswersStart h.command (of_text p) r → status_of r ≡ Done
+  start_table _ (view_not_built a) = absurd (a (inl h.view))
+  start_table _ (stopped a x e r k) =
+      let over : (walk_of (does_compute h.command.view) h.command.entries p (of_text p).stored h.command.limit (begun_for (of_text p))).stop ≡ Some x = e in
+      let table : (walk_of true h.command.entries p (of_text p).stored h.command.limit (begun_for (of_text p))).stop ≡ Some x =
+          subst (λ (v : View). (walk_of (does_compute v) h.command.entries p (of_text p).stored h.command.limit (begun_for (of_text p))).stop ≡ Some x) h.view over in
+      let on = goes_on h.command.limit (begun_for (of_text p)) (start_holds p sound) started refl (omega arith) in
+      let no : None ≡ Some x = sym on ∙ table in
+      cc
+  start_table _ (table_done a e t) = refl
+  start_table _ (check_done a e) = refl
 
   text_table : (r : Reply) → AnswersText h.command bytes r → status_of r ≡ Done
   text_table _ (text_too_long l) = absurd (omega (arith, l, h.short))
-  text_table _ (no_presentation l place reason k) = absurd (not_both bytes h.presentation place reason h.said k)
-  text_table _ (presentation l p k r a) = presentation_table r (subst (λ x. AnswersPresentation h.command x r) (one_presentation bytes p h.presentation k h.said) a)
+  text_table _ (no_presentation l place reason k) = absurd (not_both bytes p place reason h.said k)
+  text_table _ (presentation l q k r a) = start_table r (subst (λ (x : Presentation). AnswersStart h.command (of_text x) r) (one_presentation bytes q p k h.said) a)
+
+  plain : IsCheckpoint h.command bytes → ⊥
+  plain (inl e) = let no : Table ≡ Check = sym h.view ∙ e in cc
+  plain (inr m) = no_mark bytes p h.said m
 
   command_table : (r : Reply) → AnswersCommand h.command bytes r → status_of r ≡ Done
-  command_table _ (unread u) = absurd (table_read (subst IsUnread h.view u))
+  command_table _ (unread u) = let no : Table ≡ Sample = sym h.view ∙ u in cc
   command_table _ (input_too_long u l) = absurd (omega (arith, l, h.short))
-  command_table _ (checkpoint_not_built u l m) = absurd (no_mark bytes h.presentation h.said m)
+  command_table _ (checkpoint u l m r a) = absurd (plain m)
   command_table _ (text u l m r a) = text_table r a
 
   -- the reply to words and bytes that have a table is its text
   table_reply : (r : Reply) → Answers words bytes r → status_of r ≡ Done
   table_reply _ (no_command none) = absurd (none h.command h.spelled)
-  table_reply _ (command c is r a) = command_table r (subst (λ x. AnswersCommand x bytes r) (one_command words c h.command is h.spelled) a)
+  table_reply _ (command c is r a) = command_table r (subst (λ (x : Command). AnswersCommand x bytes r) (one_command words c h.command is h.spelled) a)
 
 pub completes : (words : List (List ℕ)) (left : Option (List ℕ)) (result : Status) (oo on eo en : Option (List ℕ)) (before now : ℕ) (R W : Type 0) →
     IsFree result ⊎ IfSome left (λ bytes. IsReplied words bytes result oo on eo en before now) → (result ≡ ReadFault → R) → (result ≡ WriteFault → W) →

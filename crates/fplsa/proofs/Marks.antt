@@ -6,7 +6,7 @@ use Rattle.fpl_lex.specs.declared.token.Token.{Token}
 use Rattle.fpl_lex.specs.Cut.{Form, blank, comment, word, number, mark, other, Piece, IsPiece, IsCut, reading_from}
 use Rattle.fpl_model.specs.declared.presentation.Presentation.{Presentation}
 use Rattle.fpl_reader.specs.Reading.{HasPresentation}
-use Rattle.fplsa.specs.Answer.{IsCheckpoint, checkpoint_mark}
+use Rattle.fplsa.specs.Answer.{IsMarked, checkpoint_mark}
 
 odd_piece : (f : Form) (bs after : List ℕ) → IsPiece f bs after → slice_index (bs ++ after) 0 ≡ checkpoint_mark → f ≡ other
 odd_piece blank [] after h e = absurd h
@@ -26,11 +26,11 @@ odd_piece other bs after h e = refl
 no_reading : (at : ℕ) (p : Piece) (ps : List Piece) (ts : List Token) → p.form ≡ other → reading_from at (p ∷ ps) ≡ Ok ts → ⊥
 no_reading at p ps ts e r = cc (rw e at r)
 
-no_cut : (text : List ℕ) (ps : List Piece) (ts : List Token) → IsCheckpoint text → IsCut text ps → reading_from 0 ps ≡ Ok ts → ⊥
+no_cut : (text : List ℕ) (ps : List Piece) (ts : List Token) → IsMarked text → IsCut text ps → reading_from 0 ps ≡ Ok ts → ⊥
 no_cut text [] ts m cut r = omega (arith, ap length cut, m.0)
 no_cut text (p ∷ ps) ts m cut r =
     let first : slice_index (p.bytes ++ cut.0) 0 ≡ checkpoint_mark = sym (ap (λ t. slice_index t 0) cut.1) ∙ m.1 in
     no_reading 0 p ps ts (odd_piece p.form p.bytes cut.0 cut.2 first) r
 
-pub no_mark : (bytes : List ℕ) (p : Presentation) → HasPresentation bytes p → IsCheckpoint bytes → ⊥
+pub no_mark : (bytes : List ℕ) (p : Presentation) → HasPresentation bytes p → IsMarked bytes → ⊥
 no_mark bytes p h m = no_cut bytes h.lexed.pieces h.tokens m h.lexed.cut h.lexed.read

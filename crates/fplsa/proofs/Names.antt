@@ -56,6 +56,10 @@ starts words c is =
     let small : c.limit ≤ 1000 = omega (arith, most_is_small c.view, is.most) in
     elim is.spelled [ inl two ↦ ([], two.0, small, inl (refl, two.1)) | inr three ↦ (decimal c.entries ∷ [], three.0, small, inr (refl, three.2)) ]
 
+entries_small : (rest : List (List ℕ)) (n : ℕ) → IsRest rest n → n ≤ 2000000
+entries_small rest n (inl a) = omega (arith, a.1)
+entries_small rest n (inr a) = a.1
+
 entries_same : (rest : List (List ℕ)) (m n : ℕ) → IsRest rest m → IsRest rest n → m ≡ n
 entries_same rest m n (inl a) (inl b) = cc
 entries_same rest m n (inl a) (inr b) = let no : decimal n ∷ [] ≡ [] = sym b.0 ∙ a.0 in cc
@@ -84,5 +88,11 @@ one_command words c d isc isd =
     let numbers : c.limit ≡ d.limit = number_injective c.limit d.limit limits (omega arith) (omega arith) in
     let entries : c.entries ≡ d.entries = entries_same b.0 c.entries d.entries (rw rests at a.3) b.3 in
     command_same c.view d.view c.limit d.limit c.entries d.entries views numbers entries
+
+-- the numbers of a command
+pub command_in_range : (words : List (List ℕ)) (c : Command) → IsCommand words c → (c.limit ≤ 1000) × (c.entries ≤ 2000000)
+command_in_range words c is =
+    let s = starts words c is in
+    (s.2, entries_small s.0 c.entries s.3)
 
 pub ruleset names = (view_name_injective, number_injective, one_command)

@@ -7,18 +7,20 @@ use Rattle.std.specs.Io.KnownBytes.{IsAtEnd}
 use Rattle.std.proofs.lemmas.List.{append-nil}
 use Rattle.fpl_outside.specs.Outside.{Gives, Takes, Rose}
 use Rattle.fpl_outside.specs.Whole.{PassedMax, WrotePrefix}
-use Rattle.fpl_model.specs.declared.presentation.Presentation.{Presentation}
 use Rattle.fplsa.specs.declared.status.Status.{Status}
 use Rattle.fplsa.specs.declared.status.Status.TheVariants.{Usage, ReadFault, WriteFault}
 use Rattle.fplsa.specs.declared.words.Command.{Command}
 use Rattle.fplsa.specs.Words.{IsCommand}
-use Rattle.fplsa.specs.Reply.{Reply, done, usage, refused, limit, overflow, no_memory, read_fault, write_fault, not_built, IsFree, IsPlain, status_of, text_of, line_of}
-use Rattle.fplsa.specs.Answer.{Answers, AnswersCommand, AnswersText, AnswersPresentation}
-use Rattle.fplsa.specs.Events.{StopsAt}
-use Rattle.fplsa.specs.Events.StopsAt.{too_many_symbols, no_fit}
-use Rattle.fplsa.specs.Answer.AnswersPresentation.{view_not_built, stopped, table_done}
+use Rattle.fplsa.specs.Reply.{Reply, done, usage, refused, bad_bytes, bad_section, limit, overflow, no_memory, read_fault, write_fault, not_built, IsFree, IsPlain, status_of, text_of, line_of}
+use Rattle.fpl_resume.specs.Walk as walk
+use Rattle.fpl_resume.specs.Walk.{Stop, too_many, ended}
+use Rattle.fplsa.specs.Faults.{byte_text}
+use Rattle.fplsa.specs.Start.{Start, of_text, of_head, stop_reply}
+use Rattle.fplsa.specs.Answer.{Answers, AnswersCommand, AnswersText, AnswersCheckpoint, AnswersStart}
+use Rattle.fplsa.specs.Answer.AnswersStart.{view_not_built, stopped, table_done, check_done}
 use Rattle.fplsa.specs.Answer.AnswersText.{text_too_long, no_presentation, presentation}
-use Rattle.fplsa.specs.Answer.AnswersCommand.{unread, input_too_long, checkpoint_not_built, text}
+use Rattle.fplsa.specs.Answer.AnswersCheckpoint.{no_head, head}
+use Rattle.fplsa.specs.Answer.AnswersCommand.{unread, input_too_long, checkpoint, text}
 use Rattle.fplsa.specs.Answer.Answers.{command}
 use Rattle.fplsa.specs.Run.{Settles, Says, IsReplied}
 
@@ -49,24 +51,38 @@ passed_input (Some bs) (Some rest) max P h f =
     let passed : max < length h.front + length h.piece = h.passed in
     f bs (rw all (omega (arith, length-append (h.front ++ h.piece) rest, length-append h.front h.piece, passed)))
 
-stop_plain : (p : Presentation) (e w : ℕ) (r : Reply) → StopsAt p e w r → IsPlain r × (status_of r ≢ ReadFault)
-stop_plain p e w _ (too_many_symbols n h k) = (tt, λ e. cc)
-stop_plain p e w _ (no_fit n h k op a b u) = (tt, λ e. cc)
+abbrev IsInner : Reply → Type 0
+IsInner r = IsPlain r × (status_of r ≢ ReadFault)
 
-presentation_plain : (c : Command) (p : Presentation) (r : Reply) → AnswersPresentation c p r → IsPlain r × (status_of r ≢ ReadFault)
-presentation_plain c p _ (view_not_built a) = (tt, λ e. cc)
-presentation_plain c p _ (stopped a w l m below r h) = stop_plain p c.entries w r h
-presentation_plain c p _ (table_done a below T h) = (tt, λ e. cc)
+inner_same : (r s : Reply) → Some r ≡ Some s → IsInner r → IsInner s
+inner_same r s e h = let same : r ≡ s = cc in subst IsInner same h
+
+stop_plain : (stop : Stop) (r : Reply) → stop_reply stop ≡ Some r → IsInner r
+stop_plain (too_many w n) r e = inner_same (limit w n) r e (tt, λ f. cc)
+stop_plain (walk.bad_bytes b) r e = inner_same (bad_bytes b.place (byte_text b.why)) r e (tt, λ f. cc)
+stop_plain (walk.bad_section w spot why) r e = inner_same (bad_section w spot why) r e (tt, λ f. cc)
+stop_plain (walk.overflow w u) r e = inner_same (overflow w u.op u.a u.b) r e (tt, λ f. cc)
+stop_plain ended r e = cc
+
+start_plain : (c : Command) (s : Start) (r : Reply) → AnswersStart c s r → IsInner r
+start_plain c s _ (view_not_built a) = (tt, λ e. cc)
+start_plain c s _ (stopped a x e r h) = stop_plain x r h
+start_plain c s _ (table_done a e h) = (tt, λ e. cc)
+start_plain c s _ (check_done a e) = (tt, λ e. cc)
 
 text_plain : (c : Command) (bytes : List ℕ) (r : Reply) → AnswersText c bytes r → IsPlain r × (status_of r ≢ ReadFault)
 text_plain c bytes _ (text_too_long l) = (tt, λ e. cc)
 text_plain c bytes _ (no_presentation l place reason h) = (tt, λ e. cc)
-text_plain c bytes _ (presentation l p h r a) = presentation_plain c p r a
+text_plain c bytes _ (presentation l p h r a) = start_plain c (of_text p) r a
+
+checkpoint_plain : (c : Command) (bytes : List ℕ) (r : Reply) → AnswersCheckpoint c bytes r → IsInner r
+checkpoint_plain c bytes _ (no_head b h) = (tt, λ e. cc)
+checkpoint_plain c bytes _ (head h k r a) = start_plain c (of_head bytes h) r a
 
 command_plain : (c : Command) (bytes : List ℕ) (r : Reply) → AnswersCommand c bytes r → IsPlain r × (status_of r ≢ ReadFault)
 command_plain c bytes _ (unread h) = (tt, λ e. cc)
 command_plain c bytes _ (input_too_long h l) = (tt, λ e. cc)
-command_plain c bytes _ (checkpoint_not_built h l m) = (tt, λ e. cc)
+command_plain c bytes _ (checkpoint h l m r a) = checkpoint_plain c bytes r a
 command_plain c bytes _ (text h l m r a) = text_plain c bytes r a
 
 pub settled_plain : (c : Command) (bytes : List ℕ) (r : Reply) → Settles (AnswersCommand c bytes) r → IsPlain r × (status_of r ≢ ReadFault)
@@ -84,6 +100,8 @@ pub plain_outer : (r : Reply) → IsPlain r → (status_of r ≢ Usage) × (stat
 plain_outer (done t) h = (λ e. cc, λ e. cc)
 plain_outer usage h = absurd h
 plain_outer (refused place reason) h = (λ e. cc, λ e. cc)
+plain_outer (bad_bytes place reason) h = (λ e. cc, λ e. cc)
+plain_outer (bad_section w spot why) h = (λ e. cc, λ e. cc)
 plain_outer (limit w n) h = (λ e. cc, λ e. cc)
 plain_outer (overflow w op a b) h = (λ e. cc, λ e. cc)
 plain_outer no_memory h = (λ e. cc, λ e. cc)
@@ -99,6 +117,8 @@ written : (w : Reply) → (status_of w ≡ WriteFault) ⊎ (status_of w ≢ Writ
 written (done t) = inr (λ e. cc)
 written usage = inr (λ e. cc)
 written (refused place reason) = inr (λ e. cc)
+written (bad_bytes place reason) = inr (λ e. cc)
+written (bad_section w spot why) = inr (λ e. cc)
 written (limit weight n) = inr (λ e. cc)
 written (overflow weight op a b) = inr (λ e. cc)
 written no_memory = inr (λ e. cc)

@@ -2,26 +2,33 @@
 --   names and sizes: most_bytes of any input, most_text of a presentation; checkpoint_mark, the first byte of a checkpoint
 --   reason_text: why a text is no presentation, in words
 --   IsUnread: a view that reads no input yet
---   IsCheckpoint: there is a first byte, and it is the mark
+--   IsMarked: there is a first byte, and it is the mark
 --   Answers: the words spell no command; or a command, whose reply is
---   AnswersCommand: the view isn't built, and nothing is read; the input is too long; it is a checkpoint, which isn't built; or a text, whose reply is
---   AnswersText: it is too long; it is no presentation; or a presentation, whose reply is
---   AnswersPresentation: the view isn't built; or the run stops at some weight through the limit, and passes those below; or it passes all,
---   and the reply is the standard table through the limit, as text
-use Rattle.std.specs.Prelude.{ℕ, suc, ◌≡◌, ◌≢◌, ◌≤◌, ◌<◌, ◌⊎◌, List, length, slice_index, codes}
+--   AnswersCommand: the view isn't built, and nothing is read; the input is too long; it is a checkpoint, as the view check takes every input for one; or a
+--   text, whose reply is
+--   AnswersText: it is too long; it is no presentation; or a presentation, for which nothing is stored
+--   AnswersCheckpoint: its head is refused; or it has one, after which sections may be stored
+--   AnswersStart: the view isn't built; or the run through the weights stops before the limit; or it comes to the limit, and the reply is the standard table
+--   through it, as text; or it is a check, which also ends where the stored sections do, and the reply says how many there are
+use Rattle.std.specs.Prelude.{ℕ, ◌≡◌, ◌≤◌, ◌<◌, ◌-◌, ◌⊎◌, Some, None, List, length, slice_index, codes}
 use Rattle.fpl_model.specs.declared.presentation.Presentation.{Presentation}
 use Rattle.fpl_reader.specs.declared.fault.Reason.{Reason}
 use Rattle.fpl_reader.specs.declared.fault.Reason.TheVariants.{BadByte, NumberTooLarge, NameTooLong, TooDeep, Syntax, NoField, FieldTwice, BadPrime, NameTwice, BadWeight, TooManyGenerators, UnknownName, ZeroDenominator, MixedWeight, MixedParity}
 use Rattle.fpl_reader.specs.Reading.{HasPresentation, IsRefused}
-use Rattle.fpl_table.specs.Plain.{PlainTable}
 use Rattle.fpl_table.specs.Standard.{IsTableOf}
 use Rattle.fpl_print.specs.TableText.{table_text, names_of}
 use Rattle.fplsa.specs.declared.words.View.{View}
 use Rattle.fplsa.specs.declared.words.View.TheVariants.{Table, Check, Sample}
 use Rattle.fplsa.specs.declared.words.Command.{Command}
 use Rattle.fplsa.specs.Words.{IsCommand, IsNoCommand}
-use Rattle.fplsa.specs.Reply.{Reply, done, usage, refused, not_built}
-use Rattle.fplsa.specs.Events.{StopsAt, PassesBelow}
+use Rattle.fpl_bytes.specs.declared.fault.BadBytes.{BadBytes}
+use Rattle.fpl_checkpoint.specs.declared.head.Head.{Head}
+use Rattle.fpl_checkpoint.specs.Scans.{HasHead, IsBadHead}
+use Rattle.fpl_resume.specs.Walk.{Stop, ended}
+use Rattle.fplsa.specs.Faults.{byte_text}
+use Rattle.fplsa.specs.Reply.{Reply, done, usage, refused, bad_bytes, not_built}
+use Rattle.fplsa.specs.Start.{Start, of_text, of_head, walk_for, stop_reply}
+use Rattle.fplsa.specs.CheckText.{check_text}
 
 abbrev pub most_bytes : ℕ
 most_bytes = 1073741824
@@ -53,26 +60,39 @@ reason_text MixedWeight = codes "mixed weight"
 reason_text MixedParity = codes "mixed parity"
 
 abbrev pub IsUnread : View → Type 0
-IsUnread view = (view ≡ Check) ⊎ (view ≡ Sample)
+IsUnread view = view ≡ Sample
 
-abbrev pub IsCheckpoint : List ℕ → Type 0
-IsCheckpoint bytes = (0 < length bytes) × (slice_index bytes 0 ≡ checkpoint_mark)
+abbrev pub IsMarked : List ℕ → Type 0
+IsMarked bytes = (0 < length bytes) × (slice_index bytes 0 ≡ checkpoint_mark)
 
-pub data AnswersPresentation (c : Command) (p : Presentation) : Reply → Type 0 where
-  view_not_built : c.view ≢ Table → AnswersPresentation c p not_built
-  stopped : c.view ≡ Table → (w : ℕ) → 1 ≤ w → w ≤ c.limit → PassesBelow p c.entries w → (reply : Reply) → StopsAt p c.entries w reply → AnswersPresentation c p reply
-  table_done : c.view ≡ Table → PassesBelow p c.entries (suc c.limit) → (T : PlainTable) → IsTableOf p c.limit T → AnswersPresentation c p (done (table_text (names_of p) T))
+abbrev pub IsCheckpoint : Command → List ℕ → Type 0
+IsCheckpoint c bytes = (c.view ≡ Check) ⊎ IsMarked bytes
+
+abbrev pub IsBuilt : View → Type 0
+IsBuilt view = (view ≡ Table) ⊎ (view ≡ Check)
+
+pub data AnswersStart (c : Command) (s : Start) : Reply → Type 0 where
+  view_not_built : (IsBuilt c.view → ⊥) → AnswersStart c s not_built
+  stopped : IsBuilt c.view → (stop : Stop) → (walk_for c s).stop ≡ Some stop → (reply : Reply) → stop_reply stop ≡ Some reply → AnswersStart c s reply
+  table_done : c.view ≡ Table → (walk_for c s).stop ≡ None → IsTableOf s.presentation c.limit (walk_for c s).stage.table →
+      AnswersStart c s (done (table_text (names_of s.presentation) (walk_for c s).stage.table))
+  check_done : c.view ≡ Check → ((walk_for c s).stop ≡ None) ⊎ ((walk_for c s).stop ≡ Some ended) →
+      AnswersStart c s (done (check_text s.presentation.field c.limit (walk_for c s).stage.table.weight (length s.stored.bytes - (walk_for c s).stage.place)))
 
 pub data AnswersText (c : Command) (bytes : List ℕ) : Reply → Type 0 where
   text_too_long : most_text < length bytes → AnswersText c bytes (refused most_text too_long)
   no_presentation : length bytes ≤ most_text → (place : ℕ) (reason : Reason) → IsRefused bytes place reason → AnswersText c bytes (refused place (reason_text reason))
-  presentation : length bytes ≤ most_text → (p : Presentation) → HasPresentation bytes p → (reply : Reply) → AnswersPresentation c p reply → AnswersText c bytes reply
+  presentation : length bytes ≤ most_text → (p : Presentation) → HasPresentation bytes p → (reply : Reply) → AnswersStart c (of_text p) reply → AnswersText c bytes reply
+
+pub data AnswersCheckpoint (c : Command) (bytes : List ℕ) : Reply → Type 0 where
+  no_head : (b : BadBytes) → IsBadHead bytes b → AnswersCheckpoint c bytes (bad_bytes b.place (byte_text b.why))
+  head : (h : Head) → HasHead bytes h → (reply : Reply) → AnswersStart c (of_head bytes h) reply → AnswersCheckpoint c bytes reply
 
 pub data AnswersCommand (c : Command) (bytes : List ℕ) : Reply → Type 0 where
   unread : IsUnread c.view → AnswersCommand c bytes not_built
   input_too_long : (IsUnread c.view → ⊥) → most_bytes < length bytes → AnswersCommand c bytes (refused most_bytes too_long)
-  checkpoint_not_built : (IsUnread c.view → ⊥) → length bytes ≤ most_bytes → IsCheckpoint bytes → AnswersCommand c bytes not_built
-  text : (IsUnread c.view → ⊥) → length bytes ≤ most_bytes → (IsCheckpoint bytes → ⊥) → (reply : Reply) → AnswersText c bytes reply → AnswersCommand c bytes reply
+  checkpoint : (IsUnread c.view → ⊥) → length bytes ≤ most_bytes → IsCheckpoint c bytes → (reply : Reply) → AnswersCheckpoint c bytes reply → AnswersCommand c bytes reply
+  text : (IsUnread c.view → ⊥) → length bytes ≤ most_bytes → (IsCheckpoint c bytes → ⊥) → (reply : Reply) → AnswersText c bytes reply → AnswersCommand c bytes reply
 
 pub data Answers (words : List (List ℕ)) (bytes : List ℕ) : Reply → Type 0 where
   no_command : IsNoCommand words → Answers words bytes usage

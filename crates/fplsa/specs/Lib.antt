@@ -1,8 +1,11 @@
 pub mod Words
 pub mod Status
+pub mod Faults
 pub mod Reply
 pub mod Line
-pub mod Events
+pub mod Start
+pub mod CheckText
+pub mod Begin
 pub mod Answer
 pub mod Outcome
 pub mod Run

@@ -10,14 +10,19 @@ use Rattle.std.specs.Prelude.{ℕ, List, [], ◌++◌, codes, decimal}
 use Rattle.fpl_numbers.specs.declared.number.Num.{Num}
 use Rattle.fpl_numbers.specs.declared.number.Op.{Op}
 use Rattle.fpl_numbers.specs.declared.number.Op.TheVariants.{Add, Mul}
+use Rattle.fpl_check.specs.declared.fault.Spot.{Spot}
+use Rattle.fpl_check.specs.declared.fault.Why.{Why}
 use Rattle.fpl_print.specs.Combinations.{number_text}
+use Rattle.fplsa.specs.Faults.{spot_text, why_text}
 use Rattle.fplsa.specs.declared.status.Status.{Status}
-use Rattle.fplsa.specs.declared.status.Status.TheVariants.{Done, Usage, Refused, Limit, Overflow, NoMemory, ReadFault, WriteFault, NotBuilt}
+use Rattle.fplsa.specs.declared.status.Status.TheVariants.{Done, Usage, Refused, BadCheckpoint, Limit, Overflow, NoMemory, ReadFault, WriteFault, NotBuilt}
 
 pub data Reply : Type 0 where
   done : (text : List ℕ) → Reply
   usage : Reply
   refused : (place : ℕ) (reason : List ℕ) → Reply
+  bad_bytes : (place : ℕ) (reason : List ℕ) → Reply
+  bad_section : (weight : ℕ) (spot : Spot) (why : Why) → Reply
   limit : (weight count : ℕ) → Reply
   overflow : (weight : ℕ) (op : Op) (a b : Num) → Reply
   no_memory : Reply
@@ -29,6 +34,8 @@ abbrev pub status_of : Reply → Status
 status_of (done text) = Done
 status_of usage = Usage
 status_of (refused place reason) = Refused
+status_of (bad_bytes place reason) = BadCheckpoint
+status_of (bad_section weight spot why) = BadCheckpoint
 status_of (limit weight count) = Limit
 status_of (overflow weight op a b) = Overflow
 status_of no_memory = NoMemory
@@ -40,6 +47,8 @@ abbrev pub text_of : Reply → List ℕ
 text_of (done text) = text
 text_of usage = []
 text_of (refused place reason) = []
+text_of (bad_bytes place reason) = []
+text_of (bad_section weight spot why) = []
 text_of (limit weight count) = []
 text_of (overflow weight op a b) = []
 text_of no_memory = []
@@ -55,6 +64,8 @@ abbrev pub line_of : Reply → List ℕ
 line_of (done text) = []
 line_of usage = codes "usage: fplsa VIEW LIMIT [ENTRIES]\n"
 line_of (refused place reason) = codes "refused at byte " ++ decimal place ++ codes ": " ++ reason ++ codes "\n"
+line_of (bad_bytes place reason) = codes "bad checkpoint at byte " ++ decimal place ++ codes ": " ++ reason ++ codes "\n"
+line_of (bad_section weight spot why) = codes "bad checkpoint in weight " ++ decimal weight ++ spot_text spot ++ codes ": " ++ why_text why ++ codes "\n"
 line_of (limit weight count) = codes "limit at weight " ++ decimal weight ++ codes ": " ++ decimal count ++ codes " symbols\n"
 line_of (overflow weight op a b) = codes "overflow at weight " ++ decimal weight ++ codes ": " ++ number_text a ++ op_text op ++ number_text b ++ codes "\n"
 line_of no_memory = codes "no memory\n"
@@ -66,6 +77,7 @@ abbrev pub IsFree : Status → Type 0
 IsFree Done = ⊥
 IsFree Usage = ⊥
 IsFree Refused = ⊥
+IsFree BadCheckpoint = ⊥
 IsFree Limit = ⊥
 IsFree Overflow = ⊥
 IsFree NoMemory = Unit {0}
@@ -77,6 +89,8 @@ abbrev pub IsPlain : Reply → Type 0
 IsPlain (done text) = Unit {0}
 IsPlain usage = ⊥
 IsPlain (refused place reason) = Unit {0}
+IsPlain (bad_bytes place reason) = Unit {0}
+IsPlain (bad_section weight spot why) = Unit {0}
 IsPlain (limit weight count) = Unit {0}
 IsPlain (overflow weight op a b) = Unit {0}
 IsPlain no_memory = Unit {0}

@@ -5,8 +5,8 @@
 --   IsReplied: the status is that of the reply to the words and the bytes, whose text was appended to the output and whose line to the error output
 --   HasTable: the words ask for the table of a presentation, which is what the bytes are; its symbols stay within the entries, and over fractions
 --   each weight's operations fit
---   CostsAtMost d: a number rose by at most the number of origins of the weights from 1 to d, of the presentation that the bytes are; it stayed where
---   they are none
+--   IsStart: what the bytes are for a command: a presentation, or a checkpoint's head and what stands after it
+--   CostsAtMost: a number rose by at most the number of origins of the weights that a run computes; it stayed where the bytes are no start
 --   IsPartOf: the reply to the words and the bytes is a text, and a prefix of it was appended to the output
 use Rattle.std.specs.Prelude.{◌≡◌, ℕ, ◌+◌, ◌≤◌, ◌⊎◌, List, length}
 use Rattle.std.specs.declared.option.Option.{Option}
@@ -20,12 +20,14 @@ use Rattle.fpl_reader.specs.Reading.{HasPresentation}
 use Rattle.fpl_table.specs.Plain.{PlainTable}
 use Rattle.fpl_table.specs.Standard.{IsTableOf, count_through}
 use Rattle.fpl_completion.specs.Section.{FitsAt}
-use Rattle.fpl_complete.specs.State.{BoundsOrigins, sum_after}
+use Rattle.fpl_checkpoint.specs.declared.head.Head.{Head}
+use Rattle.fpl_checkpoint.specs.Scans.{HasHead}
 use Rattle.fplsa.specs.declared.words.View.TheVariants.{Table}
 use Rattle.fplsa.specs.declared.words.Command.{Command}
 use Rattle.fplsa.specs.Words.{IsCommand, IsNoCommand}
 use Rattle.fplsa.specs.Reply.{Reply, no_memory, status_of, text_of, line_of}
-use Rattle.fplsa.specs.Answer.{Answers, IsUnread, most_text}
+use Rattle.fplsa.specs.Start.{Start, of_text, of_head, cost_for}
+use Rattle.fplsa.specs.Answer.{Answers, IsUnread, IsCheckpoint, most_text}
 
 abbrev pub Settles : (Reply → Type 0) → Reply → Type 0
 Settles A reply = (reply ≡ no_memory) ⊎ A reply
@@ -61,7 +63,11 @@ pub record HasTable (words : List (List ℕ)) (bytes : List ℕ) : Type 0 where
   pub within : (w : ℕ) → w ≤ command.limit → count_through table w ≤ command.entries
   pub fits : presentation.field ≡ Rational → (w : ℕ) → 1 ≤ w → w ≤ command.limit → FitsAt presentation w
 
-pub record CostsAtMost (d : ℕ) (bytes : List ℕ) (old new : ℕ) : Type 0 where
+pub data IsStart (c : Command) (bytes : List ℕ) : Start → Type 0 where
+  from_text : (IsCheckpoint c bytes → ⊥) → (p : Presentation) → HasPresentation bytes p → IsStart c bytes (of_text p)
+  from_head : IsCheckpoint c bytes → (h : Head) → HasHead bytes h → IsStart c bytes (of_head bytes h)
+
+pub record CostsAtMost (c : Command) (bytes : List ℕ) (old new : ℕ) : Type 0 where
   pub rises : old ≤ new
-  pub most : (p : Presentation) (count : ℕ → ℕ) → HasPresentation bytes p → BoundsOrigins p 0 d count → new ≤ old + sum_after count 0 d
-  pub stays : ((p : Presentation) → HasPresentation bytes p → ⊥) → new ≡ old
+  pub most : (s : Start) → IsStart c bytes s → new ≤ old + cost_for c s
+  pub stays : ((s : Start) → IsStart c bytes s → ⊥) → new ≡ old

@@ -1,13 +1,17 @@
 //! The line that says why nothing was written. It is put piece by piece and takes no memory.
-ghost use Rattle.std.specs.Prelude.{◌≡◌, ◌≤◌, true, OnOk, OnErr};
+ghost use Rattle.std.specs.Prelude.{◌≡◌, ◌≤◌, ◌++◌, codes, decimal, true, OnOk, OnErr};
 ghost use Rattle.fpl_outside.specs.Outside.{Rose, Takes};
 ghost use Rattle.fpl_outside.specs.Whole.{WrotePrefix};
 ghost use Rattle.fpl_print.specs.Combinations.{below_text, magnitude_text, number_text, sign_text, is_below_nought};
-ghost use Rattle.fplsa.specs.Reply.{Reply, line_of, op_text, refused, limit, overflow};
+ghost use Rattle.fplsa.specs.Reply.{Reply, line_of, op_text, refused, bad_bytes, bad_section, limit, overflow};
+ghost use Rattle.fplsa.specs.Faults.{byte_text, spot_text, why_text};
 ghost use Rattle.fplsa.specs.Line.{piece_text, pieces_text};
 ghost use Rattle.fplsa.specs.Outcome.{refusal_text, reply_of};
 
+use crate::fault_line::{byte_text, put_spot, put_why};
 use crate::outcome::{Outcome, Refusal};
+use fpl_check::{Spot, Why};
+use fpl_checkpoint::ByteWhy;
 use fpl_numbers::{Num, Op};
 use fpl_outside::{Sink, WriteFault, write_whole};
 use itoa::{Buffer, Integer};
@@ -84,7 +88,7 @@ fn put_piece<E: Sink>(err: &mut E, piece: &Piece) -> Result<(), WriteFault>
     }
 }
 
-fn put_pieces<E: Sink>(err: &mut E, pieces: &[Piece]) -> Result<(), WriteFault>
+pub(crate) fn put_pieces<E: Sink>(err: &mut E, pieces: &[Piece]) -> Result<(), WriteFault>
     ensures whole { OnOk result (Takes (E.taken err.old) (E.taken err.new) (pieces_text pieces.now)) }
     ensures part { OnErr result (WrotePrefix (E.taken err.old) (E.taken err.new) (pieces_text pieces.now)) }
     ensures fault { OnErr result (Rose (E.faults err.old) (E.faults err.new)) }
@@ -121,6 +125,76 @@ fn put_refused<E: Sink>(err: &mut E, place: u64, why: Refusal) -> Result<(), Wri
             Piece::Text(b"\n"),
         ],
     )
+}
+
+fn put_bad_bytes<E: Sink>(err: &mut E, place: u64, why: ByteWhy) -> Result<(), WriteFault>
+    ensures whole { OnOk result (Takes (E.taken err.old) (E.taken err.new) (line_of (bad_bytes place (byte_text why)))) }
+    ensures part { OnErr result (WrotePrefix (E.taken err.old) (E.taken err.new) (line_of (bad_bytes place (byte_text why)))) }
+    ensures fault { OnErr result (Rose (E.faults err.old) (E.faults err.new)) }
+    ensures later { E.faults err.old ≤ E.faults err.new }
+{
+    put_pieces(
+        err,
+        &[
+            Piece::Text(b"bad checkpoint at byte "),
+            Piece::Count(place),
+            Piece::Text(b": "),
+            Piece::Text(byte_text(why)),
+            Piece::Text(b"\n"),
+        ],
+    )
+}
+
+// The line of a section that fails a test, up to the colon.
+fn put_spotted<E: Sink>(err: &mut E, weight: u32, spot: Spot) -> Result<(), WriteFault>
+    ensures whole { OnOk result (Takes (E.taken err.old) (E.taken err.new) (codes "bad checkpoint in weight " ++ decimal weight ++ spot_text spot)) }
+    ensures part { OnErr result (WrotePrefix (E.taken err.old) (E.taken err.new) (codes "bad checkpoint in weight " ++ decimal weight ++ spot_text spot)) }
+    ensures fault { OnErr result (Rose (E.faults err.old) (E.faults err.new)) }
+    ensures later { E.faults err.old ≤ E.faults err.new }
+{
+    put_pieces(
+        err,
+        &[
+            Piece::Text(b"bad checkpoint in weight "),
+            Piece::Count(weight as u64),
+        ],
+    )?;
+    put_spot(err, spot)
+}
+
+fn put_colon<E: Sink>(err: &mut E, weight: u32, spot: Spot) -> Result<(), WriteFault>
+    ensures whole { OnOk result (Takes (E.taken err.old) (E.taken err.new) (codes "bad checkpoint in weight " ++ decimal weight ++ spot_text spot ++ codes ": ")) }
+    ensures part { OnErr result (WrotePrefix (E.taken err.old) (E.taken err.new) (codes "bad checkpoint in weight " ++ decimal weight ++ spot_text spot ++ codes ": ")) }
+    ensures fault { OnErr result (Rose (E.faults err.old) (E.faults err.new)) }
+    ensures later { E.faults err.old ≤ E.faults err.new }
+{
+    put_spotted(err, weight, spot)?;
+    write_whole(err, b": ")
+}
+
+fn put_reasoned<E: Sink>(err: &mut E, weight: u32, spot: Spot, why: Why) -> Result<(), WriteFault>
+    ensures whole { OnOk result (Takes (E.taken err.old) (E.taken err.new) (codes "bad checkpoint in weight " ++ decimal weight ++ spot_text spot ++ codes ": " ++ why_text why)) }
+    ensures part { OnErr result (WrotePrefix (E.taken err.old) (E.taken err.new) (codes "bad checkpoint in weight " ++ decimal weight ++ spot_text spot ++ codes ": " ++ why_text why)) }
+    ensures fault { OnErr result (Rose (E.faults err.old) (E.faults err.new)) }
+    ensures later { E.faults err.old ≤ E.faults err.new }
+{
+    put_colon(err, weight, spot)?;
+    put_why(err, why)
+}
+
+fn put_bad_section<E: Sink>(
+    err: &mut E,
+    weight: u32,
+    spot: Spot,
+    why: Why,
+) -> Result<(), WriteFault>
+    ensures whole { OnOk result (Takes (E.taken err.old) (E.taken err.new) (line_of (bad_section weight spot why))) }
+    ensures part { OnErr result (WrotePrefix (E.taken err.old) (E.taken err.new) (line_of (bad_section weight spot why))) }
+    ensures fault { OnErr result (Rose (E.faults err.old) (E.faults err.new)) }
+    ensures later { E.faults err.old ≤ E.faults err.new }
+{
+    put_reasoned(err, weight, spot, why)?;
+    write_whole(err, b"\n")
 }
 
 fn put_limit<E: Sink>(err: &mut E, weight: u32, count: u64) -> Result<(), WriteFault>
@@ -172,6 +246,8 @@ pub fn put_line<E: Sink>(err: &mut E, outcome: &Outcome) -> Result<(), WriteFaul
         Outcome::Done(_) => write_whole(err, b""),
         Outcome::Usage => write_whole(err, b"usage: fplsa VIEW LIMIT [ENTRIES]\n"),
         Outcome::Refused { place, why } => put_refused(err, *place, *why),
+        Outcome::BadBytes { place, why } => put_bad_bytes(err, *place, *why),
+        Outcome::BadSection { weight, spot, why } => put_bad_section(err, *weight, *spot, *why),
         Outcome::Limit { weight, count } => put_limit(err, *weight, *count),
         Outcome::Overflow { weight, op, a, b } => put_overflow(err, *weight, *op, *a, *b),
         Outcome::NoMemory => write_whole(err, b"no memory\n"),

@@ -3,6 +3,8 @@
 
 ghost use Rattle.std.specs.Prelude.{◌≡◌, ◌<◌};
 
+mod check_text;
+mod fault_line;
 mod laws;
 mod line;
 mod outcome;
@@ -10,7 +12,10 @@ mod run;
 mod spelling;
 mod status;
 #[cfg(test)]
+mod checkpoint_tests;
+#[cfg(test)]
 mod tests;
+mod walk;
 mod words;
 
 use fpl_outside::{Sink, Source, StdSink, StdSource};

@@ -2,13 +2,10 @@ ghost use Rattle.std.specs.Prelude.{◌≡◌, ◌≢◌, ◌≤◌, ◌<◌, �
 ghost use Rattle.std.specs.Io.KnownBytes.{IsAtEnd};
 ghost use Rattle.fpl_outside.specs.Outside.{Rose, Takes};
 ghost use Rattle.fpl_outside.specs.Whole.{WrotePrefix};
-ghost use Rattle.fpl_model.specs.Sound.{IsSound};
-ghost use Rattle.fpl_complete.specs.State.{BoundsOrigins, sum_after};
-ghost use Rattle.fplsa.specs.declared.words.View.{View};
 ghost use Rattle.fplsa.specs.declared.words.Command.{Command};
 ghost use Rattle.fplsa.specs.Words.{IsCommand, IsNoCommand, IsInRange};
 ghost use Rattle.fplsa.specs.Reply.{Reply, read_fault, IsFree, IsPlain, status_of, text_of, line_of};
-ghost use Rattle.fplsa.specs.Answer.{Answers, AnswersCommand, AnswersText, AnswersPresentation, IsUnread, IsCheckpoint};
+ghost use Rattle.fplsa.specs.Answer.{Answers, AnswersCommand, AnswersText, AnswersCheckpoint, IsUnread, IsMarked, IsCheckpoint};
 ghost use Rattle.fplsa.specs.Outcome.{reply_of};
 ghost use Rattle.fplsa.specs.Run.{Settles, ReadsNothing, Says, IsReplied, HasTable, IsPartOf, CostsAtMost};
 
@@ -16,14 +13,11 @@ use crate::line::put_line;
 use crate::outcome::{Outcome, Refusal};
 use crate::spelling::command;
 use crate::status::Status;
+use crate::walk::{Begin, of_start};
 use crate::words::{Command, View};
-use fpl_complete::{RaiseFault, State};
-use fpl_model::Presentation;
-use fpl_numbers::Kind;
+use fpl_checkpoint::{ScanError, scan_head};
 use fpl_outside::{ReadError, Sink, Source, read_whole, write_whole};
-use fpl_print::table_text;
 use fpl_reader::{ReaderError, read};
-use fpl_scalar::{Field, Fraction, Residue};
 use fpl_steps::Steps;
 use std::alloc::Global;
 use std::sync::ledger::Ledger;
@@ -39,73 +33,26 @@ const CHECKPOINT_MARK: u8 = 0xF1;
 fn is_unread(view: View) -> bool
     ensures { IsTrue result ↔ IsUnread view }
 {
-    matches!(view, View::Check | View::Sample)
+    matches!(view, View::Sample)
 }
 
-fn is_checkpoint(bytes: &[u8]) -> bool
-    ensures { IsTrue result ↔ IsCheckpoint bytes.now }
+fn is_marked(bytes: &[u8]) -> bool
+    ensures { IsTrue result ↔ IsMarked bytes.now }
 {
     !bytes.is_empty() && bytes[0] == CHECKPOINT_MARK
 }
 
-// The table through the limit, over the presentation's field.
-fn through_limit<F: Field, L: Ledger>(
-    alloc: Global,
-    field: F,
-    c: Command,
-    p: Presentation,
-    steps: &mut Steps<L>,
-) -> Outcome
-    requires kind { F.kind_of field ≡ p.field }
-    requires sound { IsSound p }
-    requires table { c.view ≡ View.Table }
-    requires range { IsInRange c }
-    ensures reply { Settles (AnswersPresentation c p) (reply_of result) }
-    ensures rises { steps.old ≤ steps.new }
-    ensures cost { (count : ℕ → ℕ) → BoundsOrigins p 0 c.limit count → steps.new ≤ steps.old + sum_after count 0 c.limit }
+fn is_checkpoint(c: Command, bytes: &[u8]) -> bool
+    ensures { IsTrue result ↔ IsCheckpoint c bytes.now }
 {
-    let Ok(mut state) = State::start(alloc, field, p) else {
-        return Outcome::NoMemory;
-    };
-    match state.raise(c.limit, c.entries, steps) {
-        Ok(()) => match table_text(alloc, state.presentation(), state.table()) {
-            Ok(text) => Outcome::Done(text),
-            Err(_) => Outcome::NoMemory,
-        },
-        Err(RaiseFault::Limit { weight, count }) => Outcome::Limit { weight, count },
-        Err(RaiseFault::Overflow { weight, op, a, b }) => Outcome::Overflow { weight, op, a, b },
-        Err(RaiseFault::NoMemory) => Outcome::NoMemory,
-    }
-}
-
-fn of_presentation<L: Ledger>(
-    alloc: Global,
-    c: Command,
-    p: Presentation,
-    steps: &mut Steps<L>,
-) -> Outcome
-    requires sound { IsSound p }
-    requires range { IsInRange c }
-    ensures reply { Settles (AnswersPresentation c p) (reply_of result) }
-    ensures rises { steps.old ≤ steps.new }
-    ensures cost { (count : ℕ → ℕ) → BoundsOrigins p 0 c.limit count → steps.new ≤ steps.old + sum_after count 0 c.limit }
-{
-    let View::Table = c.view else {
-        return Outcome::NotBuilt;
-    };
-    match p.field {
-        Kind::Rational => through_limit(alloc, Fraction, c, p, steps),
-        Kind::Prime(prime) => match Residue::of(prime) {
-            Some(field) => through_limit(alloc, field, c, p, steps),
-            None => Outcome::NotBuilt,
-        },
-    }
+    matches!(c.view, View::Check) || is_marked(bytes)
 }
 
 fn of_text<L: Ledger>(alloc: Global, c: Command, bytes: &[u8], steps: &mut Steps<L>) -> Outcome
     requires range { IsInRange c }
+    requires plain { IsCheckpoint c bytes.now → ⊥ }
     ensures reply { Settles (AnswersText c bytes.now) (reply_of result) }
-    ensures cost { CostsAtMost c.limit bytes.now steps.old steps.new }
+    ensures cost { CostsAtMost c bytes.now steps.old steps.new }
 {
     if bytes.len() > MOST_TEXT {
         return Outcome::Refused {
@@ -114,7 +61,15 @@ fn of_text<L: Ledger>(alloc: Global, c: Command, bytes: &[u8], steps: &mut Steps
         };
     }
     match read(alloc, bytes) {
-        Ok(p) => of_presentation(alloc, c, p, steps),
+        Ok(presentation) => {
+            let begin = Begin {
+                presentation,
+                version: 2,
+                place: 0,
+                stored: false,
+            };
+            of_start(alloc, c, begin, b"", steps)
+        }
         Err(ReaderError::Refused { place, reason }) => Outcome::Refused {
             place,
             why: Refusal::Unread(reason),
@@ -123,15 +78,44 @@ fn of_text<L: Ledger>(alloc: Global, c: Command, bytes: &[u8], steps: &mut Steps
     }
 }
 
+fn of_checkpoint<L: Ledger>(
+    alloc: Global,
+    c: Command,
+    bytes: &[u8],
+    steps: &mut Steps<L>,
+) -> Outcome
+    requires range { IsInRange c }
+    requires checkpoint { IsCheckpoint c bytes.now }
+    ensures reply { Settles (AnswersCheckpoint c bytes.now) (reply_of result) }
+    ensures cost { CostsAtMost c bytes.now steps.old steps.new }
+{
+    match scan_head(alloc, bytes) {
+        Ok(head) => {
+            let begin = Begin {
+                presentation: head.presentation,
+                version: head.version,
+                place: head.end,
+                stored: true,
+            };
+            of_start(alloc, c, begin, bytes, steps)
+        }
+        Err(ScanError::Bad(bad)) => Outcome::BadBytes {
+            place: bad.place,
+            why: bad.why,
+        },
+        Err(ScanError::NoMemory) => Outcome::NoMemory,
+    }
+}
+
 fn of_bytes<L: Ledger>(alloc: Global, c: Command, bytes: &[u8], steps: &mut Steps<L>) -> Outcome
     requires range { IsInRange c }
     requires read { IsUnread c.view → ⊥ }
     requires short { length bytes.now ≤ MOST_BYTES }
     ensures reply { Settles (AnswersCommand c bytes.now) (reply_of result) }
-    ensures cost { CostsAtMost c.limit bytes.now steps.old steps.new }
+    ensures cost { CostsAtMost c bytes.now steps.old steps.new }
 {
-    if is_checkpoint(bytes) {
-        return Outcome::NotBuilt;
+    if is_checkpoint(c, bytes) {
+        return of_checkpoint(alloc, c, bytes, steps);
     }
     of_text(alloc, c, bytes, steps)
 }
@@ -145,7 +129,7 @@ fn of_command<I: Source, L: Ledger>(
     requires range { IsInRange c }
     ensures reply { IfSome (I.left input.old) (λ bytes. (reply_of result ≡ read_fault) ⊎ Settles (AnswersCommand c bytes) (reply_of result)) }
     ensures plain { IsPlain (reply_of result) }
-    ensures cost { IfSome (I.left input.old) (λ bytes. CostsAtMost c.limit bytes steps.old steps.new) }
+    ensures cost { IfSome (I.left input.old) (λ bytes. CostsAtMost c bytes steps.old steps.new) }
     ensures unread { IsUnread c.view → input.new ≡ input.old }
     ensures idle { IsUnread c.view → steps.new ≡ steps.old }
     ensures read { status_of (reply_of result) ≡ Status.ReadFault → Rose (I.faults input.old) (I.faults input.new) }
@@ -176,7 +160,7 @@ fn answer<I: Source, L: Ledger>(
     ensures reply { IfSome (I.left input.old) (λ bytes. (reply_of result ≡ read_fault) ⊎ Settles (Answers (map string_bytes words.now.items) bytes) (reply_of result)) }
     ensures unread { ReadsNothing (map string_bytes words.now.items) → input.new ≡ input.old }
     ensures idle { ReadsNothing (map string_bytes words.now.items) → steps.new ≡ steps.old }
-    ensures cost { IfSome (I.left input.old) (λ bytes. (c : Command) → IsCommand (map string_bytes words.now.items) c → CostsAtMost c.limit bytes steps.old steps.new) }
+    ensures cost { IfSome (I.left input.old) (λ bytes. (c : Command) → IsCommand (map string_bytes words.now.items) c → CostsAtMost c bytes steps.old steps.new) }
     ensures read { status_of (reply_of result) ≡ Status.ReadFault → Rose (I.faults input.old) (I.faults input.new) }
     ensures write { status_of (reply_of result) ≢ Status.WriteFault }
     ensures end { status_of (reply_of result) ≡ Status.Done → IsAtEnd (I.left input.new) }
@@ -236,7 +220,7 @@ pub fn run<I: Source, O: Sink, E: Sink, L: Ledger>(
     ensures idle { ReadsNothing (map string_bytes words.now.items) → steps.new ≡ steps.old }
 
     // What a command costs, whatever the answer.
-    ensures cost { IfSome (I.left input.old) (λ bytes. (c : Command) → IsCommand (map string_bytes words.now.items) c → CostsAtMost c.limit bytes steps.old steps.new) }
+    ensures cost { IfSome (I.left input.old) (λ bytes. (c : Command) → IsCommand (map string_bytes words.now.items) c → CostsAtMost c bytes steps.old steps.new) }
 {
     let outcome = write_text(out, answer(alloc, words, input, steps));
     let _ = put_line(err, &outcome);

@@ -10,6 +10,8 @@ pub enum Status {
     Usage,
     /// The input is too long, or is no presentation.
     Refused,
+    /// The input is no checkpoint, or a stored section fails a test.
+    BadCheckpoint,
     /// The symbols up to some weight number more than the command allows.
     Limit,
     /// Over fractions, an operation in computing some weight doesn't fit.
@@ -33,6 +35,7 @@ impl Status {
             Status::Done => 0,
             Status::Usage => 1,
             Status::Refused => 2,
+            Status::BadCheckpoint => 3,
             Status::Limit => 4,
             Status::Overflow => 5,
             Status::NoMemory => 6,

@@ -1,0 +1,20 @@
+use Rattle.std.proofs.Common.{◌≡◌, ◌≤◌, ◌+◌, ◌-◌}
+use Rattle.fpl_resume.specs.Walk.{walk_of, cost_of}
+use Rattle.fpl_resume.specs.Stops.{stored_in}
+use Rattle.fplsa.specs.Start.{does_compute}
+use Rattle.fplsa.proofs.walk.walk.Given as goal
+
+abbrev pub invariant-loop-run : goal.invariant-loop-run
+invariant-loop-run g l = record {
+  presentation : l.run.presentation ≡ l.fn.run.presentation;
+  version : l.run.version ≡ l.fn.run.version;
+  within : l.run.stage.table.weight ≤ l.c.limit;
+  left : walk_of (does_compute l.c.view) l.c.entries l.fn.run.presentation (stored_in l.fn.run l.bytes) l.c.limit l.fn.run.stage
+      ≡ walk_of (does_compute l.c.view) l.c.entries l.fn.run.presentation (stored_in l.fn.run l.bytes) (l.c.limit - l.run.stage.table.weight) l.run.stage;
+  later : l.fn.steps ≤ l.steps;
+  cost : l.steps + cost_of (does_compute l.c.view) l.c.entries l.fn.run.presentation (stored_in l.fn.run l.bytes) (l.c.limit - l.run.stage.table.weight) l.run.stage
+      ≤ l.fn.steps + cost_of (does_compute l.c.view) l.c.entries l.fn.run.presentation (stored_in l.fn.run l.bytes) l.c.limit l.fn.run.stage;
+}
+
+abbrev pub decreases-loop-run : goal.decreases-loop-run
+decreases-loop-run g l = l.c.limit - l.run.stage.table.weight

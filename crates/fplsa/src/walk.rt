@@ -1,0 +1,215 @@
+//! The run through the weights of what was read.
+ghost use Rattle.std.specs.Prelude.{◌≡◌, ◌≤◌, ◌<◌, ◌+◌, ◌⊎◌, length, None, Some, Err, OnOk, IfErr};
+ghost use Rattle.fpl_model.specs.Sound.{IsSound};
+ghost use Rattle.fpl_resume.specs.declared.stop.Stop as code;
+ghost use Rattle.fpl_resume.specs.Walk.{Stage, Stop, walk_of, cost_of, stopped};
+ghost use Rattle.fpl_resume.specs.Stops.{IsStop, stored_in};
+ghost use Rattle.fplsa.specs.declared.words.View.{View};
+ghost use Rattle.fplsa.specs.Words.{IsInRange};
+ghost use Rattle.fplsa.specs.Reply.{no_memory};
+ghost use Rattle.fplsa.specs.Start.{does_compute, cost_for, stop_reply};
+ghost use Rattle.fplsa.specs.Answer.{AnswersStart};
+ghost use Rattle.fplsa.specs.Outcome.{reply_of};
+ghost use Rattle.fplsa.specs.Run.{Settles};
+ghost use Rattle.fplsa.specs.Begin.{start_in, HasStopped, HasChecked};
+
+use crate::check_text::check_text;
+use crate::outcome::Outcome;
+use crate::words::{Command, View};
+use fpl_model::Presentation;
+use fpl_numbers::Kind;
+use fpl_print::table_text;
+use fpl_resume::{Run, Stop};
+use fpl_scalar::{Field, Fraction, Residue};
+use fpl_steps::Steps;
+use std::alloc::Global;
+use std::sync::ledger::Ledger;
+
+/// What a run begins with: a presentation, and where its first stored section begins, if any are stored.
+#[derive(Drop)]
+pub(crate) struct Begin {
+    pub presentation: Presentation,
+    pub version: u8,
+    pub place: usize,
+    pub stored: bool,
+}
+
+fn does_compute(view: View) -> bool
+    ensures { result ≡ does_compute view }
+{
+    !matches!(view, View::Check)
+}
+
+// Goes through the weights, up to the limit or to a stop.
+fn walk<F: Field, L: Ledger>(
+    run: &mut Run<F>,
+    bytes: &[u8],
+    c: Command,
+    steps: &mut Steps<L>,
+) -> Result<(), Stop>
+    requires range { IsInRange c }
+    requires start { run.old.stage.table.weight ≡ 0 }
+    requires version { (run.old.version ≡ 1) ⊎ (run.old.version ≡ 2) }
+    ensures presentation { run.new.presentation ≡ run.old.presentation }
+    ensures whole { OnOk result (walk_of (does_compute c.view) c.entries run.old.presentation (stored_in run.old bytes.now) c.limit run.old.stage ≡ stopped run.new.stage None) }
+    ensures weight { OnOk result (run.new.stage.table.weight ≡ c.limit) }
+    ensures stop { IfErr result (λ stop. HasStopped stop run.new.stage (walk_of (does_compute c.view) c.entries run.old.presentation (stored_in run.old bytes.now) c.limit run.old.stage)) }
+    ensures rises { steps.old ≤ steps.new }
+    ensures cost { steps.new ≤ steps.old + cost_of (does_compute c.view) c.entries run.old.presentation (stored_in run.old bytes.now) c.limit run.old.stage }
+{
+    while run.weight() < c.limit {
+        match run.advance(bytes, does_compute(c.view), c.entries, steps) {
+            Ok(()) => {}
+            Err(stop) => return Err(stop),
+        }
+    }
+    Ok(())
+}
+
+// What a stop comes to, but for the end of what is stored.
+fn ending(stop: Stop) -> Outcome
+    ensures memory { stop ≡ code.TheVariants.NoMemory → reply_of result ≡ no_memory }
+    ensures reply { (s : Stop) → IsStop {X = Stage} stop (Err s) → (stop ≡ code.TheVariants.NoMemory → ⊥) → (stop ≡ code.TheVariants.Ended → ⊥) → stop_reply s ≡ Some (reply_of result) }
+{
+    match stop {
+        Stop::TooMany { weight, count } => Outcome::Limit { weight, count },
+        Stop::BadBytes(bad) => Outcome::BadBytes {
+            place: bad.place,
+            why: bad.why,
+        },
+        Stop::BadSection { weight, spot, why } => Outcome::BadSection { weight, spot, why },
+        Stop::Overflow { weight, op, a, b } => Outcome::Overflow { weight, op, a, b },
+        Stop::Ended => Outcome::NotBuilt,
+        Stop::NoMemory => Outcome::NoMemory,
+    }
+}
+
+fn table_through<F: Field, L: Ledger>(
+    alloc: Global,
+    field: F,
+    c: Command,
+    begin: Begin,
+    bytes: &[u8],
+    steps: &mut Steps<L>,
+) -> Outcome
+    requires kind { F.kind_of field ≡ begin.presentation.field }
+    requires sound { IsSound begin.presentation }
+    requires version { (begin.version ≡ 1) ⊎ (begin.version ≡ 2) }
+    requires view { c.view ≡ View.Table }
+    requires range { IsInRange c }
+    ensures reply { Settles (AnswersStart c (start_in begin bytes.now)) (reply_of result) }
+    ensures rises { steps.old ≤ steps.new }
+    ensures cost { steps.new ≤ steps.old + cost_for c (start_in begin bytes.now) }
+{
+    let Ok(mut run) = Run::start(
+        alloc,
+        field,
+        begin.presentation,
+        begin.version,
+        begin.place,
+        begin.stored,
+    ) else {
+        return Outcome::NoMemory;
+    };
+    match walk(&mut run, bytes, c, steps) {
+        Ok(()) => match table_text(alloc, run.state().presentation(), run.state().table()) {
+            Ok(text) => Outcome::Done(text),
+            Err(_) => Outcome::NoMemory,
+        },
+        Err(stop) => ending(stop),
+    }
+}
+
+// The text of a check that found nothing wrong.
+fn checked<F: Field>(alloc: Global, run: &Run<F>, c: Command, bytes: &[u8]) -> Outcome
+    requires { IsInRange c }
+    ensures { HasChecked run.now c bytes.now (reply_of result) }
+{
+    let field = run.state().presentation().field;
+    let rest = bytes.len().saturating_sub(run.place()) as u64;
+    match check_text(alloc, field, c.limit, run.weight(), rest) {
+        Ok(text) => Outcome::Done(text),
+        Err(_) => Outcome::NoMemory,
+    }
+}
+
+fn check_through<F: Field, L: Ledger>(
+    alloc: Global,
+    field: F,
+    c: Command,
+    begin: Begin,
+    bytes: &[u8],
+    steps: &mut Steps<L>,
+) -> Outcome
+    requires kind { F.kind_of field ≡ begin.presentation.field }
+    requires sound { IsSound begin.presentation }
+    requires version { (begin.version ≡ 1) ⊎ (begin.version ≡ 2) }
+    requires view { c.view ≡ View.Check }
+    requires range { IsInRange c }
+    ensures reply { Settles (AnswersStart c (start_in begin bytes.now)) (reply_of result) }
+    ensures rises { steps.old ≤ steps.new }
+    ensures cost { steps.new ≤ steps.old + cost_for c (start_in begin bytes.now) }
+{
+    let Ok(mut run) = Run::start(
+        alloc,
+        field,
+        begin.presentation,
+        begin.version,
+        begin.place,
+        begin.stored,
+    ) else {
+        return Outcome::NoMemory;
+    };
+    match walk(&mut run, bytes, c, steps) {
+        Ok(()) => checked(alloc, &run, c, bytes),
+        Err(Stop::Ended) => checked(alloc, &run, c, bytes),
+        Err(stop) => ending(stop),
+    }
+}
+
+fn through_field<F: Field, L: Ledger>(
+    alloc: Global,
+    field: F,
+    c: Command,
+    begin: Begin,
+    bytes: &[u8],
+    steps: &mut Steps<L>,
+) -> Outcome
+    requires kind { F.kind_of field ≡ begin.presentation.field }
+    requires sound { IsSound begin.presentation }
+    requires version { (begin.version ≡ 1) ⊎ (begin.version ≡ 2) }
+    requires range { IsInRange c }
+    ensures reply { Settles (AnswersStart c (start_in begin bytes.now)) (reply_of result) }
+    ensures rises { steps.old ≤ steps.new }
+    ensures cost { steps.new ≤ steps.old + cost_for c (start_in begin bytes.now) }
+{
+    match c.view {
+        View::Table => table_through(alloc, field, c, begin, bytes, steps),
+        View::Check => check_through(alloc, field, c, begin, bytes, steps),
+        _ => Outcome::NotBuilt,
+    }
+}
+
+/// What a command comes to for what was read. Sections are stored in `bytes`.
+pub(crate) fn of_start<L: Ledger>(
+    alloc: Global,
+    c: Command,
+    begin: Begin,
+    bytes: &[u8],
+    steps: &mut Steps<L>,
+) -> Outcome
+    requires sound { IsSound begin.presentation }
+    requires version { (begin.version ≡ 1) ⊎ (begin.version ≡ 2) }
+    requires range { IsInRange c }
+    ensures reply { Settles (AnswersStart c (start_in begin bytes.now)) (reply_of result) }
+    ensures rises { steps.old ≤ steps.new }
+    ensures cost { steps.new ≤ steps.old + cost_for c (start_in begin bytes.now) }
+{
+    match begin.presentation.field {
+        Kind::Rational => through_field(alloc, Fraction, c, begin, bytes, steps),
+        Kind::Prime(prime) => match Residue::of(prime) {
+            Some(field) => through_field(alloc, field, c, begin, bytes, steps),
+            None => Outcome::NotBuilt,
+        },
+    }
+}
