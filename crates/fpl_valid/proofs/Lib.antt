@@ -3,3 +3,5 @@ pub mod Conclusions
 pub mod Accepted
 pub mod InOrder
 pub mod Held
+pub mod StepsMore
+pub mod Computing
