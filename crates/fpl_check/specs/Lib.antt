@@ -6,3 +6,4 @@ pub mod Check
 pub mod Faults
 pub mod Cited
 pub mod Leads
+pub mod Laws

@@ -11,7 +11,7 @@
 --   conclusions_of T p s                 the conclusions of all steps of a section, in order
 --
 -- An Insert step with scale 0 concludes its row less its terms, which is zero where its test passes.
-use Rattle.std.specs.Prelude.{ℕ, ◌+◌, ◌-◌, List, [], ◌∷◌, ◌++◌, length, Option, Some, None, slice_get, slice_index_or, Result, Ok, Err, Bool, true, false, cond, ◌&&◌, nat_le, nat_lt, if◌then◌else◌}
+use Rattle.std.specs.Prelude.{ℕ, ◌+◌, ◌-◌, List, [], ◌∷◌, ◌++◌, length, Option, Some, None, slice_get, slice_index_or, Result, Ok, Err, Bool, true, false, ◌&&◌, nat_le, nat_lt, if◌then◌else◌}
 use Rattle.fpl_numbers.specs.declared.number.Num.{Num}
 use Rattle.fpl_numbers.specs.Numbers.{is_nought, residue}
 use Rattle.fpl_numbers.specs.Results.{and_then}
@@ -42,7 +42,7 @@ is_relation T p r = nat_le 1 r && weighs_next T (slice_get p.relations (r - 1))
 
 -- (i, j, k), and i, are basis elements of the table
 abbrev pub is_triple_of : PlainTable → ℕ → ℕ → ℕ → Bool
-is_triple_of T i j k = nat_le 1 i && nat_le k (length T.basis) && is_triple T (i - 1) (j - 1) (k - 1)
+is_triple_of T i j k = nat_le 1 i && nat_le i j && nat_le j k && nat_le k (length T.basis) && is_triple T (i - 1) (j - 1) (k - 1)
 
 abbrev pub is_cube_of : PlainTable → ℕ → Bool
 is_cube_of T i = is_three T.kind && nat_le 1 i && nat_le i (length T.basis) && is_cube T (i - 1)

@@ -21,14 +21,8 @@ use fpl_scalar::Field;
 use fpl_table::Table;
 use std::alloc::Global;
 
-/// Checks a section of the weight after the table's, whoever made it: its closed rows, over the
-/// symbols of that weight, which are those of the standard basis.
-///
-/// `Bad` names the first test that fails, in this order: each step; the number of Close steps; the
-/// form of each closed row; that each is the conclusion of its Close step; that they are closed;
-/// the number of origins; that the row of each origin is in their span. `Unfit` is the first
-/// operation that does not fit, before any test fails.
-pub fn check_section<F: Field>(
+/// The tests of a section, and its closed rows.
+fn checked_rows<F: Field>(
     alloc: Global,
     table: &Table<F>,
     p: &Presentation,
@@ -39,7 +33,6 @@ pub fn check_section<F: Field>(
     requires section { IsSectionFor table.now section.now }
     ensures value { GivesCheck (λ rows. rows) result (check_of table.now p.now section.now) }
     ensures closed { IfOk result (λ rows. IsClosedList table.now.kind (length (symbols_in table.now)) rows) }
-    ensures spans { IfOk result (λ rows. SpansKind (field_of p.now.field) (IsSource (field_of p.now.field) (presentation_in p.now) (table_in p.now.field table.now)) (length rows) (row_in p.now.field rows)) }
 {
     let symbols = match table.symbols(alloc, table.weight() + 1) {
         Ok(symbols) => symbols,
@@ -61,4 +54,27 @@ pub fn check_section<F: Field>(
         Ok(()) => Ok(rows),
         Err(fault) => Err(fault),
     }
+}
+
+/// Checks a section of the weight after the table's, whoever made it: its closed rows, over the
+/// symbols of that weight, which are those of the standard basis.
+///
+/// `Bad` names the first test that fails, in this order: each step; the number of Close steps; the
+/// form of each closed row; that each is the conclusion of its Close step; that they are closed;
+/// the number of origins; that the row of each origin is in their span. `Unfit` is the first
+/// operation that does not fit, before any test fails.
+pub fn check_section<F: Field>(
+    alloc: Global,
+    table: &Table<F>,
+    p: &Presentation,
+    section: &Section,
+) -> Result<Rows<F>, CheckFault>
+    requires holds { Holds p.now table.now }
+    requires few { length (symbols_in table.now) ≤ 2000000 }
+    requires section { IsSectionFor table.now section.now }
+    ensures value { GivesCheck (λ rows. rows) result (check_of table.now p.now section.now) }
+    ensures closed { IfOk result (λ rows. IsClosedList table.now.kind (length (symbols_in table.now)) rows) }
+    ensures spans { IfOk result (λ rows. SpansKind (field_of p.now.field) (IsSource (field_of p.now.field) (presentation_in p.now) (table_in p.now.field table.now)) (length rows) (row_in p.now.field rows)) }
+{
+    checked_rows(alloc, table, p, section)
 }

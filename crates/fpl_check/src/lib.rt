@@ -5,6 +5,7 @@ mod check;
 mod cites;
 mod closed;
 mod fault;
+mod laws;
 mod leads;
 mod origin;
 mod origins;
@@ -14,3 +15,4 @@ mod stored;
 
 pub use check::check_section;
 pub use fault::{CheckFault, Spot, Why};
+pub use laws::accepted;

@@ -1,4 +1,4 @@
-ghost use Rattle.std.specs.Prelude.{◌≡◌, length, IfSome, Contains};
+ghost use Rattle.std.specs.Prelude.{◌≡◌, length, IfOk, IfSome, Contains};
 ghost use Rattle.fpl_numbers.specs.Results.{GivesBy, and_then};
 ghost use Rattle.fpl_rows.specs.Meaning.{IsClosedList, IsRowOf};
 ghost use Rattle.fpl_elimination.specs.Plain.{sweep_rows};

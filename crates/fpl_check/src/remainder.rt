@@ -1,4 +1,5 @@
 ghost use Rattle.std.specs.Prelude.{◌≡◌};
+ghost use Rattle.fpl_numbers.specs.Numbers.{is_nought};
 ghost use Rattle.fpl_scalar.specs.Vectors.{AreElements};
 ghost use Rattle.fpl_check.specs.Refusal.{GivesCheck};
 ghost use Rattle.fpl_check.specs.Steps.{test_zero};
@@ -6,7 +7,7 @@ ghost use Rattle.fpl_check.specs.Faults.{fault_as};
 
 use crate::{CheckFault, Spot, Why};
 use fpl_rows::Row;
-use fpl_scalar::{Fault, Field};
+use fpl_scalar::{Fault, Field, Num};
 
 /// A fault of computing, as one of a check.
 pub fn fault_of(fault: Fault) -> CheckFault
@@ -16,6 +17,13 @@ pub fn fault_of(fault: Fault) -> CheckFault
         Fault::Unfit(u) => CheckFault::Unfit(u),
         Fault::NoMemory => CheckFault::NoMemory,
     }
+}
+
+/// Whether a number is 0.
+pub fn is_zero(number: &Num) -> bool
+    ensures { result ≡ is_nought number.now }
+{
+    number.numerator == 0
 }
 
 /// Tests that a row is zero.

@@ -13,7 +13,7 @@ ghost use Rattle.fpl_check.specs.Steps.{scale_if, test_dependent, insert_of_step
 
 use crate::cites::{Cited, is_named, test_cites};
 use crate::origin::is_origin;
-use crate::remainder::{fault_of, test_zero};
+use crate::remainder::{fault_of, is_zero, test_zero};
 use crate::{CheckFault, Spot, Why};
 use fpl_log::{Origin, Step, StepList, Terms, conclude};
 use fpl_model::Presentation;
@@ -47,7 +47,7 @@ fn conclude_insert<F: Field>(
         Err(fault) => Err(fault),
         Ok(row) => {
             let field = table.field();
-            if scale.numerator == 0 {
+            if is_zero(scale) {
                 conclude(alloc, field, row, terms, None, earlier)
             } else {
                 conclude(alloc, field, row, terms, Some(field.of(scale)), earlier)
@@ -66,7 +66,7 @@ fn test_dependent<F: Field>(
     requires { IsRowOf table.now.kind (length (symbols_in table.now)) row.now }
     ensures { GivesCheck (λ done. done) result (test_dependent n scale.now row.now) }
 {
-    if scale.numerator == 0 {
+    if is_zero(scale) {
         test_zero(table.field(), Spot::Step(n), row)
     } else {
         Ok(())

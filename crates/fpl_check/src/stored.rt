@@ -1,4 +1,4 @@
-ghost use Rattle.std.specs.Prelude.{◌≡◌, ◌+◌, ◌<◌, ◌^◌, true, length, map, replicate, All, IfOk, List};
+ghost use Rattle.std.specs.Prelude.{◌≡◌, ◌+◌, ◌<◌, ◌^◌, true, length, map, replicate, All, IfOk, vec_len};
 ghost use Rattle.fpl_numbers.specs.Numbers.{IsElement, residue};
 ghost use Rattle.fpl_scalar.specs.Vectors.{AreElements};
 ghost use Rattle.fpl_rows.specs.Meaning.{AreRows, IsRowOf};
@@ -6,6 +6,7 @@ ghost use Rattle.fpl_check.specs.Refusal.{GivesCheck};
 ghost use Rattle.fpl_check.specs.Premises.{AreCoefficientsOf};
 ghost use Rattle.fpl_check.specs.ClosedRows.{is_formed, test_forms, stored_in, stored_row};
 
+use crate::remainder::is_zero;
 use crate::{CheckFault, Spot, Why};
 use fpl_log::{ClosedList, ClosedRow};
 use fpl_rows::{Row, Rows};
@@ -21,7 +22,7 @@ fn is_formed(n: u32, row: &ClosedRow) -> bool
         match row.get(i) {
             None => {}
             Some(c) => {
-                if c.symbol <= after || c.symbol > n || c.number.numerator == 0 {
+                if c.symbol <= after || c.symbol > n || is_zero(&c.number) {
                     return false;
                 }
                 after = c.symbol;
@@ -64,10 +65,10 @@ fn zeros<F: Field>(alloc: Global, field: &F, n: u32) -> Result<Vec<F::Elem>, All
 }
 
 /// Writes the numbers of coefficients at their symbols.
-fn store<F: Field>(field: &F, row: &ClosedRow, numbers: &mut [F::Elem])
-    requires formed { is_formed (length numbers.old) 0 row.now ≡ true }
+fn store<F: Field>(field: &F, row: &ClosedRow, numbers: &mut Vec<F::Elem>)
+    requires formed { is_formed (vec_len numbers.old) 0 row.now ≡ true }
     requires coefficients { AreCoefficientsOf (F.kind_of field.now) row.now }
-    ensures { map F.number numbers.new ≡ stored_in (map F.number numbers.old) row.now }
+    ensures { map F.number numbers.new.items ≡ stored_in (map F.number numbers.old.items) row.now }
 {
     for i in 0..row.len() {
         match row.get(i) {
@@ -104,6 +105,7 @@ pub fn rows_stored<F: Field>(
     requires formed { All (λ row. is_formed n 0 row ≡ true) closed.now }
     requires coefficients { All (AreCoefficientsOf (F.kind_of field.now)) closed.now }
     ensures value { IfOk result (λ rows. rows ≡ map (stored_row n) closed.now) }
+    ensures rows { IfOk result (λ rows. AreRows (F.kind_of field.now) n rows) }
 {
     let mut rows = Rows::new(alloc);
     for k in 0..closed.len() {
