@@ -272,7 +272,7 @@ pub place_next : (xs : List Num) (k : ℕ) → k < length xs → drop k xs ≡ s
 place_next xs k l = drop_next xs k (slice_index_or xs k (residue 0)) (sym (slice_get-get_or xs k (residue 0) l))
 
 -- two numbers are tested
-same_is : (x y : Num) → x ≡ y → same_num x y ≡ true
+pub same_is : (x y : Num) → x ≡ y → same_num x y ≡ true
 same_is x y e = ap₂ (λ a b. a && b) ((Decides-int_eq x.numerator y.numerator).1 (ap (λ z. z.numerator) e)) ((Decides-int_eq x.denominator y.denominator).1 (ap (λ z. z.denominator) e))
 
 pub is_same : (x y : Num) → same_num x y ≡ true → x ≡ y

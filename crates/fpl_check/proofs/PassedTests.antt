@@ -202,13 +202,13 @@ module _ (T : PlainTable) (is_field : IsField T.kind) (p : Presentation) (vector
         length_more (y ∷ xs) x = let h = length_more xs x in omega (arith, h)
 
 -- the conclusions of Close steps are among all
-close_among : (P : List Num → Type 0) (steps : List Step) (rows : List (List Num)) → All P rows → All P (close_rows steps rows)
+pub close_among : (P : List Num → Type 0) (steps : List Step) (rows : List (List Num)) → All P rows → All P (close_rows steps rows)
 close_among P [] rows all = λ i d l. absurd (omega (arith, l))
 close_among P (s ∷ ss) [] all = λ i d l. absurd (omega (arith, l))
 close_among P ((Insert o ts k) ∷ ss) (row ∷ rows) all = close_among P ss rows (all_tail P row rows all)
 close_among P ((Close of ts) ∷ ss) (row ∷ rows) all = all_cons P row (close_rows ss rows) (all_head P row rows all) (close_among P ss rows (all_tail P row rows all))
 
-close_length : (steps : List Step) (rows : List (List Num)) → length rows ≡ length steps → length (close_rows steps rows) ≡ close_count steps
+pub close_length : (steps : List Step) (rows : List (List Num)) → length rows ≡ length steps → length (close_rows steps rows) ≡ close_count steps
 close_length [] rows e = refl
 close_length (s ∷ ss) [] e = absurd (omega (arith, e))
 close_length ((Insert o ts k) ∷ ss) (row ∷ rows) e = close_length ss rows (omega (arith, e))
@@ -223,7 +223,7 @@ rows_same k s (x ∷ xs) (y ∷ ys) l e =
     let a = passing_first (demand (same_num x y) (AtClosed k) (Differs s x y)) (test_same k (s + 1) xs ys) tt e in
     ap₂ (λ z zs. z ∷ zs) (is_same x y (demanded _ _ _ a.0)) (rows_same k (s + 1) xs ys (omega (arith, l)) a.1)
 
-all_same : (kind : Kind) (n k : ℕ) (rows closes : List (List Num)) → AreRows kind n rows → AreRows kind n closes → length rows ≡ length closes → test_conclusions k rows closes ≡ Ok tt → rows ≡ closes
+pub all_same : (kind : Kind) (n k : ℕ) (rows closes : List (List Num)) → AreRows kind n rows → AreRows kind n closes → length rows ≡ length closes → test_conclusions k rows closes ≡ Ok tt → rows ≡ closes
 all_same kind n k [] [] a b l e = refl
 all_same kind n k [] (c ∷ cs) a b l e = absurd (omega (arith, l))
 all_same kind n k (r ∷ rs) [] a b l e = absurd (omega (arith, l))
@@ -232,11 +232,11 @@ all_same kind n k (r ∷ rs) (c ∷ cs) a b l e =
     ap₂ (λ z zs. z ∷ zs) (rows_same k 1 r c ((all_head (IsRowOf kind n) r rs a).length_is ∙ sym (all_head (IsRowOf kind n) c cs b).length_is) t.0)
     (all_same kind n (k + 1) rs cs (all_tail (IsRowOf kind n) r rs a) (all_tail (IsRowOf kind n) c cs b) (omega (arith, l)) t.1)
 
-same_count : (a b : ℕ) → nat_eq a b ≡ true → a ≡ b
+pub same_count : (a b : ℕ) → nat_eq a b ≡ true → a ≡ b
 same_count a b e = grind (arith, nat_tests)
 
 -- a row that must be zero is
-zero_is : (spot : Spot) (row : List Num) → test_zero spot row ≡ Ok tt → lead_of row ≡ None
+pub zero_is : (spot : Spot) (row : List Num) → test_zero spot row ≡ Ok tt → lead_of row ≡ None
 zero_is spot row e = go (lead_of row) e
   where
     go : (o : Option ℕ) → remainder_at spot row o ≡ Ok tt → o ≡ None
