@@ -5,3 +5,6 @@ pub mod InOrder
 pub mod Held
 pub mod StepsMore
 pub mod Computing
+pub mod NamedOrigins
+pub mod StoredBack
+pub mod ClosedBack
