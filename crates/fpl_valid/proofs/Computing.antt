@@ -28,7 +28,7 @@ use Rattle.fpl_elimination.proofs.Found.{insert_pivots}
 use Rattle.fpl_table.specs.Plain.{PlainTable, symbols_in}
 use Rattle.fpl_rewrite.specs.Origins.{origins_of}
 use Rattle.fpl_rewrite.specs.Rows.{row_of_origin}
-use Rattle.fpl_completion.specs.Weight.{put_of, gather, close_weight}
+use Rattle.fpl_completion.specs.Weight.{begun, put_of, gather, close_weight}
 use Rattle.fpl_completion.proofs.InOrder.{scale_stays}
 use Rattle.fpl_completion.proofs.Recorded.{Put, put_parts, Run, run_parts}
 use Rattle.fpl_check.specs.declared.cites.Cited.{Cited}
@@ -230,6 +230,12 @@ module _ (T : PlainTable) (p : Presentation) (listed : IsField T.kind) (n : ℕ)
       let f = first_fits _ (close_to T.kind pivots s h) g e in
       step_closes pivots s f.0 g (find (stands_at (s + 1)) pivots) refl (closes_to pivots s h f.0 none b rows f.1.0) f.1.1
 
+  pub gathered_all : length (symbols_in T) ≡ n → (e : Elimination) → gather T p (origins_of T p) (begun T) ≡ Ok e → Gathered e
+  gathered_all size e eq =
+      gathered (origins_of T p) (record { pivots = []; steps = [] }) e (λ o c. c) (λ i d l. absurd (omega (arith, l)))
+      (record { rest = []; told = record { long = refl; conclude = tt }; pivots = λ i d l. absurd (omega (arith, l)); none = refl })
+      (ap (λ w. gather T p (origins_of T p) (record { kind = T.kind; size = w; held = record { pivots = []; steps = [] } })) (sym size) ∙ eq)
+
   -- what a run has recorded
   pub record IsRun (h : Held) : Type 0 where
     pub rest : List (List Num)
@@ -239,9 +245,7 @@ module _ (T : PlainTable) (p : Presentation) (listed : IsField T.kind) (n : ℕ)
   pub run_is : length (symbols_in T) ≡ n → (h : Held) → close_weight T p ≡ Ok h → IsRun h
   run_is size h eq =
       let r = run_parts T p h eq in
-      let g = gathered (origins_of T p) (record { pivots = []; steps = [] }) r.gathered (λ o c. c) (λ i d l. absurd (omega (arith, l)))
-      (record { rest = []; told = record { long = refl; conclude = tt }; pivots = λ i d l. absurd (omega (arith, l)); none = refl })
-      (ap (λ w. gather T p (origins_of T p) (record { kind = T.kind; size = w; held = record { pivots = []; steps = [] } })) (sym size) ∙ r.gathers) in
+      let g = gathered_all size r.gathered r.gathers in
       let start : Gathering (record { pivots = []; steps = r.gathered.held.steps }) = record { rest = g.steps.rest; told = g.steps.told; pivots = λ i d l. absurd (omega (arith, l)); none = g.steps.none } in
       let c = closes_to r.gathered.held.pivots r.gathered.size (record { pivots = []; steps = r.gathered.held.steps }) h refl start g.steps.pivots
       (ap (λ k. close_to k r.gathered.held.pivots r.gathered.size (record { pivots = []; steps = r.gathered.held.steps })) (sym g.kind) ∙ r.closes) in

@@ -1,6 +1,9 @@
 -- The laws, at a held table.
-use Rattle.std.specs.Prelude.{◌≡◌, ℕ, List, length, Ok, Contains}
-use mathlib.Core.Path.{sym, subst}
+use Rattle.std.specs.Prelude.{◌≡◌, ℕ, List, length, Ok, Contains, Option, nat_eq, true}
+use mathlib.Core.Logic.{inl, inr}
+use mathlib.Core.Path.{sym, subst, refl, ap, ◌∙◌}
+use native.Mathlib.Omega.{arith}
+use Rattle.std.proofs.lemmas.Bool.Decides.{nat_tests}
 use Rattle.fpl_linear.specs.Vector.{Vector}
 use Rattle.fpl_numbers.specs.declared.number.Num.{Num}
 use Rattle.fpl_numbers.specs.declared.number.Kind.{Kind}
@@ -16,9 +19,14 @@ use Rattle.fpl_rewrite.specs.Origins.{origins_of}
 use Rattle.fpl_rewrite.specs.Rows.{row_of_origin}
 use Rattle.fpl_faithful.specs.Premises.{HasRows, HasWeights}
 use Rattle.fpl_faithful.proofs.Laws.{rows_of_shape, weights_of_built, rows_stand}
-use Rattle.fpl_valid.specs.Valid.{AcceptedInOrder}
+use Rattle.fpl_valid.specs.Valid.{AcceptedInOrder, TellsOrigins, WholeIsAccepted}
 use Rattle.fpl_valid.proofs.Conclusions.{HaveRows}
 use Rattle.fpl_valid.proofs.InOrder.{accepted_in_order}
+use Rattle.fpl_valid.proofs.Whole.{whole_accepted}
+use Rattle.fpl_check.specs.declared.fault.Spot.TheVariants.{Whole}
+use Rattle.fpl_check.specs.declared.fault.Why.TheVariants.{OriginCount}
+use Rattle.fpl_check.specs.Refusal.{demand}
+use Rattle.fpl_check.specs.Check.{test_count}
 
 module _ (p : Presentation) (T : PlainTable) (holds : Holds p T) where
   pub is_field : IsField T.kind
@@ -38,3 +46,13 @@ module _ (p : Presentation) (T : PlainTable) (holds : Holds p T) where
 
 pub held_in_order : AcceptedInOrder
 held_in_order p T s rows holds is e = accepted_in_order T p (is_field p T holds) (have_rows p T holds) s rows is e
+
+pub count_passes : (n : ℕ) (origins : Option ℕ) → TellsOrigins n origins → test_count origins n ≡ Ok tt
+count_passes n origins (inl e) = ap (λ o. test_count o n) e
+count_passes n origins (inr e) = ap (λ o. test_count o n) e ∙ ap (λ b. demand b Whole (OriginCount n n)) (same n)
+  where
+    same : (n : ℕ) → nat_eq n n ≡ true
+    same n = grind (arith, nat_tests)
+
+pub held_whole : WholeIsAccepted
+held_whole p T h origins holds tells run = whole_accepted T p (is_field p T holds) (have_rows p T holds) origins h (count_passes (length (origins_of T p)) origins tells) run

@@ -8,3 +8,4 @@ pub mod Computing
 pub mod NamedOrigins
 pub mod StoredBack
 pub mod ClosedBack
+pub mod Whole

@@ -3,10 +3,15 @@
 //! Each function does nothing: what it ensures are laws.
 #![tactic(auto)]
 
-ghost use Rattle.fpl_valid.specs.Valid.{AcceptedInOrder};
+ghost use Rattle.fpl_valid.specs.Valid.{AcceptedInOrder, WholeIsAccepted};
 
 /// The steps of an accepted section are in order: what a step names comes before it, and what a
 /// Close step closes is no dependent origin.
 pub fn accepted_steps()
     ensures order { AcceptedInOrder }
+{}
+
+/// What a run of a weight computes is accepted.
+pub fn computed_sections()
+    ensures whole { WholeIsAccepted }
 {}
