@@ -9,3 +9,6 @@ pub mod NamedOrigins
 pub mod StoredBack
 pub mod ClosedBack
 pub mod Whole
+pub mod Slimming
+pub mod Slimmed
+pub mod Numbered
