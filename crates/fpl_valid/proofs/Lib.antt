@@ -2,7 +2,6 @@ pub mod StepParts
 pub mod Conclusions
 pub mod Accepted
 pub mod InOrder
-pub mod Held
 pub mod StepsMore
 pub mod Computing
 pub mod NamedOrigins
@@ -12,3 +11,5 @@ pub mod Whole
 pub mod Slimming
 pub mod Slimmed
 pub mod Numbered
+pub mod SlimAgain
+pub mod Held

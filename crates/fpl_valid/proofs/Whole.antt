@@ -101,11 +101,11 @@ module _ (T : PlainTable) (p : Presentation) (listed : IsField T.kind) (sources 
       (subst (InSpanOf T.kind (rows_of h.pivots)) (ap vector_or_zero r) (spans h run o c)))
 
   -- the closed pivot rows, in ascending order
-  record Ascending (h : Held) : Type 0 where
-    rows : All (IsPivotRow T.kind n) h.pivots
-    up : AscendsFrom 0 n h.pivots
+  pub record Ascending (h : Held) : Type 0 where
+    pub rows : All (IsPivotRow T.kind n) h.pivots
+    pub up : AscendsFrom 0 n h.pivots
 
-  ascending : (h : Held) → close_weight T p ≡ Ok h → Ascending h
+  pub ascending : (h : Held) → close_weight T p ≡ Ok h → Ascending h
   ascending h run =
       let r = run_parts T p h run in
       let g = gathered_all T p listed n sources (origin_named T p) refl r.gathered r.gathers in
