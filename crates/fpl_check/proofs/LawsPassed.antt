@@ -1,9 +1,9 @@
 -- What accepted sections and conclusions are over the field of the presentation.
-use Rattle.std.specs.Prelude.{◌≡◌, ℕ, ◌<◌, ◌≤◌, List, [], length, Result, Ok, Err, IfOk, Contains, All, slice_index_or}
-use mathlib.Core.Path.{refl, sym, ap, subst, ◌∙◌}
+use Rattle.std.specs.Prelude.{◌≡◌, ℕ, ◌<◌, List, [], length, Result, Ok, Err, IfOk, Contains, All, slice_index_or}
+use mathlib.Core.Path.{sym, ap, subst}
 use native.Mathlib.Omega.{arith}
 use Rattle.fpl_linear.specs.Vector.{Vector}
-use Rattle.fpl_linear.specs.Span.{Spanned, SpansKind}
+use Rattle.fpl_linear.specs.Span.{Spanned}
 use Rattle.fpl_linear.proofs.Span.{spanned_one, spanned_through}
 use Rattle.fpl_numbers.specs.declared.number.Num.{Num}
 use Rattle.fpl_numbers.specs.declared.number.Kind.{Kind}
@@ -36,7 +36,7 @@ use Rattle.fpl_check.specs.Premises.{IsSectionFor}
 use Rattle.fpl_check.specs.Steps.{conclusions_of}
 use Rattle.fpl_check.specs.Check.{check_of, Accepts}
 use Rattle.fpl_check.specs.Laws.{SpansSources}
-use Rattle.fpl_check.proofs.PassedTests.{IsSpannedRow, Passes, passes, passed_closed, passed_spanned, passed_each, conclusions_spanned}
+use Rattle.fpl_check.proofs.PassedTests.{passes, passed_closed, passed_spanned, passed_each, conclusions_spanned}
 
 module _ (p : Presentation) (T : PlainTable) (s : Section) (holds : Holds p T) (section : IsSectionFor T s) where
   is_field : IsField T.kind
