@@ -236,7 +236,7 @@ same_count : (a b : ℕ) → nat_eq a b ≡ true → a ≡ b
 same_count a b e = grind (arith, nat_tests)
 
 -- a row that must be zero is
-zero_is : (spot : Spot) (row : List Num) → test_zero spot row ≡ Ok tt → lead_of row ≡ None
+pub zero_is : (spot : Spot) (row : List Num) → test_zero spot row ≡ Ok tt → lead_of row ≡ None
 zero_is spot row e = go (lead_of row) e
   where
     go : (o : Option ℕ) → remainder_at spot row o ≡ Ok tt → o ≡ None

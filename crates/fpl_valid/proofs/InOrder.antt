@@ -130,15 +130,19 @@ module _ (p : Presentation) (T : PlainTable) (s : Section) (holds : Holds p T) (
   unfolding scale
   scale_zero c x t e = ap (K.times c) e ∙ times-nought K c
 
+  -- a term whose step is an earlier one, with a conclusion that is 0 at the place
+  abbrev CitesZero : List (List Num) → ℕ → Term → Type 0
+  CitesZero earlier t u = (1 ≤ u.step) × (u.step ≤ length earlier) × IsZeroAt t (get_or earlier (u.step - 1) [])
+
   -- what cites rows that are 0 at a place is 0 there
-  terms_zero : (earlier : List (List Num)) (t : ℕ) (ts : List Term) → All (λ u. (1 ≤ u.step) × (u.step ≤ length earlier) × IsZeroAt t (get_or earlier (u.step - 1) [])) ts →
+  terms_zero : (earlier : List (List Num)) (t : ℕ) (ts : List Term) → All (CitesZero earlier t) ts →
       terms_sum K (number_of T.kind) (cited K (number_of T.kind) (map (vector_in T.kind) earlier)) ts t ≡ K.nought
   unfolding terms_sum
   terms_zero earlier t [] all = zero_at K t
   terms_zero earlier t (u ∷ us) all =
-      let h = all_head _ u us all in
+      let h = all_head (CitesZero earlier t) u us all in
       let at = get_or-map (vector_in T.kind) earlier (u.step - 1) [] (vzero K) (let a = h.0 in let b = h.1 in omega (arith, a, b)) in
-      plus_zero _ _ t (scale_zero _ _ t (ap (λ v. v t) at ∙ h.2)) (terms_zero earlier t us (all_tail _ u us all))
+      plus_zero _ _ t (scale_zero _ _ t (ap (λ v. v t) at ∙ h.2)) (terms_zero earlier t us (all_tail (CitesZero earlier t) u us all))
 
   -- the closed row of a Close step isn't made of rows that are 0 at its pivot
   module _ (done ss : List Step) (earlier later : List (List Num)) (of : ℕ) (ts : List Term) (row : List Num)
@@ -181,7 +185,7 @@ module _ (p : Presentation) (T : PlainTable) (s : Section) (holds : Holds p T) (
         default (x ∷ xs) (suc i) l = default xs i (omega (arith, l))
 
     cited_zero : (us : List Term) → All (IsTermOf T.kind (length earlier)) us → test_cites (names_close s.steps (length earlier + 1)) (length earlier + 1) us ≡ Ok tt →
-        All (λ u. (1 ≤ u.step) × (u.step ≤ length earlier) × IsZeroAt (pivot_in rows place) (get_or earlier (u.step - 1) [])) us
+        All (CitesZero earlier (pivot_in rows place)) us
     cited_zero [] all e = λ i d l. absurd (omega (arith, l))
     cited_zero (u ∷ us) all e =
         let h = all_head (IsTermOf T.kind (length earlier)) u us all in
@@ -190,7 +194,7 @@ module _ (p : Presentation) (T : PlainTable) (s : Section) (holds : Holds p T) (
         let c = (both_true _ (is_close (slice_get s.steps (u.step - 1))) (demanded _ _ _ a.0)).1 in
         let at : slice_get s.steps (u.step - 1) ≡ slice_get done (u.step - 1) =
             ap (λ (l : List Step). slice_get l (u.step - 1)) steps ∙ step_before done ((Close of ts) ∷ ss) (u.step - 1) (omega (arith, one, most, same)) in
-        all_cons _ u us (one, most, close_within (IsZeroAt (pivot_in rows place)) done earlier (u.step - 1) [] earlier_zero (omega (arith, one, most)) (ap is_close (sym at) ∙ c))
+        all_cons (CitesZero earlier (pivot_in rows place)) u us (one, most, close_within (IsZeroAt (pivot_in rows place)) done earlier (u.step - 1) [] earlier_zero (omega (arith, one, most)) (ap is_close (sym at) ∙ c))
         (cited_zero us (all_tail (IsTermOf T.kind (length earlier)) u us all) a.1)
 
     pub closes_some : (start : List Num) → IsRowOf T.kind n start → AreRows T.kind n earlier → lead_of start ≡ None → All (IsTermOf T.kind (length earlier)) ts →
@@ -205,7 +209,7 @@ module _ (p : Presentation) (T : PlainTable) (s : Section) (holds : Holds p T) (
 
   -- what stands of the steps before
   record IsBefore (done : List Step) (earlier : List (List Num)) (numbers : List (Option ℕ)) : Type 0 where
-    rows : length earlier ≡ length done
+    concluded : length earlier ≡ length done
     numbered : length numbers ≡ length done
     zero : (m : ℕ) → 1 ≤ m → m ≤ length done → new_number numbers m ≡ None → lead_of (get_or earlier (m - 1) []) ≡ None
 
@@ -233,7 +237,7 @@ module _ (p : Presentation) (T : PlainTable) (s : Section) (holds : Holds p T) (
       let d = then_first (λ row. passing (test_dependent m c row) (Ok row)) (exactly (and_then (λ row. conclude_of T.kind earlier row ts (scale_if c)) (row_of_origin T p o))) row b.1 in
       let f = passing_first (test_dependent m c d.0) (Ok d.0) row d.1.1 in
       let same : d.0 ≡ row = ok_is f.1 in
-      let count : length earlier ≡ length numbers = before.rows ∙ sym before.numbered in
+      let count : length earlier ≡ length numbers = before.concluded ∙ sym before.numbered in
       record {
         cites = subst (λ i. All (λ t. IsEarlier i t.step) ts) count (terms_earlier T.kind (length earlier) ts (terms_pass T.kind Inserts s.steps (length earlier) ts factors.0 b.0));
         lead = λ z. scale_zero_lead m c row (subst (λ r. test_dependent m c r ≡ Ok tt) same f.0) z;
@@ -245,13 +249,13 @@ module _ (p : Presentation) (T : PlainTable) (s : Section) (holds : Holds p T) (
       let w = named_within Inserts s.steps (length earlier) of (demanded _ _ _ a.0) in
       let one = w.0 in let most = w.1 in
       let terms = terms_pass T.kind Closes s.steps (length earlier) ts factors b.0 in
-      let count : length earlier ≡ length numbers = before.rows ∙ sym before.numbered in
-      let same = before.rows in
+      let count : length earlier ≡ length numbers = before.concluded ∙ sym before.numbered in
+      let same = before.concluded in
       let are : AreRows T.kind n earlier = front earlier (row ∷ later) (subst (AreRows T.kind n) whole are_rows) in
       record {
         cites = (
           record { from_one = one; to_end = omega (arith, most, count) },
-          (λ none. closes_some done ss earlier later of ts row steps before.rows whole (get_or earlier (of - 1) []) (are (of - 1) [] (omega (arith, one, most))) are (before.zero of one (omega (arith, most, same)) none) terms b.0 (exact_first _ row b.1)),
+          (λ none. closes_some done ss earlier later of ts row steps before.concluded whole (get_or earlier (of - 1) []) (are (of - 1) [] (omega (arith, one, most))) are (before.zero of one (omega (arith, most, same)) none) terms b.0 (exact_first _ row b.1)),
           subst (λ i. All (λ t. IsEarlier i t.step) ts) count (terms_earlier T.kind (length earlier) ts terms),
         );
         lead = λ z. absurd (let q : ⊥ = cc in q);
@@ -267,22 +271,22 @@ module _ (p : Presentation) (T : PlainTable) (s : Section) (holds : Holds p T) (
       let a = more_one earlier row in
       let b = more_one done x in
       let c = more_one numbers (next_number (is_left_out x) count) in
-      let d = before.rows in
+      let d = before.concluded in
       let f = before.numbered in
       record {
-        rows = omega (arith, a, b, d);
+        concluded = omega (arith, a, b, d);
         numbered = omega (arith, c, b, f);
         zero = λ m one most e. at m one (omega (arith, most, b)) e (ℕ_discrete m (length done + 1));
       }
     where
       at : (m : ℕ) → 1 ≤ m → m ≤ length done + 1 → new_number (numbers ++ (next_number (is_left_out x) count) ∷ []) m ≡ None → Dec (m ≡ length done + 1) → lead_of (get_or (earlier ++ row ∷ []) (m - 1) []) ≡ None
       at m one most e (yes q) =
-          let d = before.rows in
+          let d = before.concluded in
           let f = before.numbered in
           ap lead_of (row_last earlier row m (omega (arith, q, d)))
           ∙ passed.lead (left_zero (is_left_out x) count (sym (number_last numbers (next_number (is_left_out x) count) m (omega (arith, q, f))) ∙ e))
       at m one most e (no q) =
-          let d = before.rows in
+          let d = before.concluded in
           let f = before.numbered in
           let below : m ≤ length done = omega (arith, most, q) in
           ap lead_of (row_before earlier row m one (omega (arith, below, d)))
@@ -303,7 +307,7 @@ module _ (p : Presentation) (T : PlainTable) (s : Section) (holds : Holds p T) (
       )
 
   pub accepted_in_order : AreInOrder [] 0 s.steps
-  accepted_in_order = in_order [] s.steps [] [] 0 refl section.numbers.steps (record { rows = refl; numbered = refl; zero = λ m one most e. absurd (omega (arith, one, most)) }) k.concluded
+  accepted_in_order = in_order [] s.steps [] [] 0 refl section.numbers.steps (record { concluded = refl; numbered = refl; zero = λ m one most e. absurd (omega (arith, one, most)) }) k.concluded
 
 pub valid_in_order : (p : Presentation) (T : PlainTable) (s : Section) → Holds p T → IsValid T p s → AreInOrder [] 0 s.steps
 valid_in_order p T s holds valid =
