@@ -136,6 +136,7 @@ pub fn scan_head(alloc: Global, bytes: &[u8]) -> Result<Head, ScanError>
     ensures version { IfOk result (λ h. (h.version ≡ 1) ⊎ (h.version ≡ 2)) }
     ensures end { IfOk result (λ h. h.end ≤ length bytes.now) }
     ensures sound { IfOk result (λ h. IsSound h.presentation) }
+    ensures short { IfOk result (λ h. length (canonical_of h.presentation) < 2 ^ 32) }
 {
     let (version, text) = match head_text(bytes) {
         Ok(found) => found,
