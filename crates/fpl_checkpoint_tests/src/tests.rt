@@ -113,15 +113,51 @@ fn payloads(rt: HostRuntime) -> Result<(), AllocError> {
         (1, b"", Err((0, ByteWhy::FieldCut))),
         (1, &[0xff; 8], Err((8, ByteWhy::FieldCut))),
         (2, &[0xff; 16], Err((16, ByteWhy::FieldCut))),
-        (1, b"\0\0\0\0\0\0\0\0\xff\xff\xff\xff", Err((12, ByteWhy::FieldCut))),
-        (1, b"\0\0\0\0\0\0\0\0\0\0\0\x01\xff\xff\xff\xff\0\0", Err((16, ByteWhy::FieldCut))),
-        (1, b"\0\0\0\0\0\0\0\x01\x02\0\0\0\0\0\0\0\x01\xff\xff\xff\xff", Err((21, ByteWhy::FieldCut))),
-        (1, b"\0\0\0\0\0\0\0\x01\x01R\0\0\0\x01\0\0\0\0\0\0\0\0\0\0\0\0", Ok(5)),
-        (2, b"\0\0\0\0\0\0\0\x03\0\0\0\0\0\0\0\x01\x01R\0\0\0\x01\0\0\0\0\0\0\0\0\0\0\0\0", Err((22, ByteWhy::BadNumber))),
-        (2, b"\0\0\0\0\0\0\0\x03\0\0\0\0\0\0\0\x01\x01R\0\0\0\x01\0\0\0\x06\0\0\0\0\0\0\0\0", Ok(5)),
-        (2, b"\0\0\0\0\0\0\0\x03\0\0\0\0\0\0\0\x01\x01C\0\0\0\x01\0\0\0\x06\0\0\0\0\0\0\0\0", Ok(5)),
-        (1, b"\0\0\0\0\0\0\0\x01\x01C\0\0\0\x01\0\0\0\x06\0\0\0\0\0\0\0\0", Err((9, ByteWhy::BadTag))),
-        (1, b"\0\0\0\0\0\0\0\0\0\0\0\0\0", Err((12, ByteWhy::UnreadBytes))),
+        (
+            1,
+            b"\0\0\0\0\0\0\0\0\xff\xff\xff\xff",
+            Err((12, ByteWhy::FieldCut)),
+        ),
+        (
+            1,
+            b"\0\0\0\0\0\0\0\0\0\0\0\x01\xff\xff\xff\xff\0\0",
+            Err((16, ByteWhy::FieldCut)),
+        ),
+        (
+            1,
+            b"\0\0\0\0\0\0\0\x01\x02\0\0\0\0\0\0\0\x01\xff\xff\xff\xff",
+            Err((21, ByteWhy::FieldCut)),
+        ),
+        (
+            1,
+            b"\0\0\0\0\0\0\0\x01\x01R\0\0\0\x01\0\0\0\0\0\0\0\0\0\0\0\0",
+            Ok(5),
+        ),
+        (
+            2,
+            b"\0\0\0\0\0\0\0\x03\0\0\0\0\0\0\0\x01\x01R\0\0\0\x01\0\0\0\0\0\0\0\0\0\0\0\0",
+            Err((22, ByteWhy::BadNumber)),
+        ),
+        (
+            2,
+            b"\0\0\0\0\0\0\0\x03\0\0\0\0\0\0\0\x01\x01R\0\0\0\x01\0\0\0\x06\0\0\0\0\0\0\0\0",
+            Ok(5),
+        ),
+        (
+            2,
+            b"\0\0\0\0\0\0\0\x03\0\0\0\0\0\0\0\x01\x01C\0\0\0\x01\0\0\0\x06\0\0\0\0\0\0\0\0",
+            Ok(5),
+        ),
+        (
+            1,
+            b"\0\0\0\0\0\0\0\x01\x01C\0\0\0\x01\0\0\0\x06\0\0\0\0\0\0\0\0",
+            Err((9, ByteWhy::BadTag)),
+        ),
+        (
+            1,
+            b"\0\0\0\0\0\0\0\0\0\0\0\0\0",
+            Err((12, ByteWhy::UnreadBytes)),
+        ),
     ];
     for (version, bytes, want) in cases {
         assert!(rt; version == 1 || version == 2);
@@ -237,8 +273,14 @@ fn rewritten(alloc: Global, bytes: &[u8]) -> Result<Vec<u8>, ScanError> {
 fn streams_are_written_again(rt: HostRuntime) -> Result<(), Fail> {
     let streams: [&[u8]; 4] = [&EMPTY, &ODD, &CUBE, &FRACTIONS];
     for stream in streams {
-        let again = rewritten(rt.alloc(), stream).ok().ok_or("a stream that is read")?;
-        assert!(rt; again.as_slice() == stream, "a stream of {} bytes", stream.len());
+        let again = rewritten(rt.alloc(), stream)
+            .ok()
+            .ok_or("a stream that is read")?;
+        assert!(rt;
+            again.as_slice() == stream,
+            "a stream of {} bytes",
+            stream.len()
+        );
     }
     Ok(())
 }
