@@ -1,4 +1,3 @@
-<<<<<<< HEAD
 pub mod StepParts
 pub mod Conclusions
 pub mod Accepted
@@ -14,6 +13,3 @@ pub mod Slimmed
 pub mod Numbered
 pub mod SlimAgain
 pub mod Held
-=======
-pub mod InOrder
->>>>>>> 57876e3f57ecd3a6a965766f5219b253e7afe43b

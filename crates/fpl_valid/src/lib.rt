@@ -1,4 +1,3 @@
-<<<<<<< HEAD
 //! Laws of valid sections: those that the check of a section accepts.
 //!
 //! Each function does nothing: what it ensures are laws.
@@ -23,17 +22,4 @@ pub fn computed_sections()
     ensures section { SectionIsAccepted }
     ensures numbers { SectionIsFor }
     ensures again { SectionIsSlim }
-=======
-//! Valid sections: those that their check accepts.
-//!
-//! Each function does nothing: what it ensures is a law.
-#![tactic(auto)]
-
-ghost use Rattle.fpl_valid.specs.Valid.{ValidIsInOrder};
-
-/// A valid section can be slimmed: each step names earlier ones, and what a Close step closes
-/// stays, since closed rows are independent.
-pub fn valid_sections()
-    ensures order { ValidIsInOrder }
->>>>>>> 57876e3f57ecd3a6a965766f5219b253e7afe43b
 {}
