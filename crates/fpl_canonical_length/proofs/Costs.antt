@@ -170,7 +170,7 @@ unfolding coefficient_of
 coefficient_long kind negative a b h = go (nat_le a bound) (nat_le b bound) refl refl
   where
     none_there : length (magnitude_text (residue 0)) ≤ 1
-    none_there = subst (λ t. length t ≤ 1) (sym (append-nil (decimal 0)) ) (subst (λ t. length t ≤ 1) (sym zero_text) (omega arith))
+    none_there = subst (λ t. length t ≤ 1) (sym (append-nil (decimal 0))) (subst (λ t. length t ≤ 1) (sym zero_text) (omega arith))
 
     go : (s t : Bool) → nat_le a bound ≡ s → nat_le b bound ≡ t → length (magnitude_text (if s && t then or_nought (quotient_of kind (signed negative a) (pos b)) else residue 0)) ≤ 5 * digits a + 1 + 5 * digits b
     go true true x y = quotient_short negative a b (leb-true a bound x) (leb-true b bound y) kind h

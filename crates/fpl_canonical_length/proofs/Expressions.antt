@@ -207,7 +207,7 @@ module _ (text : List ℕ) (kind : Kind) (gs : List Generator) (field : IsField 
         let y = sum_cost b k.1 (mark.CloseBracket ∷ after) in
         let z = bracket_long ns (plain (expression_of scope a)) (plain (expression_of scope b)) in
         let all : behind ns (plain (expr.Br (expression_of scope a) (expression_of scope b))) ≡ alone ns (plain (expression_of scope a)) + alone ns (plain (expression_of scope b)) + 3 =
-            ap (behind ns) (plain-Br (expression_of scope a) (expression_of scope b)) ∙ z in
+        ap (behind ns) (plain-Br (expression_of scope a) (expression_of scope b)) ∙ z in
         omega (arith, x, y, all)
     factor_cost (group a) h after =
         let x = sum_cost a h (mark.CloseGroup ∷ after) in

@@ -58,8 +58,16 @@ generator_short : (g : Generator) → length g.name ≤ 32 → g.weight ≤ 1000
 generator_short g l m =
     let P = parity_text g.parity in
     let D = decimal g.weight in
-    omega (arith, parity_short g.parity, length-decimal-le_wide 4 g.weight (omega arith) (omega arith) (omega arith), length-append (P ++ codes " " ++ g.name ++ codes ":" ++ D) (codes ";\n"),
-    length-append (P ++ codes " " ++ g.name ++ codes ":") D, length-append (P ++ codes " " ++ g.name) (codes ":"), length-append (P ++ codes " ") g.name, length-append P (codes " "))
+    omega (
+      arith,
+      parity_short g.parity,
+      length-decimal-le_wide 4 g.weight (omega arith) (omega arith) (omega arith),
+      length-append (P ++ codes " " ++ g.name ++ codes ":" ++ D) (codes ";\n"),
+      length-append (P ++ codes " " ++ g.name ++ codes ":") D,
+      length-append (P ++ codes " " ++ g.name) (codes ":"),
+      length-append (P ++ codes " ") g.name,
+      length-append P (codes " "),
+    )
 
 field_short : (k : Kind) → IsField k → length (field_line k) ≤ 13
 field_short Rational h = omega arith
@@ -107,15 +115,27 @@ module _ (text : List ℕ) (p : Presentation) (known : IsField p.field) where
   statement_cost (equation place a b) cs after h k =
       let q : Equation = record { left = expression_of scope a; right = expression_of scope b } in
       let s = first_place-append (unknown_in scope) (events_sum a) (events_sum b) h in
-      omega (arith, k, length-append (equation_line (codes "relation ") p q) (lines (equation_line (codes "relation ") p) (claimed_as is_relation cs)), equation_long (codes "relation ") p q,
-      side_cost a s.0 (mark.Equals ∷ spell_sum b (mark.Semicolon ∷ after)), side_cost b s.1 (mark.Semicolon ∷ after))
+      omega (
+        arith,
+        k,
+        length-append (equation_line (codes "relation ") p q) (lines (equation_line (codes "relation ") p) (claimed_as is_relation cs)),
+        equation_long (codes "relation ") p q,
+        side_cost a s.0 (mark.Equals ∷ spell_sum b (mark.Semicolon ∷ after)),
+        side_cost b s.1 (mark.Semicolon ∷ after),
+      )
   statement_cost (ideal place a) cs after h k =
       omega (arith, k, length-append (ideal_line p (expression_of scope a)) (lines (ideal_line p) (lefts (claimed_as is_ideal cs))), ideal_long p (expression_of scope a), side_cost a h (mark.Semicolon ∷ after))
   statement_cost (equal place a b) cs after h k =
       let q : Equation = record { left = expression_of scope a; right = expression_of scope b } in
       let s = first_place-append (unknown_in scope) (events_sum a) (events_sum b) h in
-      omega (arith, k, length-append (equation_line (codes "equal ") p q) (lines (equation_line (codes "equal ") p) (claimed_as is_equal cs)), equation_long (codes "equal ") p q,
-      side_cost a s.0 (mark.Equals ∷ spell_sum b (mark.Semicolon ∷ after)), side_cost b s.1 (mark.Semicolon ∷ after))
+      omega (
+        arith,
+        k,
+        length-append (equation_line (codes "equal ") p q) (lines (equation_line (codes "equal ") p) (claimed_as is_equal cs)),
+        equation_long (codes "equal ") p q,
+        side_cost a s.0 (mark.Equals ∷ spell_sum b (mark.Semicolon ∷ after)),
+        side_cost b s.1 (mark.Semicolon ∷ after),
+      )
 
   claims_cost : (ss : List Statement) → IsKnown text p.field p.generators known (events_of ss) → claims_long (claims_of scope ss) ≤ 16 * sizes (spelling ss)
   claims_cost [] h = omega arith
