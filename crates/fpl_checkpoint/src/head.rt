@@ -1,5 +1,6 @@
 ghost use Rattle.std.specs.Prelude.{◌≡◌, ◌+◌, ◌<◌, ◌≤◌, ◌^◌, ◌==◌, ◌&&◌, ◌||◌, length, IfOk, MatchResult, Ok, Err};
-ghost use Rattle.std.specs.Prelude.{MatchOption};
+ghost use Rattle.std.specs.Prelude.{MatchOption, IfSome, ◌⊎◌};
+ghost use Rattle.fpl_model.specs.Sound.{IsSound};
 ghost use Rattle.fpl_model.specs.declared.presentation.Presentation.{Presentation};
 ghost use Rattle.fpl_reader.specs.Reading.{HasPresentation};
 ghost use Rattle.fpl_canonical.specs.Canonical.{canonical_of};
@@ -40,7 +41,8 @@ pub fn head_bytes(alloc: Global, p: &Presentation) -> Result<Vec<u8>, AllocError
 /// The presentation whose canonical text this is, if it is one.
 fn canonical_reading(alloc: Global, text: &[u8]) -> Result<Option<Presentation>, AllocError>
     requires { length text.now < 2 ^ 32 }
-    ensures { IfOk result (λ found. MatchOption found ((p : Presentation) → HasPresentation text.now p → text.now ≡ canonical_of p → ⊥) (λ p. HasPresentation text.now p × (text.now ≡ canonical_of p))) }
+    ensures sound { IfOk result (λ found. IfSome found IsSound) }
+    ensures text { IfOk result (λ found. MatchOption found ((p : Presentation) → HasPresentation text.now p → text.now ≡ canonical_of p → ⊥) (λ p. HasPresentation text.now p × (text.now ≡ canonical_of p))) }
 {
     match read(alloc, text) {
         Ok(p) => {
@@ -90,8 +92,10 @@ fn is_known(version: u8) -> bool
 /// The version and the text of a head of a known version.
 fn text_of(bytes: &[u8]) -> Result<(u8, &[u8]), BadBytes>
     requires { 9 ≤ length bytes.now }
+    ensures version { IfOk result (λ x. x.0 ≡ byte bytes.now 4) }
     ensures text { MatchResult result (λ x. sized bytes.now ≡ Ok (x.0, x.1.now)) (λ e. sized bytes.now ≡ Err e) }
     ensures short { IfOk result (λ x. length x.1.now < 2 ^ 32) }
+    ensures inside { IfOk result (λ x. 9 + length x.1.now ≤ length bytes.now) }
 {
     let rest = &bytes[5..];
     match u32_at(rest) {
@@ -106,7 +110,9 @@ fn text_of(bytes: &[u8]) -> Result<(u8, &[u8]), BadBytes>
 #[tactic(auto, unfolding(crate::specs::Heads::head_text))]
 fn head_text(bytes: &[u8]) -> Result<(u8, &[u8]), BadBytes>
     ensures text { MatchResult result (λ x. head_text bytes.now ≡ Ok (x.0, x.1.now)) (λ e. head_text bytes.now ≡ Err e) }
+    ensures version { IfOk result (λ x. (x.0 ≡ 1) ⊎ (x.0 ≡ 2)) }
     ensures short { IfOk result (λ x. length x.1.now < 2 ^ 32) }
+    ensures inside { IfOk result (λ x. 9 + length x.1.now ≤ length bytes.now) }
 {
     if !is_marked(bytes) {
         return Err(bad(0, ByteWhy::NotCheckpoint));
@@ -126,7 +132,11 @@ fn head_text(bytes: &[u8]) -> Result<(u8, &[u8]), BadBytes>
 /// The head that the bytes begin with. `Bad` names the first test that fails; the last of them is
 /// that the text is the canonical text of its reading. Sections may stand after the head.
 pub fn scan_head(alloc: Global, bytes: &[u8]) -> Result<Head, ScanError>
-    ensures { Scans bytes.now result }
+    ensures head { Scans bytes.now result }
+    ensures version { IfOk result (λ h. (h.version ≡ 1) ⊎ (h.version ≡ 2)) }
+    ensures end { IfOk result (λ h. h.end ≤ length bytes.now) }
+    ensures sound { IfOk result (λ h. IsSound h.presentation) }
+    ensures short { IfOk result (λ h. length (canonical_of h.presentation) < 2 ^ 32) }
 {
     let (version, text) = match head_text(bytes) {
         Ok(found) => found,

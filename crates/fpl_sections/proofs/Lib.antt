@@ -3,3 +3,4 @@ pub mod Fields
 pub mod Bodies
 pub mod Framed
 pub mod Written
+pub mod Writable
