@@ -1,0 +1,10 @@
+mod Composed
+mod Loops
+mod ListedOrigins
+mod Marks
+mod StoredRows
+mod Weighed
+mod Tested
+mod ClosedTests
+mod PassedTests
+mod LawsPassed
