@@ -1,10 +1,10 @@
-mod Composed
-mod Loops
-mod ListedOrigins
-mod Marks
-mod StoredRows
-mod Weighed
-mod Tested
-mod ClosedTests
-mod PassedTests
-mod LawsPassed
+pub mod Composed
+pub mod Loops
+pub mod ListedOrigins
+pub mod Marks
+pub mod StoredRows
+pub mod Weighed
+pub mod Tested
+pub mod ClosedTests
+pub mod PassedTests
+pub mod LawsPassed

@@ -14,5 +14,5 @@ mod steps;
 mod stored;
 
 pub use check::check_section;
-pub use laws::accepted;
 pub use fault::{CheckFault, Spot, Why};
+pub use laws::accepted;
