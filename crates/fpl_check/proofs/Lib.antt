@@ -8,3 +8,4 @@ pub mod Tested
 pub mod ClosedTests
 pub mod PassedTests
 pub mod LawsPassed
+pub mod AcceptedSections

@@ -298,7 +298,7 @@ module _ (T : PlainTable) (is_field : IsField T.kind) (p : Presentation) (s : Se
       let closes = close_among (IsRowOf T.kind (length (symbols_in T))) s.steps k.conclusions are in
       let count : close_count s.steps ≡ length s.closed = same_count _ _ (demanded _ _ _ k.closes) in
       let many : length rows ≡ length (close_rows s.steps k.conclusions) =
-          ap length (sym k.are) ∙ length-map s.closed (stored_row (length (symbols_in T))) ∙ sym count ∙ sym (close_length s.steps k.conclusions whole) in
+      ap length (sym k.are) ∙ length-map s.closed (stored_row (length (symbols_in T))) ∙ sym count ∙ sym (close_length s.steps k.conclusions whole) in
       all_same T.kind (length (symbols_in T)) 1 rows (close_rows s.steps k.conclusions) (passed_rows rows k) closes many k.same
 
   module _ (vector : Origin → Vector (field_of T.kind)) (stand : RowsStand T is_field p vector) where
