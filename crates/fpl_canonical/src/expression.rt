@@ -124,11 +124,7 @@ pub(crate) fn push_expression(
 
 #[cycle(writing)]
 #[tactic(auto, using(fpl_model::proofs::Plain::plain_forms))]
-fn push_sum(
-    out: &mut Vec<u8>,
-    generators: &Generators,
-    members: &Exprs,
-) -> Result<(), AllocError>
+fn push_sum(out: &mut Vec<u8>, generators: &Generators, members: &Exprs) -> Result<(), AllocError>
     ensures { OnOk result (out.new.items ≡ out.old.items ++ sum_text (map (λ g. g.name) generators.now) true (trees (map plain members.now))) }
 {
     let mut first = true;

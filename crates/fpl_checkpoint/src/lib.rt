@@ -4,6 +4,8 @@
 mod head;
 mod laws;
 
-pub use fpl_sections::{BadBytes, ByteWhy, Frame, ScanError, read_section, scan_frame, section_bytes};
-pub use head::{Head, head_bytes};
-
+pub use fpl_sections::{
+    BadBytes, ByteWhy, Frame, ScanError, read_section, scan_frame, section_bytes,
+};
+pub use head::{Head, head_bytes, scan_head};
+pub use laws::{heads_are_read_back, one_head};

@@ -1,7 +1,6 @@
 -- The number that is read where a canonical number was written.
-use Rattle.std.proofs.Common.{◌≡◌, ℕ, zero, suc, ◌+◌, ◌-◌, ◌*◌, ◌/◌, ◌%◌, ◌^◌, ◌≤◌, ◌<◌, List, Bool, true, false, ◌&&◌, nat_le, nat_eq, if◌then◌else◌, refl, ap, ap₂, sym, ◌∙◌, subst, arith}
-use Rattle.std.specs.Prelude.{ℤ, pos, negsuc, unsigned_abs, neg_ℤ, ◌*ℤ◌, ◌<ℤ◌, None, Some, Contains}
-use Rattle.std.specs.declared.option.Option.{Option}
+use Rattle.std.proofs.Common.{◌≡◌, ℕ, zero, suc, ◌*◌, ◌/◌, ◌%◌, ◌≤◌, ◌<◌, Bool, true, false, ◌&&◌, nat_eq, if◌then◌else◌, refl, ap, ap₂, sym, ◌∙◌, subst, arith}
+use Rattle.std.specs.Prelude.{ℤ, pos, negsuc, unsigned_abs, neg_ℤ, ◌*ℤ◌, None, Some}
 use Rattle.std.specs.Int.{IsGcd}
 use Rattle.std.proofs.lemmas.Bool.{le-leb, ne_eqb, eqb-true, eqb-false}
 use Rattle.std.proofs.lemmas.List.Elements.{All-contains, All-from_recursion}
@@ -12,7 +11,7 @@ use Rattle.fpl_numbers.specs.declared.number.Num.{Num}
 use Rattle.fpl_numbers.specs.declared.number.Kind.{Kind}
 use Rattle.fpl_numbers.specs.declared.number.Kind.TheVariants.{Rational, Prime}
 use Rattle.fpl_numbers.specs.declared.number.TheConstants.{PRIMES}
-use Rattle.fpl_numbers.specs.Numbers.{IsListed, IsField, IsElement, IsLowest, residue, residue_of, bound, gcd, divided, reduced, is_nought, inverse_below}
+use Rattle.fpl_numbers.specs.Numbers.{IsListed, IsField, IsElement, residue, residue_of, bound, gcd, divided, reduced, is_nought, inverse_below}
 use Rattle.fpl_numbers.specs.Quotients.{quotient_of, whole}
 use Rattle.fpl_numbers.proofs.Gcd.{gcd_is}
 use Rattle.fpl_numbers.proofs.Integers.{abs_of_positive, positive_is}

@@ -1,6 +1,6 @@
 -- The lines of generators and of the field spell their declarations; a canonical text is its presentation.
-use Rattle.std.proofs.Common.{◌≡◌, ◌≢◌, ℕ, zero, suc, ◌+◌, ◌-◌, ◌<◌, ◌≤◌, List, [], ◌∷◌, ◌++◌, map, get_or, length, Bool, true, false, ◌==◌, ◌||◌, ◌&&◌, nat_le, IsTrue, if◌then◌else◌, refl, ap, ap₂, sym, ◌∙◌, subst, arith, append_assoc}
-use Rattle.std.specs.Prelude.{codes, decimal, All, None, Some, slice_get, Contains}
+use Rattle.std.proofs.Common.{◌≡◌, ℕ, suc, ◌+◌, ◌<◌, ◌≤◌, List, [], ◌∷◌, ◌++◌, map, get_or, length, Bool, true, false, ◌||◌, ◌&&◌, if◌then◌else◌, refl, ap, ap₂, sym, ◌∙◌, subst, arith, append_assoc}
+use Rattle.std.specs.Prelude.{codes, decimal, All, None, Some}
 use Rattle.std.specs.List.{list_any}
 use Rattle.std.specs.Option.{option_map}
 use Rattle.std.specs.declared.option.Option.{Option}
@@ -9,17 +9,15 @@ use Rattle.std.proofs.lemmas.Bool.{le-leb}
 use Rattle.std.proofs.lemmas.List.{length-map, append-nil}
 use Rattle.std.proofs.lemmas.List.Elements.{All-contains, All-from_recursion}
 use Rattle.std.proofs.lemmas.Option.{slice_get_past}
-use Rattle.fpl_text.specs.Bytes.{is_word, IsName}
+use Rattle.fpl_text.specs.Bytes.{IsName}
 use Rattle.fpl_lex.specs.Cut.{reading_from}
 use Rattle.fpl_numbers.specs.declared.number.TheConstants.{PRIMES}
 use Rattle.fpl_numbers.specs.declared.number.Kind.{Kind}
 use Rattle.fpl_numbers.specs.declared.number.Kind.TheVariants.{Rational, Prime}
 use Rattle.fpl_numbers.specs.Numbers.{IsListed, IsField}
-use Rattle.fpl_model.specs.declared.expr.Expr.{Expr}
 use Rattle.fpl_model.specs.declared.presentation.Parity.{Parity}
 use Rattle.fpl_model.specs.declared.presentation.Parity.TheVariants.{Even, Odd}
 use Rattle.fpl_model.specs.declared.presentation.Generator.{Generator}
-use Rattle.fpl_model.specs.declared.presentation.Equation.{Equation}
 use Rattle.fpl_model.specs.declared.presentation.Presentation.{Presentation}
 use Rattle.fpl_model.specs.Sound.{HaveWeights, IsSound}
 use Rattle.fpl_syntax.specs.declared.symbol.Symbol.{Symbol}
@@ -27,21 +25,17 @@ use Rattle.fpl_syntax.specs.declared.symbol.Symbol.TheVariants as mark
 use Rattle.fpl_syntax.specs.Grammar.{Statement, Naming, field, declare, rationals, prime, weighted, naming_symbol, spelling, claims_of}
 use Rattle.fpl_syntax.specs.Kinds.{is_listed}
 use Rattle.fpl_syntax.specs.Sight.{word_of}
-use Rattle.fpl_reader.specs.declared.survey.Event.{Event}
 use Rattle.fpl_reader.specs.declared.survey.DeclaredName.{DeclaredName}
 use Rattle.fpl_reader.specs.declared.survey.FieldStatement.{FieldStatement}
-use Rattle.fpl_reader.specs.declared.survey.FieldName.{FieldName}
-use Rattle.fpl_reader.specs.declared.survey.FieldName.TheVariants as field_name
 use Rattle.fpl_reader.specs.declared.fault.Reason.{Reason}
 use Rattle.fpl_reader.specs.declared.fault.Reason.TheVariants as reason
-use Rattle.fpl_reader.specs.Symbols.{word_symbol}
 use Rattle.fpl_reader.specs.Events.{events_of, fields_in, declared_in, field_name_of}
-use Rattle.fpl_reader.specs.Reading.{name_of, generator_of, kind_named, kind_of, scope_of, with_claims, no_field, field_twice, name_twice, bad_prime_named, bad_prime, bad_weight, bad_weight_given, too_many, unless, early_refusal, late_refusal, presentation_of, refusal_of, HasPresentation}
+use Rattle.fpl_reader.specs.Reading.{name_of, generator_of, kind_named, kind_of, scope_of, with_claims, no_field, field_twice, name_twice, bad_prime_named, bad_prime, bad_weight_given, too_many, unless, early_refusal, late_refusal, HasPresentation}
 use Rattle.fpl_canonical.specs.Numerals.{field_text, parity_text}
 use Rattle.fpl_canonical.specs.Canonical.{field_line, generator_line, equation_line, ideal_line, lines, canonical_of}
 use Rattle.fpl_round_trip.proofs.Coefficients.{listed_small}
 use Rattle.fpl_round_trip.proofs.NameSymbols.{names, AreDistinct, name_symbol, differs}
-use Rattle.fpl_round_trip.proofs.Spelled.{IsLeft, place, later, bytes_there, Spells, spells_blank, spells_word, spells_number, spells_mark}
+use Rattle.fpl_round_trip.proofs.Spelled.{IsLeft, place, later, bytes_there, Spells, spells_word, spells_number, spells_mark}
 use Rattle.fpl_round_trip.proofs.Lines.{or_none, spells_first, spells_line_end, Said, said_nothing, said_relations, said_ideals, said_queries}
 
 weight_fine : (place n : ℕ) → 1 ≤ n → n ≤ 1000 → bad_weight_given (Some (record { place = place; value = n })) ≡ None

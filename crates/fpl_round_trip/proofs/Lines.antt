@@ -1,48 +1,38 @@
 -- The lines of a presentation spell a sentence that says it.
-use Rattle.std.proofs.Common.{◌≡◌, ◌≢◌, ℕ, zero, suc, ◌+◌, ◌-◌, ◌<◌, ◌≤◌, List, [], ◌∷◌, ◌++◌, map, get_or, length, Bool, true, false, IsTrue, if◌then◌else◌, refl, ap, ap₂, sym, ◌∙◌, subst, arith, append_assoc, ◌==◌, nat_eq}
-use Rattle.std.specs.Prelude.{codes, decimal, All, None, Some}
+use Rattle.std.proofs.Common.{◌≡◌, ◌≢◌, ℕ, suc, ◌+◌, ◌≤◌, List, [], ◌∷◌, ◌++◌, map, length, Bool, true, false, IsTrue, if◌then◌else◌, refl, ap, ap₂, sym, ◌∙◌, subst, arith, append_assoc, nat_eq}
+use Rattle.std.specs.Prelude.{codes, All, None, Some}
 use Rattle.std.specs.declared.option.Option.{Option}
-use Rattle.std.specs.Str.{bytes_eq}
 use Rattle.fpl_text.specs.Bytes.{is_word_byte, is_word, IsName}
-use Rattle.fpl_lex.specs.Cut.{W, Stops}
-use Rattle.fpl_numbers.specs.declared.number.Kind.{Kind}
-use Rattle.fpl_numbers.specs.declared.number.Kind.TheVariants.{Rational, Prime}
+use Rattle.fpl_lex.specs.Cut.{Stops}
 use Rattle.fpl_numbers.specs.Numbers.{IsField}
-use Rattle.fpl_algebra.specs.Tree.{Tree}
-use Rattle.fpl_algebra.specs.Tree as algebra
 use Rattle.fpl_algebra.specs.Degrees.{Degree, any, exact, mixed, of_both, same_parity, weight_of_both, parity_of_both}
 use Rattle.fpl_model.specs.declared.expr.Expr.{Expr}
 use Rattle.fpl_model.specs.declared.expr.Expr as expr
-use Rattle.fpl_model.specs.declared.presentation.Parity.{Parity}
-use Rattle.fpl_model.specs.declared.presentation.Parity.TheVariants.{Even, Odd}
 use Rattle.fpl_model.specs.declared.presentation.Generator.{Generator}
 use Rattle.fpl_model.specs.declared.presentation.Equation.{Equation}
 use Rattle.fpl_model.specs.declared.presentation.Presentation.{Presentation}
 use Rattle.fpl_model.specs.Meaning.{plain, tree_in, in_field, presentation_in}
-use Rattle.fpl_model.specs.Sound.{IsWithin, deep, HaveWeights, IsExpression, IsHomogeneous, IsSoundEquation, IsSoundElement}
+use Rattle.fpl_model.specs.Sound.{IsExpression, IsHomogeneous, IsSoundEquation, IsSoundElement}
 use Rattle.fpl_model.proofs.Plain.{plain-Zero}
 use Rattle.fpl_syntax.specs.declared.symbol.Symbol.{Symbol}
 use Rattle.fpl_syntax.specs.declared.symbol.Symbol.TheVariants as mark
 use Rattle.fpl_syntax.specs.declared.symbol.ClaimKind.{ClaimKind}
 use Rattle.fpl_syntax.specs.declared.symbol.ClaimKind.TheVariants as claim
-use Rattle.fpl_syntax.specs.declared.parser.Claim.{Claim}
 use Rattle.fpl_syntax.specs.declared.expression.Scale.{Scale}
 use Rattle.fpl_syntax.specs.declared.expression.Scale.TheVariants.{One, Whole, Quotient}
-use Rattle.fpl_syntax.specs.Grammar.{Scope, Sum, sum, Terms, end, further, term, Factor, name, zero as nought, bracket, group, Statement, field, declare, relation, equation, ideal, equal, rationals, prime, plainly, weighted, spell_sum, spell_statement, spelling, expression_of, equate, claims_in, claims_of}
+use Rattle.fpl_syntax.specs.Grammar.{Scope, Sum, sum, Terms, end, further, term, Factor, name, zero as nought, bracket, group, Statement, equation, ideal, equal, spell_sum, spell_statement, spelling, expression_of, equate, claims_in, claims_of}
 use Rattle.fpl_reader.specs.declared.survey.Event.{Event}
-use Rattle.fpl_reader.specs.declared.survey.DeclaredName.{DeclaredName}
 use Rattle.fpl_reader.specs.declared.survey.FieldStatement.{FieldStatement}
-use Rattle.fpl_reader.specs.Events.{events_scale, events_sum, events_terms, events_factor, events_statement, events_of, fields_in, field_in, declared_in, name_in, field_name_of}
+use Rattle.fpl_reader.specs.Events.{events_scale, events_sum, events_terms, events_factor, events_statement, events_of, fields_in, field_in, declared_in, name_in}
 use Rattle.fpl_reader.specs.Symbols.{word_symbol}
-use Rattle.fpl_reader.specs.Reading.{name_of, generator_of, scope_of, is_relation, is_ideal, is_equal, claimed_as, lefts, with_claims, or_else, first_place, bad_weight, bad_weight_given, unknown_in, zero_in, is_mixed, mixed_weight_of, mixed_parity_of}
+use Rattle.fpl_reader.specs.Reading.{generator_of, scope_of, is_relation, is_ideal, is_equal, claimed_as, lefts, with_claims, or_else, first_place, bad_weight, unknown_in, zero_in, is_mixed, mixed_weight_of, mixed_parity_of}
 use Rattle.fpl_reader.proofs.Soundness.{weight_same, parity_same}
 use Rattle.fpl_canonical.specs.declared.expression.Stand.TheVariants.{Alone}
-use Rattle.fpl_canonical.specs.Numerals.{field_text, parity_text}
-use Rattle.fpl_canonical.specs.Canonical.{expression_text, generator_line, equation_line, ideal_line, lines}
-use Rattle.fpl_round_trip.proofs.NameSymbols.{names, AreDistinct, name_symbol}
+use Rattle.fpl_canonical.specs.Canonical.{expression_text, equation_line, ideal_line, lines}
+use Rattle.fpl_round_trip.proofs.NameSymbols.{names, AreDistinct}
 use Rattle.fpl_round_trip.proofs.Trees.{expression_of_tree, back}
-use Rattle.fpl_round_trip.proofs.Spelled.{IsLeft, place, later, bytes_there, Spells, spells_end, spells_blank, spells_word, spells_number, spells_mark}
-use Rattle.fpl_round_trip.proofs.Written.{first_place-both, AsSum, Summed, summed}
+use Rattle.fpl_round_trip.proofs.Spelled.{IsLeft, place, later, Spells, spells_end, spells_blank, spells_word, spells_mark}
+use Rattle.fpl_round_trip.proofs.Written.{first_place-both, summed}
 
 -- nothing is declared in an expression
 
@@ -127,7 +117,18 @@ module _ (text : List ℕ) (p : Presentation) (known : IsField p.field) (named :
 
   pub said_nothing : Said [] [] [] [] [] []
   said_nothing = record {
-    sentence = []; spells = spells_end text 0; fields = refl; declared = refl; weights = refl; relations = refl; ideals = refl; queries = refl; names = refl; denominators = refl; weighed = refl; paired = refl;
+    sentence = [];
+    spells = spells_end text 0;
+    fields = refl;
+    declared = refl;
+    weights = refl;
+    relations = refl;
+    ideals = refl;
+    queries = refl;
+    names = refl;
+    denominators = refl;
+    weighed = refl;
+    paired = refl;
   }
 
   -- a claim that is homogeneous is not refused

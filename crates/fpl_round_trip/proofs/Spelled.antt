@@ -1,14 +1,12 @@
 -- A text spells symbols from a place on: its pieces, their tokens, and the symbols of these.
-use Rattle.std.proofs.Common.{◌≡◌, ℕ, ◌+◌, ◌-◌, ◌≤◌, ◌<◌, List, [], ◌∷◌, ◌++◌, length, Bool, true, false, nat_lt, ◌&&◌, IsTrue, Result, if◌then◌else◌, refl, ap, ap₂, sym, ◌∙◌, subst, arith, append_assoc, length-append}
+use Rattle.std.proofs.Common.{◌≡◌, ℕ, ◌+◌, ◌-◌, ◌≤◌, List, [], ◌∷◌, ◌++◌, length, Bool, nat_lt, IsTrue, if◌then◌else◌, refl, ap, ap₂, sym, ◌∙◌, arith, append_assoc, length-append}
 use Rattle.std.specs.Prelude.{Ok, Err, None, Some, decimal}
-use Rattle.std.specs.declared.option.Option.{Option}
 use Rattle.std.specs.List.{list_all}
 use Rattle.std.proofs.lemmas.Bool.{le-ltb, false≢true}
 use Rattle.fpl_text.specs.Bytes.{is_blank, is_letter, is_digit, is_word_byte, is_mark, is_word, most_name}
 use Rattle.fpl_lex.specs.declared.token.Token.{Token}
 use Rattle.fpl_lex.specs.declared.token.TokenKind.{TokenKind}
 use Rattle.fpl_lex.specs.declared.token.TokenKind.TheVariants as kinds
-use Rattle.fpl_lex.specs.declared.fault.LexError.{LexError}
 use Rattle.fpl_lex.specs.declared.fault.LexError.TheVariants.{NameTooLong, NumberTooLarge}
 use Rattle.fpl_lex.specs.Cut.{W, Form, blank, word, number, mark, Piece, Stops, IsPiece, IsCut, value_of, token_at, piece_tokens, joined, reading_from}
 use Rattle.fpl_syntax.specs.declared.symbol.Symbol.{Symbol}

@@ -1,5 +1,5 @@
 -- An expression is determined by its plain tree.
-use Rattle.std.proofs.Common.{◌≡◌, ℕ, List, [], ◌∷◌, map, refl, ap, ap₂, sym, ◌∙◌, subst}
+use Rattle.std.proofs.Common.{◌≡◌, ℕ, List, [], ◌∷◌, map, refl, ap, ap₂, ◌∙◌, subst}
 use Rattle.fpl_numbers.specs.declared.number.Num.{Num}
 use Rattle.fpl_algebra.specs.Tree.{Tree, Trees, gen, none, sum_of, multiple, bracket_of, end, more, trees}
 use Rattle.fpl_model.specs.declared.expr.Expr.{Expr, Expr-F, ind-Expr, roll-Expr}

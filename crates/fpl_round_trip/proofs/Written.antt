@@ -1,5 +1,5 @@
 -- The text of an expression spells a parse tree whose expression it is.
-use Rattle.std.proofs.Common.{◌≡◌, ◌≢◌, ℕ, zero, suc, ◌+◌, ◌-◌, ◌<◌, ◌≤◌, max, List, [], ◌∷◌, ◌++◌, map, get_or, length, Bool, true, false, ◌==◌, ◌||◌, nat_eq, IsTrue, if◌then◌else◌, refl, ap, ap₂, sym, ◌∙◌, subst, arith, append_assoc}
+use Rattle.std.proofs.Common.{◌≡◌, ℕ, zero, suc, ◌+◌, ◌-◌, ◌<◌, ◌≤◌, max, List, [], ◌∷◌, ◌++◌, map, get_or, length, Bool, true, false, ◌==◌, ◌||◌, nat_eq, if◌then◌else◌, refl, ap, ap₂, sym, ◌∙◌, subst, arith, append_assoc}
 use Rattle.std.specs.Prelude.{codes, decimal, All, unsigned_abs, None, Some}
 use Rattle.std.specs.declared.option.Option.{Option}
 use Rattle.std.specs.Str.{bytes_eq}
@@ -14,7 +14,6 @@ use Rattle.fpl_numbers.specs.declared.number.Kind.{Kind}
 use Rattle.fpl_numbers.specs.Numbers.{IsField, IsElement}
 use Rattle.fpl_algebra.specs.Tree.{Tree, Trees, gen, none, sum_of, multiple, bracket_of, end as last, more, trees}
 use Rattle.fpl_model.specs.declared.expr.Expr.{Expr}
-use Rattle.fpl_model.specs.declared.expr.Expr as expr
 use Rattle.fpl_model.specs.declared.presentation.Generator.{Generator}
 use Rattle.fpl_model.specs.Meaning.{plain}
 use Rattle.fpl_model.specs.Sound.{IsWithin, AreWithin, many, deep, deep_factor, deep_member, deep_members}
@@ -25,7 +24,6 @@ use Rattle.fpl_syntax.specs.declared.expression.Scale.{Scale}
 use Rattle.fpl_syntax.specs.declared.expression.Scale.TheVariants.{One, Whole, Quotient}
 use Rattle.fpl_syntax.specs.Grammar.{Scope, Sum, sum, Terms, end, further, term, Factor, name, zero as nought, bracket, group, spell_scale, sign_of, spell_lead, spell_sum, spell_terms, spell_factor, coefficient_of, term_of, total, expression_of, further_of, factor_of}
 use Rattle.fpl_reader.specs.declared.survey.Event.{Event}
-use Rattle.fpl_reader.specs.declared.survey.Event.TheVariants.{Used, Divided}
 use Rattle.fpl_reader.specs.Events.{events_scale, events_sum, events_terms, events_factor}
 use Rattle.fpl_reader.specs.Reading.{or_else, first_place, unknown_in, zero_in, scope_of}
 use Rattle.fpl_canonical.specs.declared.expression.Stand.TheVariants.{Alone, Member, Factor as Behind}
@@ -191,7 +189,7 @@ module _ (text : List ℕ) (kind : Kind) (gs : List Generator) (field : IsField 
       let is = name_there gs named (g - 1) (omega arith) in
       let at = place text (w ++ after) in
       let number : number_from 1 gs (word_of text at (at + length w)) ≡ g =
-          ap (number_from 1 gs) (bytes_there text w after e) ∙ number_there 1 gs (g - 1) distinct (omega arith) ∙ (let same : 1 + (g - 1) ≡ g = omega arith in same) in
+      ap (number_from 1 gs) (bytes_there text w after e) ∙ number_there 1 gs (g - 1) distinct (omega arith) ∙ (let same : 1 + (g - 1) ≡ g = omega arith in same) in
       record {
         factor = name (record { start = at; end = at + length w; rationals = bytes_eq w (codes "Q") });
         spells = subst (λ x. Spells text held (w ++ after) (x ∷ symbols)) (name_symbol w at (at + length w) is.free) (spells_word text held w after symbols is.spelled is.short stops (omega arith) e s);

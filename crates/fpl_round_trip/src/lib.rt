@@ -4,3 +4,6 @@
 mod laws;
 
 pub use laws::canonical_text_is_read;
+
+#[cfg(test)]
+mod tests;

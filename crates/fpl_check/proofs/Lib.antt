@@ -1,0 +1,11 @@
+pub mod Composed
+pub mod Loops
+pub mod ListedOrigins
+pub mod Marks
+pub mod StoredRows
+pub mod Weighed
+pub mod Tested
+pub mod ClosedTests
+pub mod PassedTests
+pub mod LawsPassed
+pub mod AcceptedSections

@@ -1,0 +1,44 @@
+-- Laws of sections that pass.
+--
+--   AcceptedSpans        the rows of an accepted section are closed, and span exactly the source rows of the weight
+--   AcceptedIsNext       so the table with these rows pushed is built again, whoever made the section
+--   ConclusionsAreZero   what steps that pass conclude is derivably 0, as a combination of the symbols
+use Rattle.std.specs.Prelude.{◌≡◌, ◌≤◌, ◌<◌, List, length, Ok, All}
+use Rattle.fpl_linear.specs.Span.{SpansKind}
+use Rattle.fpl_numbers.specs.declared.number.Num.{Num}
+use Rattle.fpl_numbers.specs.Kinds.{field_of}
+use Rattle.fpl_rows.specs.Meaning.{row_in, vector_in, IsClosedList}
+use Rattle.fpl_algebra.specs.Tree.{none}
+use Rattle.fpl_algebra.specs.Derives.{Derives}
+use Rattle.fpl_algebra.specs.SourceRows.{IsSource}
+use Rattle.fpl_algebra.specs.Standard.{IsStandard}
+use Rattle.fpl_theorems.specs.Standard.{over_symbols}
+use Rattle.fpl_log.specs.declared.section.Section.{Section}
+use Rattle.fpl_model.specs.declared.presentation.Presentation.{Presentation}
+use Rattle.fpl_model.specs.Meaning.{presentation_in}
+use Rattle.fpl_table.specs.Plain.{PlainTable, table_in, symbols_in}
+use Rattle.fpl_table.specs.Push.{push_of}
+use Rattle.fpl_next.specs.Holds.{Holds}
+use Rattle.fpl_check.specs.Premises.{IsSectionFor}
+use Rattle.fpl_check.specs.Steps.{conclusions_of}
+use Rattle.fpl_check.specs.Check.{Accepts}
+
+abbrev pub SpansSources : Presentation → PlainTable → List (List Num) → Type 0
+SpansSources p T rows =
+    SpansKind (field_of p.field) (IsSource (field_of p.field) (presentation_in p) (table_in p.field T)) (length rows) (row_in p.field rows)
+
+abbrev pub AcceptedSpans : Type 0
+AcceptedSpans =
+    (p : Presentation) (T : PlainTable) (s : Section) (rows : List (List Num)) → Holds p T → IsSectionFor T s → Accepts T p s rows →
+    IsClosedList T.kind (length (symbols_in T)) rows × SpansSources p T rows
+
+abbrev pub AcceptedIsNext : Type 0
+AcceptedIsNext =
+    (p : Presentation) (T : PlainTable) (s : Section) (rows : List (List Num)) → Holds p T → T.weight < 1000 → length (symbols_in T) ≤ 2000000 →
+    IsSectionFor T s → Accepts T p s rows → Holds p (push_of T rows)
+
+abbrev pub ConclusionsAreZero : Type 0
+ConclusionsAreZero =
+    (p : Presentation) (T : PlainTable) (s : Section) (conclusions : List (List Num)) → Holds p T → IsSectionFor T s → conclusions_of T p s ≡ Ok conclusions →
+    (tree : _) → IsStandard (field_of p.field) (presentation_in p) (table_in p.field T) tree →
+    All (λ row. Derives (field_of p.field) (presentation_in p) (over_symbols (field_of p.field) (presentation_in p) (table_in p.field T) tree (vector_in p.field row)) none) conclusions

@@ -1,0 +1,19 @@
+//! The check of a section: whoever made it, what passes is the standard table's next weight.
+#![tactic(auto)]
+
+mod check;
+mod cites;
+mod closed;
+mod fault;
+mod laws;
+mod leads;
+mod origin;
+mod origins;
+mod remainder;
+mod steps;
+mod stored;
+
+pub use check::check_section;
+pub use fault::{CheckFault, Spot, Why};
+pub use laws::accepted;
+pub use origins::count_origins;

@@ -1,0 +1,136 @@
+ghost use Rattle.std.specs.Prelude.{◌≡◌, length, IfOk, IfSome, Contains};
+ghost use Rattle.fpl_numbers.specs.Results.{GivesBy, and_then};
+ghost use Rattle.fpl_rows.specs.Meaning.{IsClosedList, IsRowOf};
+ghost use Rattle.fpl_elimination.specs.Plain.{sweep_rows};
+ghost use Rattle.fpl_model.specs.Sound.{IsSound};
+ghost use Rattle.fpl_table.specs.Plain.{symbols_in};
+ghost use Rattle.fpl_table.specs.Shape.{Agrees};
+ghost use Rattle.fpl_next.specs.Holds.{Holds};
+ghost use Rattle.fpl_rewrite.specs.Origins.{origins_of};
+ghost use Rattle.fpl_rewrite.specs.Rows.{row_of_origin};
+ghost use Rattle.fpl_check.specs.Refusal.{GivesCheck};
+ghost use Rattle.fpl_check.specs.Check.{test_count, test_origin, test_origins};
+
+use crate::remainder::{fault_of, test_zero};
+use crate::{CheckFault, Spot, Why};
+use fpl_echelon::sweep;
+use fpl_log::Origin;
+use fpl_model::Presentation;
+use fpl_rewrite::{Origins, origin_row};
+use fpl_rows::{Row, Rows};
+use fpl_scalar::{Fault, Field};
+use fpl_table::{Symbols, Table};
+use std::alloc::Global;
+
+/// The number of origins of the weight after the table's, where it is below 2^64 - 1.
+pub fn count_origins<F: Field>(table: &Table<F>, p: &Presentation) -> Option<u64>
+    requires sound { IsSound p.now }
+    requires agrees { Agrees table.now p.now }
+    ensures { IfSome result (λ found. found ≡ length (origins_of table.now p.now)) }
+{
+    let mut origins = Origins::start(table, p, table.weight() + 1);
+    for found in 0..u64::MAX {
+        match origins.next(table, p) {
+            None => return Some(found),
+            Some(_) => {}
+        }
+    }
+    None
+}
+
+/// Tests the number of origins, where a section tells it. To list more than 2^64 of them takes
+/// more memory than there is.
+pub fn test_count<F: Field>(
+    table: &Table<F>,
+    p: &Presentation,
+    stored: Option<u64>,
+) -> Result<(), CheckFault>
+    requires sound { IsSound p.now }
+    requires agrees { Agrees table.now p.now }
+    ensures { GivesCheck (λ done. done) result (test_count stored (length (origins_of table.now p.now))) }
+{
+    let stored = match stored {
+        None => return Ok(()),
+        Some(stored) => stored,
+    };
+    match count_origins(table, p) {
+        None => Err(CheckFault::NoMemory),
+        Some(found) => {
+            if stored == found {
+                return Ok(());
+            }
+            Err(CheckFault::Bad {
+                spot: Spot::Whole,
+                why: Why::OriginCount { stored, found },
+            })
+        }
+    }
+}
+
+/// The row of an origin, swept by closed rows.
+fn swept<F: Field>(
+    alloc: Global,
+    table: &Table<F>,
+    p: &Presentation,
+    symbols: &Symbols,
+    rows: &Rows<F>,
+    origin: Origin,
+) -> Result<Row<F>, Fault>
+    requires holds { Holds p.now table.now }
+    requires symbols { symbols.now.symbols ≡ symbols_in table.now }
+    requires listed { Contains (origins_of table.now p.now) origin }
+    requires closed { IsClosedList table.now.kind (length (symbols_in table.now)) rows.now }
+    ensures value { GivesBy (λ left. left) result (and_then (sweep_rows table.now.kind rows.now) (row_of_origin table.now p.now origin)) }
+    ensures left { IfOk result (λ left. IsRowOf table.now.kind (length (symbols_in table.now)) left) }
+{
+    match origin_row(alloc, table, p, symbols, origin) {
+        Ok(row) => sweep(alloc, table.field(), rows, row),
+        Err(fault) => Err(fault),
+    }
+}
+
+/// Tests that the row of an origin is in the span of closed rows.
+fn test_origin<F: Field>(
+    alloc: Global,
+    table: &Table<F>,
+    p: &Presentation,
+    symbols: &Symbols,
+    rows: &Rows<F>,
+    origin: Origin,
+) -> Result<(), CheckFault>
+    requires holds { Holds p.now table.now }
+    requires symbols { symbols.now.symbols ≡ symbols_in table.now }
+    requires listed { Contains (origins_of table.now p.now) origin }
+    requires closed { IsClosedList table.now.kind (length (symbols_in table.now)) rows.now }
+    ensures { GivesCheck (λ done. done) result (test_origin table.now p.now rows.now origin) }
+{
+    match swept(alloc, table, p, symbols, rows, origin) {
+        Ok(left) => test_zero(table.field(), Spot::Origin(origin), &left),
+        Err(fault) => Err(fault_of(fault)),
+    }
+}
+
+/// Tests that the rows of all origins are in the span of closed rows.
+pub fn test_origins<F: Field>(
+    alloc: Global,
+    table: &Table<F>,
+    p: &Presentation,
+    symbols: &Symbols,
+    rows: &Rows<F>,
+) -> Result<(), CheckFault>
+    requires holds { Holds p.now table.now }
+    requires symbols { symbols.now.symbols ≡ symbols_in table.now }
+    requires closed { IsClosedList table.now.kind (length (symbols_in table.now)) rows.now }
+    ensures { GivesCheck (λ done. done) result (test_origins table.now p.now rows.now (origins_of table.now p.now)) }
+{
+    let mut origins = Origins::start(table, p, table.weight() + 1);
+    'origins: loop {
+        match origins.next(table, p) {
+            None => return Ok(()),
+            Some(origin) => match test_origin(alloc, table, p, symbols, rows, origin) {
+                Ok(()) => {}
+                Err(fault) => return Err(fault),
+            },
+        }
+    }
+}

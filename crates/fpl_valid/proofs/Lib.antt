@@ -1,0 +1,5 @@
+pub mod StepParts
+pub mod Conclusions
+pub mod Accepted
+pub mod InOrder
+pub mod Held
