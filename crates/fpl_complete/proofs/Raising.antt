@@ -9,19 +9,26 @@ use Rattle.fpl_numbers.specs.declared.number.Num.{Num}
 use Rattle.fpl_numbers.specs.declared.number.Kind.{Kind}
 use Rattle.fpl_numbers.specs.declared.number.Kind.TheVariants.{Rational, Prime}
 use Rattle.fpl_numbers.specs.declared.number.Unfit.{Unfit}
+use Rattle.fpl_linear.specs.Span.{SpansKind}
+use Rattle.fpl_numbers.specs.Kinds.{field_of}
 use Rattle.fpl_numbers.specs.Results.{map_ok}
+use Rattle.fpl_rows.specs.Meaning.{row_in, IsClosedList}
+use Rattle.fpl_algebra.specs.SourceRows.{IsSource}
+use Rattle.fpl_model.specs.Meaning.{presentation_in}
 use Rattle.fpl_log.specs.declared.section.Section.{Section}
 use Rattle.fpl_elimination.specs.Plain.{Held, rows_of}
 use Rattle.fpl_model.specs.declared.presentation.Presentation.{Presentation}
 use Rattle.fpl_algebra.specs.Tree.{no_generator}
 use Rattle.fpl_algebra.specs.Table.{Symbol, of_generator, of_pair}
 use Rattle.fpl_algebra.specs.Symbols.{joined, symbols_of, is_odd}
-use Rattle.fpl_table.specs.Plain.{PlainTable, plain_basis, symbols_in}
+use Rattle.fpl_table.specs.Plain.{PlainTable, plain_basis, symbols_in, table_in}
 use Rattle.fpl_table.specs.Shape.{HasShape}
 use Rattle.fpl_table.specs.Push.{push_of}
 use Rattle.fpl_table.specs.Standard.{count_of, count_through}
 use Rattle.fpl_next.specs.Holds.{Holds}
 use Rattle.fpl_next.specs.Raised.{IsRaised}
+use Rattle.fpl_next.specs.Raised.IsRaised.{pushed}
+use Rattle.fpl_next.proofs.Holding.{push_holds}
 use Rattle.fpl_faithful.proofs.Fits.{part_fits}
 use Rattle.fpl_faithful.proofs.Fitting.{Always, prime_always}
 use Rattle.fpl_completion.specs.Weight.{close_weight}
@@ -29,7 +36,7 @@ use Rattle.fpl_completion.specs.Section.{section_of}
 use Rattle.fpl_completion.proofs.Fitting.{close_weight_fits}
 use Rattle.fpl_completion.proofs.Completed.{next_holds, next_raised}
 use Rattle.fpl_completion.proofs.Counts.{counts_pushed}
-use Rattle.fpl_complete.specs.State.{section_at, no_section, AreOfWeights, IsState, PlainWeighed, weighed_as}
+use Rattle.fpl_complete.specs.State.{section_at, no_section, AreOfWeights, PlainState, IsState, PlainWeighed, weighed_as}
 use Rattle.fpl_complete.proofs.Closing.{symbols_counted}
 use Rattle.fpl_complete.proofs.Weighing.{weighed}
 
@@ -105,6 +112,20 @@ module _ (T : PlainTable) (p : Presentation) (n m : ℕ) (sections : List Sectio
       state_more (ap (λ (x : Section). x.weight) c.section_is)
       (subst (λ (rows : List (List Num)). Holds p (push_of T rows)) (sym c.rows_are) (next_holds p T state.holds c.held c.run below (few_symbols T m whole few)))
       (subst (λ (rows : List (List Num)). IsRaised p (push_of T rows)) (sym c.rows_are) (next_raised p T state.holds c.held c.run state.raised))
+
+  pub state_adopted : T.weight < 1000 → section.weight ≡ suc T.weight → IsClosedList T.kind (length (symbols_in T)) rows →
+      SpansKind (field_of p.field) (IsSource (field_of p.field) (presentation_in p) (table_in p.field T)) (length rows) (row_in p.field rows) → IsState p (push_of T rows) m (sections ++ section ∷ [])
+  state_adopted below weight closed spans =
+      state_more weight (push_holds p T rows state.holds below (few_symbols T m whole few) closed spans) (pushed T rows state.raised closed spans)
+
+-- what a weight's run gives, and a state keeps
+abbrev pub Keeps : PlainState → PlainTable → List Section → Type 0
+Keeps s T sections =
+    (h : Held) × (close_weight s.table s.presentation ≡ Ok h) × (T ≡ push_of s.table (rows_of h.pivots)) × (sections ≡ s.sections ++ section_of s.table s.presentation h ∷ [])
+
+pub keeps : (s : PlainState) (T : PlainTable) (sections : List Section) (rows : List (List Num)) (section : Section) → Weighs s.table s.presentation rows section →
+    T ≡ push_of s.table rows → sections ≡ s.sections ++ section ∷ [] → Keeps s T sections
+keeps s T sections rows section c e f = (c.held, c.run, e ∙ ap (push_of s.table) c.rows_are, f ∙ ap (λ (x : Section). s.sections ++ x ∷ []) c.section_is)
 
 -- the counts of a table with a weight more
 pub counts_more : (T : PlainTable) → HasShape T → (rows : List (List Num)) (v : ℕ) → v ≤ T.weight + 1 → count_through (push_of T rows) v ≡ count_through T v

@@ -1,3 +1,4 @@
+use fpl_check::{Spot, Why};
 use fpl_numbers::{Num, Op};
 
 /// Why a table was not raised.
@@ -8,4 +9,12 @@ pub enum RaiseFault {
     /// An operation in computing `weight` that does not fit, with its operands in their order.
     Overflow { weight: u32, op: Op, a: Num, b: Num },
     NoMemory,
+}
+
+/// Why a section was not adopted.
+#[derive(Clone, Copy, Debug, PartialEq, Eq)]
+pub enum AdoptFault {
+    Raise(RaiseFault),
+    /// Where the section of `weight` is wrong, and what is wrong there.
+    Bad { weight: u32, spot: Spot, why: Why },
 }

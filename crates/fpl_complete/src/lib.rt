@@ -1,11 +1,12 @@
 //! Completion: a presentation's table, raised weight by weight.
 #![tactic(auto)]
 
+mod accepting;
 mod fault;
 mod section;
 mod state;
 mod weighed;
 mod weight;
 
-pub use fault::RaiseFault;
+pub use fault::{AdoptFault, RaiseFault};
 pub use state::State;

@@ -1,18 +1,27 @@
-ghost use Rattle.std.specs.Prelude.{◌≡◌, ◌≤◌, ◌<◌, ◌+◌, ◌-◌, ◌++◌, ◌∷◌, [], ◌↔◌, ℕ, max, take, length, Ok, Err, IfOk, OnOk, OnErr, IsErrOf};
+ghost use Rattle.std.specs.Prelude.{◌≡◌, ◌≤◌, ◌<◌, ◌+◌, ◌-◌, ◌++◌, ◌∷◌, [], ◌↔◌, ℕ, List, max, take, length, Ok, Err, IfOk, OnOk, OnErr, IsErrOf};
 ghost use Rattle.fpl_numbers.specs.declared.number.Num.{Num};
 ghost use Rattle.fpl_numbers.specs.declared.number.Op.{Op};
 ghost use Rattle.fpl_numbers.specs.declared.number.Kind.{Kind};
+ghost use Rattle.fpl_elimination.specs.Plain.{Held, rows_of};
 ghost use Rattle.fpl_model.specs.Sound.{IsSound};
+ghost use Rattle.fpl_table.specs.Push.{push_of};
 ghost use Rattle.fpl_table.specs.Standard.{start_of, count_through, IsTableOf};
 ghost use Rattle.fpl_rewrite.specs.Origins.{origins_of};
 ghost use Rattle.fpl_next.specs.Raised.{IsRaised};
 ghost use Rattle.fpl_completion.specs.Weight.{close_weight, next_of};
-ghost use Rattle.fpl_completion.specs.Section.{Computes, OverflowsAt};
-ghost use Rattle.fpl_complete.specs.State.{AreOfWeights, BoundsOrigins, PassesAfter, section_at, sum_after, unfit_of};
+ghost use Rattle.fpl_completion.specs.Section.{section_of, Computes, OverflowsAt};
+ghost use Rattle.fpl_check.specs.declared.fault.Spot.{Spot};
+ghost use Rattle.fpl_check.specs.declared.fault.Why.{Why};
+ghost use Rattle.fpl_check.specs.Refusal.{bad, unfit};
+ghost use Rattle.fpl_check.specs.Premises.{IsSectionFor};
+ghost use Rattle.fpl_check.specs.Check.{check_of, Accepts};
+ghost use Rattle.fpl_complete.specs.State.{AreOfWeights, BoundsOrigins, PassesAfter, section_at, slimmed, sum_after, unfit_of};
 
-use crate::RaiseFault;
+use crate::accepting::accept;
 use crate::weight::complete_weight;
-use fpl_log::Sections;
+use crate::{AdoptFault, RaiseFault};
+use fpl_check::CheckFault;
+use fpl_log::{Section, Sections};
 use fpl_model::Presentation;
 use fpl_scalar::{Fault, Field};
 use fpl_steps::Steps;
@@ -117,6 +126,7 @@ impl<F: Field> State<F> {
         requires weight { self.old.table.weight < 1000 }
         requires entries { entries ≤ 2000000 }
         ensures presentation { self.new.presentation ≡ self.old.presentation }
+        ensures value { OnOk result ((h : Held) × (close_weight self.old.table self.old.presentation ≡ Ok h) × (self.new.table ≡ push_of self.old.table (rows_of h.pivots)) × (self.new.sections ≡ self.old.sections ++ section_of self.old.table self.old.presentation h ∷ [])) }
         ensures next { OnOk result (next_of self.old.table self.old.presentation ≡ Ok self.new.table) }
         ensures weight { OnOk result (self.new.table.weight ≡ self.old.table.weight + 1) }
         ensures sections { OnOk result (self.new.sections ≡ self.old.sections ++ section_at self.new.sections self.new.table.weight ∷ []) }
@@ -155,6 +165,57 @@ impl<F: Field> State<F> {
                 Ok(())
             }
             Err(_) => Err(RaiseFault::NoMemory),
+        }
+    }
+
+    /// Adds the next weight by a section of it, whoever made that: the section is checked, slimmed
+    /// and kept, and nothing is computed anew.
+    ///
+    /// `Limit` comes, before the check, exactly where the symbols of the weights from 1 to the new
+    /// one number more than `entries`; `Bad` names the first test of the section that fails, and
+    /// `Overflow` the first operation that does not fit before any test fails. After a refusal the
+    /// state is unchanged, and the section is gone.
+    pub fn adopt(&mut self, section: Section, entries: u64) -> Result<(), AdoptFault>
+        requires weight { self.old.table.weight < 1000 }
+        requires entries { entries ≤ 2000000 }
+        requires section { IsSectionFor self.old.table section }
+        ensures presentation { self.new.presentation ≡ self.old.presentation }
+        ensures adopted { OnOk result ((rows : List (List Num)) × Accepts self.old.table self.old.presentation section rows × (self.new.table ≡ push_of self.old.table rows)) }
+        ensures sections { OnOk result (self.new.sections ≡ self.old.sections ++ slimmed self.old.table self.old.presentation section ∷ []) }
+        ensures weight { OnOk result (self.new.table.weight ≡ self.old.table.weight + 1) }
+        ensures within { OnOk result (count_through self.new.table self.new.table.weight ≤ entries) }
+        ensures counts { OnOk result ((v : ℕ) → v ≤ self.old.table.weight + 1 → count_through self.new.table v ≡ count_through self.old.table v) }
+
+        // What a refusal names.
+        ensures limit { (w c : ℕ) → IsErrOf result (AdoptFault.Raise (RaiseFault.Limit w c)) ↔ ((w ≡ self.old.table.weight + 1) × (c ≡ count_through self.old.table w) × (entries < c)) }
+        ensures bad { (w : ℕ) (spot : Spot) (why : Why) → IsErrOf result (AdoptFault.Bad w spot why) → (w ≡ self.old.table.weight + 1) × (check_of self.old.table self.old.presentation section ≡ Err (bad spot why)) × (count_through self.old.table w ≤ entries) }
+        ensures overflow { (w : ℕ) (op : Op) (a b : Num) → IsErrOf result (AdoptFault.Raise (RaiseFault.Overflow w op a b)) → (w ≡ self.old.table.weight + 1) × (check_of self.old.table self.old.presentation section ≡ Err (unfit (unfit_of op a b))) × (count_through self.old.table w ≤ entries) }
+        ensures unchanged { OnErr result (self.new ≡ self.old) }
+    {
+        let weight = self.weight() + 1;
+        let count = self.next_count();
+        if count > entries {
+            return Err(AdoptFault::Raise(RaiseFault::Limit { weight, count }));
+        }
+        let weighed = match accept(self.alloc, &self.table, &self.presentation, section) {
+            Ok(weighed) => weighed,
+            Err(CheckFault::NoMemory) => return Err(AdoptFault::Raise(RaiseFault::NoMemory)),
+            Err(CheckFault::Bad { spot, why }) => return Err(AdoptFault::Bad { weight, spot, why }),
+            Err(CheckFault::Unfit(u)) => {
+                return Err(AdoptFault::Raise(RaiseFault::Overflow {
+                    weight,
+                    op: u.op,
+                    a: u.a,
+                    b: u.b,
+                }));
+            }
+        };
+        match weighed.keep(&mut self.table, &mut self.sections) {
+            Ok(()) => {
+                self.count = count;
+                Ok(())
+            }
+            Err(_) => Err(AdoptFault::Raise(RaiseFault::NoMemory)),
         }
     }
 
