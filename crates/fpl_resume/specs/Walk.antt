@@ -13,7 +13,9 @@
 --                          computing, where the run computes
 --   Walked                 a stage, and why the run stopped there, if it did
 --   walk_of .. n stage     n weights, or as many as come before a stop
-use Rattle.std.specs.Prelude.{ℕ, zero, suc, List, [], ◌∷◌, ◌++◌, Bool, true, false, nat_lt, slice_range, Option, Some, None, Result, Ok, Err, if◌then◌else◌}
+--   step_cost ..           how many origins a weight has, where it is computed
+--   cost_of .. n stage     those of n weights, or of as many as come before a stop, and the one that it stops at
+use Rattle.std.specs.Prelude.{ℕ, zero, suc, List, [], ◌∷◌, ◌++◌, length, ◌+◌, Bool, true, false, ◌&&◌, nat_lt, slice_range, Option, Some, None, Result, Ok, Err, if◌then◌else◌}
 use Rattle.fpl_numbers.specs.declared.number.Num.{Num}
 use Rattle.fpl_numbers.specs.declared.number.Unfit.{Unfit}
 use Rattle.fpl_log.specs.declared.section.Section.{Section}
@@ -22,6 +24,7 @@ use Rattle.fpl_model.specs.declared.presentation.Presentation.{Presentation}
 use Rattle.fpl_table.specs.Plain.{PlainTable}
 use Rattle.fpl_table.specs.Push.{push_of}
 use Rattle.fpl_table.specs.Standard.{start_of, count_through}
+use Rattle.fpl_rewrite.specs.Origins.{origins_of}
 use Rattle.fpl_completion.specs.Weight.{close_weight}
 use Rattle.fpl_completion.specs.Section.{section_of}
 use Rattle.fpl_complete.specs.State.{slimmed}
@@ -115,3 +118,20 @@ walk_on further stage (Err stop) = stopped stage (Some stop)
 abbrev pub walk_of : (computes : Bool) → (entries : ℕ) → Presentation → Stored → ℕ → Stage → Walked
 walk_of computes entries p at zero stage = stopped stage None
 walk_of computes entries p at (suc n) stage = walk_on (walk_of computes entries p at n) stage (step_of computes entries p at stage)
+
+abbrev pub is_whole : Result Frame BadBytes → Bool
+is_whole (Ok (Whole from to)) = true
+is_whole (Ok Tail) = false
+is_whole (Err b) = false
+
+abbrev pub step_cost : (computes : Bool) → Presentation → Stored → Stage → ℕ
+step_cost computes p at stage =
+    if stage.stored && is_whole (frame_of at.bytes stage.place (next_weight stage)) then 0 else if computes then length (origins_of stage.table p) else 0
+
+abbrev pub cost_on : (Stage → ℕ) → Result Stage Stop → ℕ
+cost_on further (Ok next) = further next
+cost_on further (Err stop) = 0
+
+abbrev pub cost_of : (computes : Bool) → (entries : ℕ) → Presentation → Stored → ℕ → Stage → ℕ
+cost_of computes entries p at zero stage = 0
+cost_of computes entries p at (suc n) stage = step_cost computes p at stage + cost_on (cost_of computes entries p at n) (step_of computes entries p at stage)

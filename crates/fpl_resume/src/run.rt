@@ -5,7 +5,7 @@ ghost use Rattle.fpl_rewrite.specs.Origins.{origins_of};
 ghost use Rattle.fpl_next.specs.Raised.{IsRaised};
 ghost use Rattle.fpl_sections.specs.declared.frame.Frame.TheVariants.{Whole};
 ghost use Rattle.fpl_sections.specs.Frames.{frame_of};
-ghost use Rattle.fpl_resume.specs.Walk.{begun, step_of, computed, framed, next_weight};
+ghost use Rattle.fpl_resume.specs.Walk.{begun, step_of, step_cost, computed, framed, next_weight};
 ghost use Rattle.fpl_resume.specs.Stops.{IsStop, stored_in};
 
 use crate::Stop;
@@ -85,6 +85,12 @@ impl<F: Field> Run<F> {
         &self.state
     }
 
+    pub fn weight(&self) -> u32
+        ensures { result ≡ self.now.stage.table.weight }
+    {
+        self.state.weight()
+    }
+
     /// The place after the last section that was adopted.
     pub fn place(&self) -> usize
         ensures { result ≡ self.now.stage.place }
@@ -111,7 +117,7 @@ impl<F: Field> Run<F> {
         ensures step { OnOk result (step_of computes entries self.old.presentation (stored_in self.old bytes.now) self.old.stage ≡ Ok self.new.stage) }
         ensures stop { IfErr result (λ stop. IsStop stop (step_of computes entries self.old.presentation (stored_in self.old bytes.now) self.old.stage)) }
         ensures unchanged { OnErr result (self.new ≡ self.old) }
-        ensures most { (steps.old ≤ steps.new) × (steps.new ≤ steps.old + length (origins_of self.old.stage.table self.old.presentation)) }
+        ensures most { (steps.old ≤ steps.new) × (steps.new ≤ steps.old + step_cost computes self.old.presentation (stored_in self.old bytes.now) self.old.stage) }
     {
         let weight = self.state.weight() + 1;
         let count = self.state.next_count();
