@@ -1,12 +1,11 @@
 -- Rows that pass their tests are closed.
-use Rattle.std.specs.Prelude.{◌≡◌, ◌≢◌, ℕ, zero, suc, ◌+◌, ◌-◌, ◌<◌, ◌≤◌, ◌⊎◌, List, [], ◌∷◌, length, get_or, Option, Some, None, Result, Ok, Err, Bool, true, false, not, ◌&&◌, ◌||◌, nat_eq, nat_lt, unwrap_or, IfOk}
+use Rattle.std.specs.Prelude.{◌≡◌, ◌≢◌, ℕ, zero, suc, ◌+◌, ◌-◌, ◌<◌, ◌⊎◌, List, [], ◌∷◌, length, get_or, Option, Some, None, Result, Ok, Err, Bool, true, false, not, ◌||◌, nat_eq, nat_lt, unwrap_or, IfOk}
 use mathlib.Core.Path.{refl, sym, ap, subst, ◌∙◌}
 use mathlib.Core.Logic.{inl, inr}
 use native.Mathlib.Omega.{arith}
 use native.Mathlib.Decide.{dec_lt}
 use Rattle.std.proofs.lemmas.Bool.Decides.{nat_tests}
 use Rattle.fpl_fields.specs.Field.{Field}
-use Rattle.fpl_linear.specs.Closed.{IsClosed}
 use Rattle.fpl_numbers.specs.declared.number.Num.{Num}
 use Rattle.fpl_numbers.specs.declared.number.Kind.{Kind}
 use Rattle.fpl_numbers.specs.Numbers.{IsField, is_nought, residue}
@@ -21,8 +20,8 @@ use Rattle.fpl_rows.proofs.Readings.{at_place, nought_at, nought_past}
 use Rattle.fpl_check.specs.declared.fault.Spot.TheVariants.{Closed as AtClosed}
 use Rattle.fpl_check.specs.declared.fault.Why.TheVariants.{NotClosed}
 use Rattle.fpl_check.specs.declared.fault.CheckFault.{CheckFault}
-use Rattle.fpl_check.specs.Refusal.{passing, demand, GivesCheck}
-use Rattle.fpl_check.specs.ClosedRows.{same_num, test_lead_at, lead_or_none, test_leads, is_lead, test_crossing, test_apart}
+use Rattle.fpl_check.specs.Refusal.{demand, GivesCheck}
+use Rattle.fpl_check.specs.ClosedRows.{test_lead_at, lead_or_none, test_leads, is_lead, test_crossing, test_apart}
 use Rattle.fpl_check.proofs.ListedOrigins.{demanded, passing_first}
 use Rattle.fpl_check.proofs.Loops.{both_true, is_same, is_below}
 
@@ -174,7 +173,7 @@ module _ (kind : Kind) (listed : IsField kind) (n : ℕ) (rows : List (List Num)
           let h = lead_at j m in let a = h.from_one in let b = h.to_end in
           let x = each_apart 1 rows rows apart i l in
           let within : pivot_in rows j < length (get_or rows i []) =
-              (let p = (are i [] l).length_is in let r = (are j [] m).length_is in omega (arith, q, a, b, p, r)) in
+          (let p = (are i [] l).length_is in let r = (are j [] m).length_is in omega (arith, q, a, b, p, r)) in
           go within (crossings x.0 (is_lead rows) (lead_or_none (get_or rows i [])) 1 (get_or rows i []) x.1 (pivot_in rows j) within)
         where
           go : pivot_in rows j < length (get_or rows i []) →

@@ -1,6 +1,6 @@
 -- What the parts of a check make of its whole.
-use Rattle.std.specs.Prelude.{◌≡◌, ℕ, suc, List, [], ◌∷◌, length, drop, slice_get, Option, Some, Result, Ok, Err}
-use mathlib.Core.Path.{refl, sym, ap, subst, ◌∙◌}
+use Rattle.std.specs.Prelude.{◌≡◌, ℕ, suc, List, ◌∷◌, drop, slice_get, Some, Result, Ok}
+use mathlib.Core.Path.{sym, ap, subst, ◌∙◌}
 use Rattle.fpl_numbers.specs.declared.number.Unfit.{Unfit}
 use Rattle.fpl_numbers.specs.declared.number.Fault.{Fault}
 use Rattle.fpl_numbers.specs.declared.number.Fault.TheVariants.{NoMemory}
@@ -10,7 +10,7 @@ use Rattle.fpl_log.proofs.TermsTaken.{drop_next}
 use Rattle.fpl_check.specs.declared.fault.CheckFault.{CheckFault}
 use Rattle.fpl_check.specs.declared.fault.CheckFault.TheVariants.{Bad, NoMemory as no_memory}
 use Rattle.fpl_check.specs.declared.fault.CheckFault.TheVariants.{Unfit as unfits}
-use Rattle.fpl_check.specs.Refusal.{Refusal, bad, unfit, exactly, passing, IsRefusal}
+use Rattle.fpl_check.specs.Refusal.{Refusal, exactly, passing, IsRefusal}
 use Rattle.fpl_check.specs.Faults.{fault_as}
 
 -- a test that passes leaves the rest, and one that refuses decides

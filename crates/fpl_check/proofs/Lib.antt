@@ -1,10 +1,11 @@
 mod Composed
-mod Loops
-mod ListedOrigins
+pub mod Loops
+pub mod ListedOrigins
 mod Marks
-mod StoredRows
+pub mod StoredRows
 mod Weighed
 mod Tested
-mod ClosedTests
-mod PassedTests
+pub mod ClosedTests
+pub mod PassedTests
 mod LawsPassed
+pub mod AcceptedSections

@@ -1,5 +1,5 @@
 -- Origins that pass their test are those of the weight; and the tests of origins, one after the other.
-use Rattle.std.specs.Prelude.{◌≡◌, ℕ, zero, suc, ◌+◌, ◌-◌, ◌*◌, ◌<◌, ◌≤◌, List, [], ◌∷◌, length, slice_get, get_or, Option, Some, None, Result, Ok, Err, Bool, true, false, ◌&&◌, nat_le, nat_lt, nat_eq, Contains, All}
+use Rattle.std.specs.Prelude.{◌≡◌, ℕ, zero, suc, ◌+◌, ◌-◌, ◌*◌, ◌<◌, ◌≤◌, List, [], ◌∷◌, length, slice_get, Option, Some, None, Result, Ok, Err, Bool, true, false, ◌&&◌, nat_le, nat_lt, nat_eq, Contains, All}
 use mathlib.Core.Path.{refl, sym, ap, subst, ◌∙◌}
 use native.Mathlib.Omega.{arith}
 use Rattle.std.proofs.lemmas.Bool.Decides.{nat_tests}
@@ -19,7 +19,7 @@ use Rattle.fpl_log.specs.declared.step.Step.{Step}
 use Rattle.fpl_log.specs.declared.step.Origin.{Origin}
 use Rattle.fpl_log.specs.declared.step.Origin.TheVariants.{Relation, Jacobi, Cube, Row}
 use Rattle.fpl_log.specs.Plain.{IsTermOf}
-use Rattle.fpl_table.specs.Plain.{PlainTable, plain_basis}
+use Rattle.fpl_table.specs.Plain.{PlainTable}
 use Rattle.fpl_rewrite.specs.Origins.{relation_weight, is_exactly, is_triple, is_cube, is_three, origins_of}
 use Rattle.fpl_faithful.proofs.Pairs.{weight, parity}
 use Rattle.fpl_faithful.proofs.Listed.{IsTriple, IsCube, IsListed, listed_relation, listed_triple, listed_cube, is_listed}
@@ -28,9 +28,9 @@ use Rattle.fpl_check.specs.declared.fault.Spot.TheVariants.{Step as AtStep}
 use Rattle.fpl_check.specs.declared.fault.Why.TheVariants.{BadCite}
 use Rattle.fpl_check.specs.declared.cites.Cited.{Cited}
 use Rattle.fpl_check.specs.declared.cites.Cited.TheVariants.{Inserts, Closes}
-use Rattle.fpl_check.specs.Refusal.{Refusal, bad, passing, demand, IsRefusal}
+use Rattle.fpl_check.specs.Refusal.{Refusal, passing, demand, IsRefusal}
 use Rattle.fpl_check.specs.Premises.{AreFactorsOf}
-use Rattle.fpl_check.specs.Steps.{weighs_next, is_relation, is_triple_of, is_cube_of, is_origin, is_insert, is_close, names_insert, names_close, test_cites}
+use Rattle.fpl_check.specs.Steps.{weighs_next, is_origin, is_insert, is_close, test_cites}
 use Rattle.fpl_check.specs.Cited.{named}
 use Rattle.fpl_check.specs.Check.{test_origin, test_origins}
 use Rattle.fpl_check.proofs.Composed.{passed, refused, same_refusal}

@@ -1,5 +1,5 @@
 -- How each test of a list goes on past an element, and where it stops.
-use Rattle.std.specs.Prelude.{◌≡◌, ℕ, zero, suc, ◌+◌, ◌-◌, ◌<◌, ◌≤◌, ◌⊎◌, List, [], ◌∷◌, ◌++◌, length, map, drop, take, slice_get, slice_set, slice_index_or, Option, Some, None, Result, Ok, Err, Bool, true, false, not, ◌&&◌, ◌||◌, nat_lt, nat_le, nat_eq, IsTrue, ◌↔◌, All}
+use Rattle.std.specs.Prelude.{◌≡◌, ℕ, zero, suc, ◌+◌, ◌-◌, ◌<◌, ◌≤◌, ◌⊎◌, List, [], ◌∷◌, ◌++◌, length, drop, slice_get, slice_set, slice_index_or, Option, Some, None, Result, Ok, Err, Bool, true, false, not, ◌&&◌, ◌||◌, nat_lt, nat_le, nat_eq, IsTrue, ◌↔◌}
 use mathlib.Core.Path.{refl, sym, ap, ap₂, subst, ◌∙◌}
 use mathlib.Core.Logic.{inl, inr}
 use native.Mathlib.Omega.{arith}
@@ -272,7 +272,7 @@ pub place_next : (xs : List Num) (k : ℕ) → k < length xs → drop k xs ≡ s
 place_next xs k l = drop_next xs k (slice_index_or xs k (residue 0)) (sym (slice_get-get_or xs k (residue 0) l))
 
 -- two numbers are tested
-same_is : (x y : Num) → x ≡ y → same_num x y ≡ true
+pub same_is : (x y : Num) → x ≡ y → same_num x y ≡ true
 same_is x y e = ap₂ (λ a b. a && b) ((Decides-int_eq x.numerator y.numerator).1 (ap (λ z. z.numerator) e)) ((Decides-int_eq x.denominator y.denominator).1 (ap (λ z. z.denominator) e))
 
 pub is_same : (x y : Num) → same_num x y ≡ true → x ≡ y

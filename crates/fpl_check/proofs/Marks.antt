@@ -1,6 +1,6 @@
 -- Marks at the greatest symbols of rows.
-use Rattle.std.specs.Prelude.{◌≡◌, ◌≢◌, ℕ, zero, suc, ◌+◌, ◌-◌, ◌<◌, ◌≤◌, List, [], ◌∷◌, length, replicate, slice_set, slice_get, Option, Some, None, Bool, true, false, not, ◌||◌, nat_eq, drop, get_or, unwrap_or}
-use mathlib.Core.Path.{refl, sym, ap, subst, ◌∙◌}
+use Rattle.std.specs.Prelude.{◌≡◌, ◌≢◌, ℕ, ◌+◌, ◌-◌, ◌<◌, ◌≤◌, List, [], ◌∷◌, length, replicate, slice_set, Some, None, Bool, true, false, not, ◌||◌, nat_eq, unwrap_or}
+use mathlib.Core.Path.{refl, sym, ap, ◌∙◌}
 use native.Mathlib.Omega.{arith}
 use native.Mathlib.Decide.{ℕ_discrete}
 use Rattle.std.proofs.lemmas.Bool.Decides.{nat_tests}
@@ -12,7 +12,7 @@ use Rattle.fpl_rows.specs.Positions.{lead_of}
 use Rattle.fpl_check.specs.declared.fault.Spot.TheVariants.{Closed as AtClosed}
 use Rattle.fpl_check.specs.declared.fault.Why.TheVariants.{NotClosed}
 use Rattle.fpl_check.specs.Refusal.{passing, demand}
-use Rattle.fpl_check.specs.ClosedRows.{lead_or_none, is_lead, test_crossing}
+use Rattle.fpl_check.specs.ClosedRows.{is_lead, test_crossing}
 use Rattle.fpl_check.specs.Leads.{marked, IsMarking}
 
 pub none_marked : (n : ℕ) → IsMarking n [] (replicate n false)

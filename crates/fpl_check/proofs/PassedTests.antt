@@ -1,11 +1,11 @@
 -- An accepted section has closed rows that span exactly the source rows.
-use Rattle.std.specs.Prelude.{◌≡◌, ◌≢◌, ℕ, zero, suc, ◌+◌, ◌-◌, ◌<◌, ◌≤◌, ◌↔◌, List, [], ◌∷◌, ◌++◌, length, map, get_or, slice_get, slice_index_or, Option, Some, None, Result, Ok, Err, Bool, true, false, nat_eq, Contains, All, if◌then◌else◌}
+use Rattle.std.specs.Prelude.{◌≡◌, ℕ, zero, suc, ◌+◌, ◌-◌, ◌<◌, List, [], ◌∷◌, ◌++◌, length, map, get_or, Option, Some, None, Result, Ok, Err, Bool, true, false, nat_eq, Contains, All, if◌then◌else◌}
 use mathlib.Core.Path.{refl, sym, ap, ap₂, subst, ◌∙◌}
 use native.Mathlib.Omega.{arith}
 use Rattle.std.proofs.lemmas.Bool.Decides.{nat_tests}
 use Rattle.std.proofs.lemmas.List.{get_or-map, length-map}
 use Rattle.fpl_fields.specs.Field.{Field}
-use Rattle.fpl_linear.specs.Vector.{Vector, vzero, vplus, scale}
+use Rattle.fpl_linear.specs.Vector.{Vector, vzero, scale}
 use Rattle.fpl_linear.specs.Span.{Spanned}
 use Rattle.fpl_linear.specs.Span.Spanned.{span_kind, span_none, span_sum, span_multiple}
 use Rattle.fpl_numbers.specs.declared.number.Num.{Num}
@@ -16,7 +16,7 @@ use Rattle.fpl_numbers.specs.Results.{and_then}
 use Rattle.fpl_numbers.specs.Kinds.{field_of, number_of}
 use Rattle.fpl_numbers.specs.Reads.{Reads}
 use Rattle.fpl_numbers.proofs.KindReads.{kind_reads}
-use Rattle.fpl_scalar.specs.Vectors.{AreElements, axpy_of}
+use Rattle.fpl_scalar.specs.Vectors.{axpy_of}
 use Rattle.fpl_rows.specs.Positions.{lead_of}
 use Rattle.fpl_rows.specs.Meaning.{vector_in, IsRowOf, AreRows, IsClosedList, InSpanOf}
 use Rattle.fpl_rows.proofs.Fits.{ok_same, first_fits, all_cons, all_head, all_tail, all_more}
@@ -26,7 +26,7 @@ use Rattle.fpl_log.specs.declared.step.Origin.{Origin}
 use Rattle.fpl_log.specs.declared.step.Step.{Step}
 use Rattle.fpl_log.specs.declared.step.Step.TheVariants.{Insert, Close}
 use Rattle.fpl_log.specs.declared.section.Section.{Section}
-use Rattle.fpl_log.specs.Conclusion.{cited, terms_sum, less}
+use Rattle.fpl_log.specs.Conclusion.{cited, terms_sum}
 use Rattle.fpl_log.specs.Plain.{IsTermOf, term_row, terms_off, scaled_by, conclude_of, less_in, conclusion_in}
 use Rattle.fpl_log.proofs.TermsTaken.{conclusion_means}
 use Rattle.fpl_elimination.specs.Plain.{sweep_rows}
@@ -37,14 +37,14 @@ use Rattle.fpl_rewrite.specs.Origins.{origins_of}
 use Rattle.fpl_rewrite.specs.Rows.{row_of_origin}
 use Rattle.fpl_faithful.specs.RowLaws.{Stands}
 use Rattle.fpl_check.specs.declared.fault.Spot.{Spot}
-use Rattle.fpl_check.specs.declared.fault.Spot.TheVariants.{Step as AtStep, Whole, Closed as AtClosed, Origin as AtOrigin}
-use Rattle.fpl_check.specs.declared.fault.Why.TheVariants.{BadOrigin, BadCite, Count, Differs}
+use Rattle.fpl_check.specs.declared.fault.Spot.TheVariants.{Step as AtStep, Closed as AtClosed, Origin as AtOrigin}
+use Rattle.fpl_check.specs.declared.fault.Why.TheVariants.{BadOrigin, BadCite, Differs}
 use Rattle.fpl_check.specs.declared.cites.Cited.TheVariants.{Inserts, Closes}
 use Rattle.fpl_check.specs.Refusal.{Refusal, exactly, passing, demand}
-use Rattle.fpl_check.specs.Premises.{AreFactorsOf, HasNumbersOf, AreCoefficientsOf, IsSectionFor}
+use Rattle.fpl_check.specs.Premises.{AreFactorsOf, HasNumbersOf, IsSectionFor}
 use Rattle.fpl_check.specs.Steps.{is_origin, names_insert, names_close, test_cites, remainder_at, test_zero, scale_if, test_dependent, insert_of_step, close_of_step, conclusion_of_step, conclusions_from, conclusions_of}
 use Rattle.fpl_check.specs.ClosedRows.{close_count, test_closes, test_forms, stored_row, close_rows, same_num, test_same, test_conclusions, test_leads, test_apart}
-use Rattle.fpl_check.specs.Check.{test_count, test_origin, test_origins, rows_stored, test_closed, check_of, Accepts}
+use Rattle.fpl_check.specs.Check.{test_count, test_origin, test_origins, rows_stored, test_closed, Accepts}
 use Rattle.fpl_check.proofs.ListedOrigins.{demanded, passing_first, origin_listed, named_within, terms_pass}
 use Rattle.fpl_check.proofs.Loops.{is_same}
 use Rattle.fpl_check.proofs.StoredRows.{stored_rows}
@@ -202,13 +202,13 @@ module _ (T : PlainTable) (is_field : IsField T.kind) (p : Presentation) (vector
         length_more (y ∷ xs) x = let h = length_more xs x in omega (arith, h)
 
 -- the conclusions of Close steps are among all
-close_among : (P : List Num → Type 0) (steps : List Step) (rows : List (List Num)) → All P rows → All P (close_rows steps rows)
+pub close_among : (P : List Num → Type 0) (steps : List Step) (rows : List (List Num)) → All P rows → All P (close_rows steps rows)
 close_among P [] rows all = λ i d l. absurd (omega (arith, l))
 close_among P (s ∷ ss) [] all = λ i d l. absurd (omega (arith, l))
 close_among P ((Insert o ts k) ∷ ss) (row ∷ rows) all = close_among P ss rows (all_tail P row rows all)
 close_among P ((Close of ts) ∷ ss) (row ∷ rows) all = all_cons P row (close_rows ss rows) (all_head P row rows all) (close_among P ss rows (all_tail P row rows all))
 
-close_length : (steps : List Step) (rows : List (List Num)) → length rows ≡ length steps → length (close_rows steps rows) ≡ close_count steps
+pub close_length : (steps : List Step) (rows : List (List Num)) → length rows ≡ length steps → length (close_rows steps rows) ≡ close_count steps
 close_length [] rows e = refl
 close_length (s ∷ ss) [] e = absurd (omega (arith, e))
 close_length ((Insert o ts k) ∷ ss) (row ∷ rows) e = close_length ss rows (omega (arith, e))
@@ -223,7 +223,7 @@ rows_same k s (x ∷ xs) (y ∷ ys) l e =
     let a = passing_first (demand (same_num x y) (AtClosed k) (Differs s x y)) (test_same k (s + 1) xs ys) tt e in
     ap₂ (λ z zs. z ∷ zs) (is_same x y (demanded _ _ _ a.0)) (rows_same k (s + 1) xs ys (omega (arith, l)) a.1)
 
-all_same : (kind : Kind) (n k : ℕ) (rows closes : List (List Num)) → AreRows kind n rows → AreRows kind n closes → length rows ≡ length closes → test_conclusions k rows closes ≡ Ok tt → rows ≡ closes
+pub all_same : (kind : Kind) (n k : ℕ) (rows closes : List (List Num)) → AreRows kind n rows → AreRows kind n closes → length rows ≡ length closes → test_conclusions k rows closes ≡ Ok tt → rows ≡ closes
 all_same kind n k [] [] a b l e = refl
 all_same kind n k [] (c ∷ cs) a b l e = absurd (omega (arith, l))
 all_same kind n k (r ∷ rs) [] a b l e = absurd (omega (arith, l))
@@ -232,11 +232,11 @@ all_same kind n k (r ∷ rs) (c ∷ cs) a b l e =
     ap₂ (λ z zs. z ∷ zs) (rows_same k 1 r c ((all_head (IsRowOf kind n) r rs a).length_is ∙ sym (all_head (IsRowOf kind n) c cs b).length_is) t.0)
     (all_same kind n (k + 1) rs cs (all_tail (IsRowOf kind n) r rs a) (all_tail (IsRowOf kind n) c cs b) (omega (arith, l)) t.1)
 
-same_count : (a b : ℕ) → nat_eq a b ≡ true → a ≡ b
+pub same_count : (a b : ℕ) → nat_eq a b ≡ true → a ≡ b
 same_count a b e = grind (arith, nat_tests)
 
 -- a row that must be zero is
-zero_is : (spot : Spot) (row : List Num) → test_zero spot row ≡ Ok tt → lead_of row ≡ None
+pub zero_is : (spot : Spot) (row : List Num) → test_zero spot row ≡ Ok tt → lead_of row ≡ None
 zero_is spot row e = go (lead_of row) e
   where
     go : (o : Option ℕ) → remainder_at spot row o ≡ Ok tt → o ≡ None
@@ -292,18 +292,23 @@ module _ (T : PlainTable) (is_field : IsField T.kind) (p : Presentation) (s : Se
   pub passed_closed : (rows : List (List Num)) → Passes rows → IsClosedList T.kind (length (symbols_in T)) rows
   passed_closed rows k = are_closed T.kind is_field (length (symbols_in T)) rows (passed_rows rows k) k.leads k.apart
 
+  -- the closed rows are the conclusions of the Close steps
+  pub passed_same : (rows : List (List Num)) (k : Passes rows) → AreRows T.kind (length (symbols_in T)) k.conclusions → length k.conclusions ≡ length s.steps → rows ≡ close_rows s.steps k.conclusions
+  passed_same rows k are whole =
+      let closes = close_among (IsRowOf T.kind (length (symbols_in T))) s.steps k.conclusions are in
+      let count : close_count s.steps ≡ length s.closed = same_count _ _ (demanded _ _ _ k.closes) in
+      let many : length rows ≡ length (close_rows s.steps k.conclusions) =
+      ap length (sym k.are) ∙ length-map s.closed (stored_row (length (symbols_in T))) ∙ sym count ∙ sym (close_length s.steps k.conclusions whole) in
+      all_same T.kind (length (symbols_in T)) 1 rows (close_rows s.steps k.conclusions) (passed_rows rows k) closes many k.same
+
   module _ (vector : Origin → Vector (field_of T.kind)) (stand : RowsStand T is_field p vector) where
     -- the closed rows are conclusions, so they are in the span of the origins' vectors
     pub passed_spanned : (rows : List (List Num)) → Passes rows → All (IsSpannedRow T is_field p vector) rows
     passed_spanned rows k =
         let r = conclusions_spanned T is_field p vector stand s.steps [] s.steps k.conclusions (λ i d l. absurd (omega (arith, l))) section.numbers.steps k.concluded in
         let closes = close_among (IsSpannedRow T is_field p vector) s.steps k.conclusions r.0 in
-        let count : close_count s.steps ≡ length s.closed = same_count _ _ (demanded _ _ _ k.closes) in
         let whole : length k.conclusions ≡ length s.steps = (let l = r.1 in omega (arith, l)) in
-        let many : length rows ≡ length (close_rows s.steps k.conclusions) =
-            ap length (sym k.are) ∙ length-map s.closed (stored_row (length (symbols_in T))) ∙ sym count ∙ sym (close_length s.steps k.conclusions whole) in
-        subst (All (IsSpannedRow T is_field p vector))
-        (sym (all_same T.kind (length (symbols_in T)) 1 rows (close_rows s.steps k.conclusions) (passed_rows rows k) (λ i d l. (closes i d l).row) many k.same)) closes
+        subst (All (IsSpannedRow T is_field p vector)) (sym (passed_same rows k (λ i d l. (r.0 i d l).row) whole)) closes
 
     -- and the origins' vectors are in their span
     pub passed_each : (rows : List (List Num)) → Passes rows → (o : Origin) → Contains (origins_of T p) o → InSpanOf T.kind rows (vector o)

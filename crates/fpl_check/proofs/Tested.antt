@@ -1,13 +1,11 @@
 -- What tests that pass tell of closed rows.
-use Rattle.std.specs.Prelude.{◌≡◌, ℕ, zero, suc, ◌+◌, ◌-◌, ◌<◌, ◌≤◌, List, [], ◌∷◌, length, map, All, Result, Ok, Err, Bool, true, false}
-use mathlib.Core.Path.{refl, sym, ap, subst, ◌∙◌}
+use Rattle.std.specs.Prelude.{◌≡◌, ℕ, ◌+◌, List, [], ◌∷◌, All, Ok, true}
 use native.Mathlib.Omega.{arith}
-use Rattle.fpl_numbers.specs.declared.number.Num.{Num}
 use Rattle.fpl_rows.proofs.Fits.{all_cons}
 use Rattle.fpl_log.specs.declared.closed.Coefficient.{Coefficient}
 use Rattle.fpl_check.specs.declared.fault.Spot.TheVariants.{Closed as AtClosed}
 use Rattle.fpl_check.specs.declared.fault.Why.TheVariants.{RowForm}
-use Rattle.fpl_check.specs.Refusal.{passing, demand}
+use Rattle.fpl_check.specs.Refusal.{demand}
 use Rattle.fpl_check.specs.ClosedRows.{is_formed, test_forms}
 use Rattle.fpl_check.proofs.ListedOrigins.{demanded, passing_first}
 

@@ -9,7 +9,7 @@ use Rattle.fpl_numbers.specs.declared.number.Num.{Num}
 use Rattle.fpl_numbers.specs.Kinds.{field_of}
 use Rattle.fpl_rows.specs.Meaning.{row_in, vector_in, IsClosedList}
 use Rattle.fpl_algebra.specs.Tree.{none}
-use Rattle.fpl_algebra.specs.Derives.{Derives, Expression}
+use Rattle.fpl_algebra.specs.Derives.{Derives}
 use Rattle.fpl_algebra.specs.SourceRows.{IsSource}
 use Rattle.fpl_algebra.specs.Standard.{IsStandard}
 use Rattle.fpl_theorems.specs.Standard.{over_symbols}

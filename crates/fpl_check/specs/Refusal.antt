@@ -8,7 +8,6 @@
 --   GivesCheck by r e     e is Ok value where r is Ok; else r's error is a fault of e
 use Rattle.std.specs.Prelude.{◌≡◌, Bool, true, false, Result, Ok, Err}
 use Rattle.fpl_numbers.specs.declared.number.Unfit.{Unfit}
-use Rattle.fpl_numbers.specs.Results.{and_then}
 use Rattle.fpl_check.specs.declared.fault.Spot.{Spot}
 use Rattle.fpl_check.specs.declared.fault.Why.{Why}
 use Rattle.fpl_check.specs.declared.fault.CheckFault.{CheckFault}

@@ -11,7 +11,7 @@
 --   conclusions_of T p s                 the conclusions of all steps of a section, in order
 --
 -- An Insert step with scale 0 concludes its row less its terms, which is zero where its test passes.
-use Rattle.std.specs.Prelude.{ℕ, ◌+◌, ◌-◌, List, [], ◌∷◌, ◌++◌, length, Option, Some, None, slice_get, slice_index_or, Result, Ok, Err, Bool, true, false, cond, ◌&&◌, nat_le, nat_lt, if◌then◌else◌}
+use Rattle.std.specs.Prelude.{ℕ, ◌+◌, ◌-◌, List, [], ◌∷◌, ◌++◌, length, Option, Some, None, slice_get, slice_index_or, Result, Ok, Err, Bool, true, false, ◌&&◌, nat_le, nat_lt, if◌then◌else◌}
 use Rattle.fpl_numbers.specs.declared.number.Num.{Num}
 use Rattle.fpl_numbers.specs.Numbers.{is_nought, residue}
 use Rattle.fpl_numbers.specs.Results.{and_then}

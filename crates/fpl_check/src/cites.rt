@@ -34,12 +34,7 @@ pub fn is_named(cited: Cited, steps: &StepList, n: u64, m: u64) -> bool
 }
 
 /// Tests that the terms of step `n` cite such steps alone.
-pub fn test_cites(
-    cited: Cited,
-    steps: &StepList,
-    n: u64,
-    terms: &Terms,
-) -> Result<(), CheckFault>
+pub fn test_cites(cited: Cited, steps: &StepList, n: u64, terms: &Terms) -> Result<(), CheckFault>
     ensures { GivesCheck (λ done. done) result (test_cites (named cited steps.now n) n terms.now) }
 {
     for i in 0..terms.len() {

@@ -138,12 +138,7 @@ fn test_conclusions<F: Field>(
 }
 
 /// Tests that the rows are closed.
-fn test_rows<F: Field>(
-    alloc: Global,
-    field: &F,
-    n: u32,
-    rows: &Rows<F>,
-) -> Result<(), CheckFault>
+fn test_rows<F: Field>(alloc: Global, field: &F, n: u32, rows: &Rows<F>) -> Result<(), CheckFault>
     requires rows { AreRows (F.kind_of field.now) n rows.now }
     requires few { length rows.now < 2 ^ 32 }
     ensures value { GivesCheck (λ done. done) result (passing (test_leads 1 0 rows.now) (test_apart 1 rows.now rows.now)) }

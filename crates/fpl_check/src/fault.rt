@@ -18,11 +18,20 @@ pub enum Why {
     /// A step cites this step, which is no earlier step of the sort that it may cite.
     BadCite(u64),
     /// A row that must be zero isn't: its greatest symbol, and the number there.
-    Remainder { symbol: u32, number: Num },
+    Remainder {
+        symbol: u32,
+        number: Num,
+    },
     /// The numbers of Close steps and of closed rows differ.
-    Count { closes: u64, rows: u64 },
+    Count {
+        closes: u64,
+        rows: u64,
+    },
     /// The section tells another number of origins than its weight has.
-    OriginCount { stored: u64, found: u64 },
+    OriginCount {
+        stored: u64,
+        found: u64,
+    },
     /// The coefficients of a closed row don't tell a row: their symbols must ascend and be of the
     /// weight, and no number is 0.
     RowForm,
@@ -35,7 +44,9 @@ pub enum Why {
     /// The closed rows aren't closed. Symbol 0 where the row is zero; its greatest symbol where
     /// its number there isn't 1, or that symbol isn't greater than that of the row before; else
     /// the least symbol at which another row has its greatest.
-    NotClosed { symbol: u32 },
+    NotClosed {
+        symbol: u32,
+    },
 }
 
 /// Why a section was not accepted.

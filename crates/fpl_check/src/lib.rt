@@ -14,6 +14,6 @@ mod steps;
 mod stored;
 
 pub use check::check_section;
+pub use fault::{CheckFault, Spot, Why};
 pub use laws::accepted;
 pub use origins::count_origins;
-pub use fault::{CheckFault, Spot, Why};

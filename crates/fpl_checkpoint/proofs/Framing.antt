@@ -1,9 +1,9 @@
 -- The bytes of a head, and the text that they hold.
-use Rattle.std.proofs.Common.{◌≡◌, ℕ, zero, suc, ◌+◌, ◌-◌, ◌^◌, ◌<◌, ◌≤◌, Bool, true, false, List, [], ◌∷◌, ◌++◌, length, get_or, take, drop, Option, Some, None, Result, Ok, Err, refl, sym, ap, ap₂, subst, ◌∙◌, append_assoc, arith, ◌⊎◌, inl, inr}
+use Rattle.std.proofs.Common.{◌≡◌, ℕ, ◌+◌, ◌^◌, ◌<◌, ◌≤◌, Bool, true, false, List, [], ◌∷◌, ◌++◌, length, take, drop, Option, Some, None, Result, Ok, refl, sym, ap, ap₂, subst, ◌∙◌, append_assoc, arith, ◌⊎◌, inl, inr}
 use Rattle.std.specs.Prelude.{◌==◌, ◌&&◌, ◌||◌, nat_lt, if◌then◌else◌}
 use Rattle.std.specs.Int.{w32, to_be_bytes}
 use Rattle.std.proofs.lemmas.Bool.{ltb-false, le-ltb, eqb-true, and_parts, or_cases}
-use Rattle.std.proofs.lemmas.List.{take_at, drop-drop, take-append-drop, length-append, length-take-le, length-drop}
+use Rattle.std.proofs.lemmas.List.{take_at, drop-drop, take-append-drop, length-append, length-take-le}
 use Rattle.fpl_bytes.specs.declared.fault.ByteWhy.{ByteWhy}
 use Rattle.fpl_bytes.specs.declared.fault.ByteWhy.TheVariants.{NotCheckpoint, HeadCut, UnknownVersion}
 use Rattle.fpl_bytes.specs.declared.fault.BadBytes.{BadBytes}
@@ -85,7 +85,7 @@ text_held bytes version text fits e =
     let rest : drop (9 + length text) bytes ≡ drop t.0.0 t.0.1 = ap (λ (n : ℕ). drop (9 + n) bytes) size ∙ sym (drop-drop t.0.0 9 bytes) ∙ ap (drop t.0.0) after in
     let split : t.0.1 ≡ text ++ drop (9 + length text) bytes = sym (take-append-drop t.0.0 t.0.1) ∙ ap₂ (λ (x y : List ℕ). x ++ y) t.4 (sym rest) in
     let tail : drop 5 bytes ≡ (to_be_bytes w32 (length text) ++ text) ++ drop (9 + length text) bytes =
-      u.0.parts ∙ ap₂ (λ (n : ℕ) (l : List ℕ). to_be_bytes w32 n ++ l) (sym size) split ∙ sym (append_assoc (to_be_bytes w32 (length text)) text (drop (9 + length text) bytes)) in
+    u.0.parts ∙ ap₂ (λ (n : ℕ) (l : List ℕ). to_be_bytes w32 n ++ l) (sym size) split ∙ sym (append_assoc (to_be_bytes w32 (length text)) text (drop (9 + length text) bytes)) in
     let front : bytes ≡ 0xf1 ∷ 0x46 ∷ 0x50 ∷ 0x4c ∷ byte bytes 4 ∷ drop 5 bytes = cells_are bytes 0xf1 0x46 0x50 0x4c (omega arith) (eqb-true _ _ p.0) (eqb-true _ _ letters.0) (eqb-true _ _ letters.1) (eqb-true _ _ names.1) in
     record {
       known = subst (λ (n : ℕ). (n ≡ 1) ⊎ (n ≡ 2)) t.3 (one_of (byte bytes 4) (or_cases (byte bytes 4 == 1) (byte bytes 4 == 2) s.0));

@@ -1,10 +1,8 @@
 -- Bytes have one head, or one refusal of it.
-use Rattle.std.proofs.Common.{◌≡◌, ℕ, ◌+◌, ◌^◌, ◌<◌, Bool, true, false, List, ◌++◌, length, drop, eqb, Result, Ok, Err, refl, sym, ap, subst, ◌∙◌, ◌⊎◌, inl, inr}
+use Rattle.std.proofs.Common.{◌≡◌, ℕ, ◌+◌, ◌^◌, ◌<◌, true, List, ◌++◌, length, drop, Result, Ok, Err, refl, sym, ap, subst, ◌∙◌, ◌⊎◌, inl, inr}
 use Rattle.std.specs.Prelude.{◌==◌, ◌||◌}
 use Rattle.fpl_model.specs.declared.presentation.Presentation.{Presentation}
-use Rattle.fpl_model.specs.Sound.{IsSound}
-use Rattle.fpl_reader.specs.declared.fault.Reason.{Reason}
-use Rattle.fpl_reader.specs.Reading.{HasPresentation, IsRefused}
+use Rattle.fpl_reader.specs.Reading.{HasPresentation}
 use Rattle.fpl_reader.proofs.OneAnswer.{one_presentation, some_answer}
 use Rattle.fpl_canonical.specs.Canonical.{canonical_of}
 use Rattle.fpl_bytes.specs.declared.fault.ByteWhy.TheVariants.{HeadText}

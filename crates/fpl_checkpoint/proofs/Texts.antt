@@ -1,5 +1,5 @@
 -- A text has one reading at most, so that one that isn't the canonical text of its reading is the canonical text of none.
-use Rattle.std.proofs.Common.{◌≡◌, ℕ, zero, suc, Bool, true, List, [], ◌∷◌, eqb, refl, sym, ap, ap₂, ◌∙◌, ◌⊎◌, inl, inr}
+use Rattle.std.proofs.Common.{◌≡◌, ℕ, true, List, [], ◌∷◌, eqb, refl, sym, ap, ap₂, ◌∙◌, ◌⊎◌, inl, inr}
 use Rattle.std.proofs.lemmas.Bool.{eq-eqb, cases_eq}
 use lib.Pointwise.{pointwise}
 use Rattle.fpl_model.specs.declared.presentation.Presentation.{Presentation}

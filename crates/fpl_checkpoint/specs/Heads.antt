@@ -3,7 +3,7 @@
 --   VERSION                 the version that is written
 --   head_bytes_of n p       f1 46 50 4c, the version n, how many bytes the canonical text has in 4 bytes, the text
 --   head_text bytes         the version and the text of a head, or the first of the tests of its bytes that fails
-use Rattle.std.specs.Prelude.{ℕ, List, [], ◌∷◌, ◌++◌, length, take, drop, slice_index_or, ◌==◌, ◌&&◌, ◌||◌, nat_lt, Option, Some, None, Result, Ok, Err, if◌then◌else◌}
+use Rattle.std.specs.Prelude.{ℕ, List, ◌∷◌, ◌++◌, length, take, drop, slice_index_or, ◌==◌, ◌&&◌, ◌||◌, nat_lt, Option, Some, None, Result, Ok, Err, if◌then◌else◌}
 use Rattle.std.specs.Int.{w32, to_be_bytes}
 use Rattle.fpl_model.specs.declared.presentation.Presentation.{Presentation}
 use Rattle.fpl_canonical.specs.Canonical.{canonical_of}

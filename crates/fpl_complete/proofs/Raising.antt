@@ -36,7 +36,7 @@ use Rattle.fpl_completion.specs.Section.{section_of}
 use Rattle.fpl_completion.proofs.Fitting.{close_weight_fits}
 use Rattle.fpl_completion.proofs.Completed.{next_holds, next_raised}
 use Rattle.fpl_completion.proofs.Counts.{counts_pushed}
-use Rattle.fpl_complete.specs.State.{section_at, no_section, AreOfWeights, IsState, PlainWeighed, weighed_as}
+use Rattle.fpl_complete.specs.State.{section_at, no_section, AreOfWeights, PlainState, IsState, PlainWeighed, weighed_as}
 use Rattle.fpl_complete.proofs.Closing.{symbols_counted}
 use Rattle.fpl_complete.proofs.Weighing.{weighed}
 
@@ -117,6 +117,15 @@ module _ (T : PlainTable) (p : Presentation) (n m : ℕ) (sections : List Sectio
       SpansKind (field_of p.field) (IsSource (field_of p.field) (presentation_in p) (table_in p.field T)) (length rows) (row_in p.field rows) → IsState p (push_of T rows) m (sections ++ section ∷ [])
   state_adopted below weight closed spans =
       state_more weight (push_holds p T rows state.holds below (few_symbols T m whole few) closed spans) (pushed T rows state.raised closed spans)
+
+-- what a weight's run gives, and a state keeps
+abbrev pub Keeps : PlainState → PlainTable → List Section → Type 0
+Keeps s T sections =
+    (h : Held) × (close_weight s.table s.presentation ≡ Ok h) × (T ≡ push_of s.table (rows_of h.pivots)) × (sections ≡ s.sections ++ section_of s.table s.presentation h ∷ [])
+
+pub keeps : (s : PlainState) (T : PlainTable) (sections : List Section) (rows : List (List Num)) (section : Section) → Weighs s.table s.presentation rows section →
+    T ≡ push_of s.table rows → sections ≡ s.sections ++ section ∷ [] → Keeps s T sections
+keeps s T sections rows section c e f = (c.held, c.run, e ∙ ap (push_of s.table) c.rows_are, f ∙ ap (λ (x : Section). s.sections ++ x ∷ []) c.section_is)
 
 -- the counts of a table with a weight more
 pub counts_more : (T : PlainTable) → HasShape T → (rows : List (List Num)) (v : ℕ) → v ≤ T.weight + 1 → count_through (push_of T rows) v ≡ count_through T v

@@ -2,13 +2,14 @@ ghost use Rattle.std.specs.Prelude.{◌≡◌, ◌≤◌, ◌<◌, ◌+◌, ◌-
 ghost use Rattle.fpl_numbers.specs.declared.number.Num.{Num};
 ghost use Rattle.fpl_numbers.specs.declared.number.Op.{Op};
 ghost use Rattle.fpl_numbers.specs.declared.number.Kind.{Kind};
+ghost use Rattle.fpl_elimination.specs.Plain.{Held, rows_of};
 ghost use Rattle.fpl_model.specs.Sound.{IsSound};
 ghost use Rattle.fpl_table.specs.Push.{push_of};
 ghost use Rattle.fpl_table.specs.Standard.{start_of, count_through, IsTableOf};
 ghost use Rattle.fpl_rewrite.specs.Origins.{origins_of};
 ghost use Rattle.fpl_next.specs.Raised.{IsRaised};
 ghost use Rattle.fpl_completion.specs.Weight.{close_weight, next_of};
-ghost use Rattle.fpl_completion.specs.Section.{Computes, OverflowsAt};
+ghost use Rattle.fpl_completion.specs.Section.{section_of, Computes, OverflowsAt};
 ghost use Rattle.fpl_check.specs.declared.fault.Spot.{Spot};
 ghost use Rattle.fpl_check.specs.declared.fault.Why.{Why};
 ghost use Rattle.fpl_check.specs.Refusal.{bad, unfit};
@@ -125,6 +126,7 @@ impl<F: Field> State<F> {
         requires weight { self.old.table.weight < 1000 }
         requires entries { entries ≤ 2000000 }
         ensures presentation { self.new.presentation ≡ self.old.presentation }
+        ensures value { OnOk result ((h : Held) × (close_weight self.old.table self.old.presentation ≡ Ok h) × (self.new.table ≡ push_of self.old.table (rows_of h.pivots)) × (self.new.sections ≡ self.old.sections ++ section_of self.old.table self.old.presentation h ∷ [])) }
         ensures next { OnOk result (next_of self.old.table self.old.presentation ≡ Ok self.new.table) }
         ensures weight { OnOk result (self.new.table.weight ≡ self.old.table.weight + 1) }
         ensures sections { OnOk result (self.new.sections ≡ self.old.sections ++ section_at self.new.sections self.new.table.weight ∷ []) }

@@ -119,7 +119,7 @@ module _ (kind : Kind) (listed : IsField kind) (n : ℕ) where
   reads = kind_reads kind listed
 
   -- the scale of a row that is kept is not 0
-  scale_stays : (a : Num) → IsElement kind a → is_nought a ≡ false → is_nought (inverse_of kind a) ≡ false
+  pub scale_stays : (a : Num) → IsElement kind a → is_nought a ≡ false → is_nought (inverse_of kind a) ≡ false
   scale_stays a is e = go (is_nought (inverse_of kind a)) refl
     where
       go : (b : Bool) → is_nought (inverse_of kind a) ≡ b → b ≡ false

@@ -34,7 +34,7 @@ divided-one : (n : ℤ) → divided n 1 ≡ n
 divided-one (pos n) = ap pos (div-one n)
 divided-one (negsuc n) = ap (λ m. neg_ℤ (pos m)) (div-one (suc n))
 
-times-one : (n : ℤ) → n *ℤ pos 1 ≡ n
+pub times-one : (n : ℤ) → n *ℤ pos 1 ≡ n
 times-one (pos n) = ap pos (let e : n * 1 ≡ n = omega arith in e)
 times-one (negsuc n) = ap (λ m. neg_ℤ (pos m)) (let e : suc n * 1 ≡ suc n = omega arith in e)
 

@@ -65,15 +65,15 @@ total_more : (x : Expr) (ys : List Expr) (es : Trees Num) → 1 ≤ many es → 
 total_more x [] es some h = absurd (let none_left : many es ≡ 0 = ap many (sym h) in omega arith)
 total_more x (y ∷ ys) es some h = plain-Sum (x ∷ y ∷ ys) ∙ ap (λ ts. sum_of (more (plain x) ts)) h
 
-term_whole : (scope : Scope) (t : Bool) (place n : ℕ) (e : Expr) → plain (term_of scope t (Whole (record { place = place; value = n })) e) ≡ multiple (coefficient_of scope.kind t n 1) (plain e)
+pub term_whole : (scope : Scope) (t : Bool) (place n : ℕ) (e : Expr) → plain (term_of scope t (Whole (record { place = place; value = n })) e) ≡ multiple (coefficient_of scope.kind t n 1) (plain e)
 term_whole scope true place n e = plain-Times _ e
 term_whole scope false place n e = plain-Times _ e
 
-term_quotient : (scope : Scope) (t : Bool) (at below n d : ℕ) (e : Expr) → plain (term_of scope t (Quotient (record { place = at; value = n }) (record { place = below; value = d })) e) ≡ multiple (coefficient_of scope.kind t n d) (plain e)
+pub term_quotient : (scope : Scope) (t : Bool) (at below n d : ℕ) (e : Expr) → plain (term_of scope t (Quotient (record { place = at; value = n }) (record { place = below; value = d })) e) ≡ multiple (coefficient_of scope.kind t n d) (plain e)
 term_quotient scope true at below n d e = plain-Times _ e
 term_quotient scope false at below n d e = plain-Times _ e
 
-zero_text : decimal 0 ≡ codes "0"
+pub zero_text : decimal 0 ≡ codes "0"
 zero_text = decimal_digit 0 (omega arith)
 
 -- the names of generators are names

@@ -2,4 +2,14 @@ pub mod StepParts
 pub mod Conclusions
 pub mod Accepted
 pub mod InOrder
+pub mod StepsMore
+pub mod Computing
+pub mod NamedOrigins
+pub mod StoredBack
+pub mod ClosedBack
+pub mod Whole
+pub mod Slimming
+pub mod Slimmed
+pub mod Numbered
+pub mod SlimAgain
 pub mod Held

@@ -1,5 +1,3 @@
-use Rattle.std.proofs.Common.{◌≡◌, ◌∙◌, sym, ap, subst, ℕ}
-use Rattle.fpl_rows.specs.Meaning.{AreRows}
 use Rattle.fpl_check.proofs.Tested.{all_formed}
 use Rattle.fpl_check.proofs.closed.closed_rows.Goals as goal
 

@@ -1,4 +1,3 @@
-use Rattle.std.specs.Prelude.{Result, Ok, Err, IfOk}
 use Rattle.fpl_check.proofs.ClosedTests.{closed_when}
 use Rattle.fpl_check.proofs.closed.test_rows.Goals as goal
 

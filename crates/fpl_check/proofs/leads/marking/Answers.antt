@@ -1,4 +1,4 @@
-use Rattle.std.proofs.Common.{◌≡◌, ◌≤◌, ◌-◌, ◌∙◌, sym, ap, arith, length, drop, subst, suc, true}
+use Rattle.std.proofs.Common.{◌≤◌, ◌-◌, sym, arith, length, drop, subst, true}
 use Rattle.std.specs.Prelude.{slice_set, List}
 use Rattle.fpl_numbers.specs.declared.number.Num.{Num}
 use Rattle.fpl_rows.specs.Meaning.{IsRowOf}

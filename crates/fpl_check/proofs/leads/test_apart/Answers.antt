@@ -1,8 +1,8 @@
-use Rattle.std.proofs.Common.{◌≡◌, ◌≤◌, ◌+◌, ◌∙◌, sym, ap, arith, length, Ok}
+use Rattle.std.proofs.Common.{◌≤◌, ◌+◌, ◌∙◌, sym, ap, arith, length}
 use Rattle.fpl_rows.specs.Meaning.{IsRowOf}
 use Rattle.fpl_log.proofs.TermsTaken.{past_end, term_got}
 use Rattle.fpl_check.specs.Leads.{marked}
-use Rattle.fpl_check.specs.ClosedRows.{is_lead, lead_or_none, test_crossing}
+use Rattle.fpl_check.specs.ClosedRows.{lead_or_none, test_crossing}
 use Rattle.fpl_check.proofs.Composed.{same_refusal}
 use Rattle.fpl_check.proofs.Marks.{crossing_marked}
 use Rattle.fpl_check.proofs.Loops.{apart_next, apart_stop}

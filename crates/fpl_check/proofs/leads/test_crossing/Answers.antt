@@ -1,5 +1,4 @@
 use Rattle.std.proofs.Common.{◌≡◌, ◌+◌, ◌-◌, ◌<◌, ◌∙◌, sym, ap, arith, length, get_or, false}
-use Rattle.std.specs.Prelude.{unwrap_or}
 use Rattle.fpl_check.specs.Leads.{marked}
 use Rattle.fpl_check.proofs.Loops.{crossed_zero, crossed_lead, crossed_free}
 use Rattle.fpl_check.proofs.leads.test_crossing.Goals.{else-s-lead-via-then-s-lead+then-marks-s+else-not-is_zero, else-s-lead-via-then-s-lead+else-marks-s, else-s-lead-via-else-s-lead}

@@ -1,10 +1,9 @@
-use Rattle.std.proofs.Common.{◌≡◌, ◌∙◌, sym, subst, inl, inr, true, false}
-use Rattle.std.specs.Prelude.{IsTrue, ◌↔◌, slice_index_or, nat_lt, ◌-◌, ◌&&◌}
+use Rattle.std.proofs.Common.{◌≡◌, subst, inl, inr}
+use Rattle.std.specs.Prelude.{IsTrue, ◌↔◌, slice_index_or, ◌-◌}
 use Rattle.fpl_numbers.specs.Numbers.{residue}
 use Rattle.fpl_numbers.specs.declared.number.Num.{Num}
 use Rattle.fpl_rows.proofs.Leads.{lead_place}
-use Rattle.fpl_check.specs.ClosedRows.{same_num}
-use Rattle.fpl_check.proofs.Loops.{number_element, lead_wrong, lead_right, found_same, found_other, and_true, and_false, below_true, below_false}
+use Rattle.fpl_check.proofs.Loops.{number_element, lead_wrong, found_other, and_false, below_false}
 use Rattle.fpl_check.proofs.leads.test_lead.Goals.{else-same-via-then-same+else-before-lead, else-same-via-else-same}
 use Rattle.fpl_check.proofs.leads.test_lead.Goals as goal
 

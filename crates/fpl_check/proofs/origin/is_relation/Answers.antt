@@ -1,6 +1,4 @@
-use Rattle.std.proofs.Common.{◌≡◌, ◌+◌, ◌-◌, ◌<◌, ◌≤◌, ◌∙◌, sym, ap, arith, length, get_or}
-use Rattle.std.specs.Prelude.{nat_lt, true}
-use Rattle.fpl_model.specs.declared.presentation.Equation.{Equation}
+use Rattle.std.proofs.Common.{◌+◌, ◌-◌, sym, ap, arith}
 use Rattle.fpl_rewrite.proofs.Relations.{left_term, right_term, small_relation}
 use Rattle.fpl_check.proofs.Loops.{is_below}
 use Rattle.fpl_check.proofs.Weighed.{relation_none, relation_some}

@@ -1,7 +1,6 @@
 use Rattle.std.proofs.Common.{◌≡◌, ◌∷◌, ◌∙◌}
 use Rattle.fpl_rewrite.specs.Cursor.{to_come}
-use Rattle.fpl_check.proofs.Composed.{same_refusal}
-use Rattle.fpl_check.proofs.ListedOrigins.{contains_rest, origins_next, origins_stop}
+use Rattle.fpl_check.proofs.ListedOrigins.{contains_rest, origins_next}
 use Rattle.fpl_check.proofs.origins.test_origins.Goals as goal
 
 pub origins-preserved : goal.origins-preserved

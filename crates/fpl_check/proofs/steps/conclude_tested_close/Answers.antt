@@ -1,4 +1,4 @@
-use Rattle.std.proofs.Common.{◌∙◌, sym, length}
+use Rattle.std.proofs.Common.{length}
 use Rattle.fpl_check.specs.declared.cites.Cited.TheVariants.{Closes}
 use Rattle.fpl_check.proofs.ListedOrigins.{terms_pass}
 use Rattle.fpl_check.proofs.steps.conclude_tested_close.Goals as goal

@@ -1,4 +1,4 @@
-use Rattle.std.proofs.Common.{◌≡◌, ◌≤◌, ◌+◌, ◌++◌, ◌∷◌, [], ◌∙◌, sym, ap, ap₂, subst, arith, length, map, take}
+use Rattle.std.proofs.Common.{◌≡◌, ◌≤◌, ◌+◌, ◌++◌, ◌∷◌, [], ◌∙◌, sym, ap₂, subst, arith, length}
 use Rattle.fpl_log.proofs.TermsTaken.{past_end}
 use Rattle.fpl_rows.specs.Meaning.{IsRowOf, AreRows}
 use Rattle.fpl_rows.proofs.Fits.{all_more}
@@ -9,7 +9,7 @@ use Rattle.fpl_check.proofs.stored.rows_stored.Goals as goal
 pub loop-k-preserved : goal.loop-k-preserved
 loop-k-preserved g c = elim c.match-get.branch [
   | in-None w ↦ absurd (let l : length c.args.closed.now ≤ c.loop-k.k = past_end c.args.closed.now c.loop-k.k w.in-None.ensures in omega arith)
-  | in-Some+in_ok-stored_row-in-Some+in_ok-push-in-Some w ↦ 
+  | in-Some+in_ok-stored_row-in-Some+in_ok-push-in-Some w ↦
       let kind = g.F.Field.kind_of c.args.field.now in
       let more : c.match-get.rows ≡ c.loop-k.rows ++ w.in_ok-stored_row-in-Some.field-0 ∷ [] = w.rows-is ∙ w.in_ok-push-in-Some.ensures.ok in
       record {

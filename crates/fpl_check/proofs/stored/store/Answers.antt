@@ -1,4 +1,4 @@
-use Rattle.std.proofs.Common.{◌≡◌, ◌≤◌, ◌<◌, ◌+◌, ◌-◌, ◌∙◌, sym, ap, arith, length, map, drop, vec_len, length-set}
+use Rattle.std.proofs.Common.{◌≡◌, ◌≤◌, ◌+◌, ◌-◌, ◌∙◌, sym, ap, arith, length, map, drop, vec_len, length-set}
 use Rattle.std.proofs.lemmas.List.{map-set}
 use Rattle.std.specs.Prelude.{slice_set}
 use Rattle.fpl_log.proofs.TermsTaken.{past_end}
@@ -18,7 +18,7 @@ index_mut-requires g c =
 pub loop-i-preserved : goal.loop-i-preserved
 loop-i-preserved g c = elim c.match-get.branch [
   | in-None w ↦ absurd (let l : length c.args.row.now ≤ c.loop-i.i = past_end c.args.row.now c.loop-i.i w.in-None.ensures in omega arith)
-  | in-Some w ↦ 
+  | in-Some w ↦
       let number = g.F.Field.number in
       let at = w.in-Some.c.now.symbol - 1 in
       let rest = drop (c.loop-i.i + 1) c.args.row.now in

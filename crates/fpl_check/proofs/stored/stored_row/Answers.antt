@@ -1,9 +1,4 @@
-use Rattle.std.proofs.Common.{◌≡◌, ◌∙◌, sym, ap, arith, length, map, replicate}
-use Rattle.std.proofs.lemmas.List.{length-map, length-replicate}
-use Rattle.std.specs.Prelude.{vec_len}
-use Rattle.fpl_numbers.specs.declared.number.Num.{Num}
-use Rattle.fpl_numbers.specs.Numbers.{residue}
-use Rattle.fpl_rows.specs.Meaning.{IsRowOf}
+use Rattle.std.proofs.Common.{◌≡◌, ◌∙◌, ap, arith}
 use Rattle.fpl_check.specs.ClosedRows.{stored_in, stored_row}
 use Rattle.fpl_check.proofs.StoredRows.{length-numbers, stored_is_row}
 use Rattle.fpl_check.proofs.stored.stored_row.Goals as goal

@@ -1,4 +1,3 @@
-use Rattle.std.proofs.Common.{refl}
 use Rattle.fpl_checkpoint.specs.Scans.{for_text}
 use Rattle.fpl_checkpoint.proofs.head.scan_head.Goals as goal
 

@@ -5,7 +5,7 @@ use Rattle.fpl_table.specs.Plain.{PlainTable}
 use Rattle.fpl_table.specs.Standard.{count_of, count_through}
 use Rattle.fpl_complete.specs.State.{PlainState, IsState}
 use Rattle.fpl_complete.proofs.Closing.{symbols_counted}
-use Rattle.fpl_complete.proofs.Raising.{weighs, state_weighed, unfit_fractions, few_symbols, counts_more, whole_within}
+use Rattle.fpl_complete.proofs.Raising.{weighs, Keeps, keeps, state_weighed, unfit_fractions, few_symbols, counts_more, whole_within}
 use Rattle.fpl_complete.proofs.state.State.next_weight.Goals as goal
 
 pub complete_weight-requires-clause-few : goal.complete_weight-requires-clause-few
@@ -50,3 +50,9 @@ returns-in-Ok-keep-clause-counts g c = λ v l.
     ap (λ (S : PlainTable). count_through S v) c.in-Ok-keep.ensures.table
     ∙ counts_more T c.self.invariant.holds.shape c.in-Ok.weighed.rows v (subst (λ (S : PlainTable). v ≤ S.weight + 1) (sym same) l)
     ∙ ap (λ (S : PlainTable). count_through S v) same
+
+pub returns-in-Ok-keep-clause-value : goal.returns-in-Ok-keep-clause-value
+returns-in-Ok-keep-clause-value g c =
+    subst (λ (s : PlainState). Keeps s c.keep.new.table c.keep.new.sections) c.self.view_is
+    (keeps (record { presentation = c.self.inside.presentation; table = c.self.inside.table; sections = c.self.inside.sections }) c.keep.new.table c.keep.new.sections c.in-Ok.weighed.rows c.in-Ok.weighed.section
+    (weighs c.self.inside.table c.self.inside.presentation c.in-Ok.weighed.rows c.in-Ok.weighed.section c.in-Ok.ensures.value) c.in-Ok-keep.ensures.table c.in-Ok-keep.ensures.sections)
