@@ -23,7 +23,7 @@ use Rattle.fpl_completion.specs.Section.{section_of, FitsAt, OverflowsAt}
 use Rattle.fpl_completion.proofs.Computed.{computes_one, computes_over_primes}
 use Rattle.fpl_completion.proofs.Completed.{next_holds, next_raised}
 use Rattle.fpl_complete.proofs.Raising.{few_symbols}
-use Rattle.fpl_resume.specs.Walk.{Stored, Stage, Stop, Walked, next_weight, raised, computed_as, step_of, walk_on, walk_of}
+use Rattle.fpl_resume.specs.Walk.{Stored, Stage, Stop, failed, Walked, next_weight, raised, computed_as, step_of, walk_on, walk_of}
 use Rattle.fplsa.specs.declared.status.Status.{Status}
 use Rattle.fplsa.specs.declared.status.Status.TheVariants.{Done, Usage, Refused, BadCheckpoint, Limit, Overflow, NoMemory, ReadFault, WriteFault, NotBuilt}
 use Rattle.fplsa.specs.declared.words.View.{View}
@@ -32,7 +32,7 @@ use Rattle.fplsa.specs.declared.words.Command.{Command}
 use Rattle.fplsa.specs.Reply.{Reply, IsFree, status_of}
 use Rattle.fplsa.specs.Start.{of_text, does_compute, begun_for}
 use Rattle.fplsa.specs.Answer.{Answers, AnswersCommand, AnswersText, AnswersStart, IsCheckpoint}
-use Rattle.fplsa.specs.Answer.AnswersStart.{view_not_built, stopped, table_done, check_done}
+use Rattle.fplsa.specs.Answer.AnswersStart.{view_not_built, failed_at, table_done, check_done}
 use Rattle.fplsa.specs.Answer.AnswersText.{text_too_long, no_presentation, presentation}
 use Rattle.fplsa.specs.Answer.AnswersCommand.{unread, input_too_long, checkpoint, text}
 use Rattle.fplsa.specs.Answer.Answers.{no_command, command}
@@ -118,12 +118,12 @@ module _ (words : List (List ℕ)) (bytes : List ℕ) (h : HasTable words bytes)
 
   start_table : (r : Reply) → AnswersStart h.command (of_text p) r → status_of r ≡ Done
   start_table _ (view_not_built a) = absurd (a (inl h.view))
-  start_table _ (stopped a x e r k) =
-      let over : (walk_of (does_compute h.command.view) h.command.entries p (of_text p).stored h.command.limit (begun_for (of_text p))).stop ≡ Some x = e in
-      let table : (walk_of true h.command.entries p (of_text p).stored h.command.limit (begun_for (of_text p))).stop ≡ Some x =
-          subst (λ (v : View). (walk_of (does_compute v) h.command.entries p (of_text p).stored h.command.limit (begun_for (of_text p))).stop ≡ Some x) h.view over in
+  start_table _ (failed_at a f e) =
+      let over : (walk_of (does_compute h.command.view) h.command.entries p (of_text p).stored h.command.limit (begun_for (of_text p))).stop ≡ Some (failed f) = e in
+      let table : (walk_of true h.command.entries p (of_text p).stored h.command.limit (begun_for (of_text p))).stop ≡ Some (failed f) =
+          subst (λ (v : View). (walk_of (does_compute v) h.command.entries p (of_text p).stored h.command.limit (begun_for (of_text p))).stop ≡ Some (failed f)) h.view over in
       let on = goes_on h.command.limit (begun_for (of_text p)) (start_holds p sound) started refl (omega arith) in
-      let no : None ≡ Some x = sym on ∙ table in
+      let no : None ≡ Some (failed f) = sym on ∙ table in
       cc
   start_table _ (table_done a e t) = refl
   start_table _ (check_done a e) = refl

@@ -1,5 +1,5 @@
 -- Words and the bytes of an input have at most one reply.
-use Rattle.std.proofs.Common.{◌≡◌, ℕ, ◌<◌, ◌≤◌, inl, inr, List, None, Some, refl, sym, ap, ◌∙◌, subst, arith}
+use Rattle.std.proofs.Common.{◌≡◌, ℕ, ◌<◌, ◌≤◌, inl, inr, List, [], None, Some, refl, sym, ap, ◌∙◌, subst, arith}
 use mathlib.Core.Path.{ap₂}
 use Rattle.std.specs.declared.option.Option.{Option}
 use Rattle.fpl_model.specs.declared.presentation.Presentation.{Presentation}
@@ -7,14 +7,13 @@ use Rattle.fpl_reader.proofs.OneAnswer.{one_presentation, one_refusal, not_both}
 use Rattle.fpl_bytes.specs.declared.fault.BadBytes.{BadBytes}
 use Rattle.fpl_checkpoint.specs.declared.head.Head.{Head}
 use Rattle.fpl_checkpoint.proofs.OneHead.{one_head, not_bad, one_refusal as one_refusal_of_head}
-use Rattle.fpl_resume.specs.Walk.{Stop, ended}
+use Rattle.fpl_resume.specs.Walk.{Fault, bad_bytes, Stop, ended, failed}
 use Rattle.fplsa.specs.declared.words.View.TheVariants.{Table, Check}
 use Rattle.fplsa.specs.declared.words.Command.{Command}
-use Rattle.fplsa.specs.Faults.{byte_text}
-use Rattle.fplsa.specs.Reply.{Reply, done, refused, bad_bytes}
-use Rattle.fplsa.specs.Start.{Start, of_text, of_head, walk_for, stop_reply}
+use Rattle.fplsa.specs.Reply.{Reply, refused, stopped}
+use Rattle.fplsa.specs.Start.{Start, of_text, of_head, walk_for}
 use Rattle.fplsa.specs.Answer.{AnswersStart, AnswersCommand, AnswersText, AnswersCheckpoint, reason_text}
-use Rattle.fplsa.specs.Answer.AnswersStart.{view_not_built, stopped, table_done, check_done}
+use Rattle.fplsa.specs.Answer.AnswersStart.{view_not_built, failed_at, table_done, check_done}
 use Rattle.fplsa.specs.Answer.AnswersText.{text_too_long, no_presentation, presentation}
 use Rattle.fplsa.specs.Answer.AnswersCheckpoint.{no_head, head}
 use Rattle.fplsa.specs.Answer.AnswersCommand.{unread, input_too_long, checkpoint, text}
@@ -25,26 +24,26 @@ use Rattle.fplsa.proofs.Names.{one_command}
 stops_one : (s t : Stop) (o : Option Stop) → o ≡ Some s → o ≡ Some t → s ≡ t
 stops_one s t o e f = cc
 
-replies_one : (r t : Reply) (o : Option Reply) → o ≡ Some r → o ≡ Some t → r ≡ t
-replies_one r t o e f = cc
+faults_one : (f g : Fault) (o : Option Stop) → o ≡ Some (failed f) → o ≡ Some (failed g) → stopped [] f ≡ stopped [] g
+faults_one f g o d e = let same : failed f ≡ failed g = stops_one (failed f) (failed g) o d e in cc
 
 start_one : (c : Command) (s : Start) (r t : Reply) → AnswersStart c s r → AnswersStart c s t → r ≡ t
 start_one c s _ _ (view_not_built a) (view_not_built b) = refl
-start_one c s _ _ (view_not_built a) (stopped b y f t k) = absurd (a b)
+start_one c s _ _ (view_not_built a) (failed_at b g k) = absurd (a b)
 start_one c s _ _ (view_not_built a) (table_done b f h) = absurd (a (inl b))
 start_one c s _ _ (view_not_built a) (check_done b f) = absurd (a (inr b))
-start_one c s _ _ (stopped a x e r h) (view_not_built b) = absurd (b a)
-start_one c s _ _ (stopped a x e r h) (stopped b y f t k) = replies_one r t (stop_reply x) h (ap stop_reply (stops_one x y (walk_for c s).stop e f) ∙ k)
-start_one c s _ _ (stopped a x e r h) (table_done b f k) = let no : Some x ≡ None = sym e ∙ f in cc
-start_one c s _ _ (stopped a x e r h) (check_done b (inl f)) = let no : Some x ≡ None = sym e ∙ f in cc
-start_one c s _ _ (stopped a x e r h) (check_done b (inr f)) = let same : x ≡ ended = stops_one x ended (walk_for c s).stop e f in let no : None ≡ Some r = sym (ap stop_reply same) ∙ h in cc
+start_one c s _ _ (failed_at a f e) (view_not_built b) = absurd (b a)
+start_one c s _ _ (failed_at a f e) (failed_at b g k) = faults_one f g (walk_for c s).stop e k
+start_one c s _ _ (failed_at a f e) (table_done b k h) = let no : Some (failed f) ≡ None = sym e ∙ k in cc
+start_one c s _ _ (failed_at a f e) (check_done b (inl k)) = let no : Some (failed f) ≡ None = sym e ∙ k in cc
+start_one c s _ _ (failed_at a f e) (check_done b (inr k)) = let no : failed f ≡ ended = stops_one (failed f) ended (walk_for c s).stop e k in cc
 start_one c s _ _ (table_done a e h) (view_not_built b) = absurd (b (inl a))
-start_one c s _ _ (table_done a e h) (stopped b y f t k) = let no : Some y ≡ None = sym f ∙ e in cc
+start_one c s _ _ (table_done a e h) (failed_at b g k) = let no : Some (failed g) ≡ None = sym k ∙ e in cc
 start_one c s _ _ (table_done a e h) (table_done b f k) = refl
 start_one c s _ _ (table_done a e h) (check_done b f) = let no : Table ≡ Check = sym a ∙ b in cc
 start_one c s _ _ (check_done a e) (view_not_built b) = absurd (b (inr a))
-start_one c s _ _ (check_done a (inl e)) (stopped b y f t k) = let no : Some y ≡ None = sym f ∙ e in cc
-start_one c s _ _ (check_done a (inr e)) (stopped b y f t k) = let same : y ≡ ended = stops_one y ended (walk_for c s).stop f e in let no : None ≡ Some t = sym (ap stop_reply same) ∙ k in cc
+start_one c s _ _ (check_done a (inl e)) (failed_at b g k) = let no : Some (failed g) ≡ None = sym k ∙ e in cc
+start_one c s _ _ (check_done a (inr e)) (failed_at b g k) = let no : failed g ≡ ended = stops_one (failed g) ended (walk_for c s).stop k e in cc
 start_one c s _ _ (check_done a e) (table_done b f k) = let no : Check ≡ Table = sym a ∙ b in cc
 start_one c s _ _ (check_done a e) (check_done b f) = refl
 
@@ -61,11 +60,8 @@ of_text_one c bytes _ _ (presentation l p h r a) (no_presentation m place reason
 of_text_one c bytes _ _ (presentation l p h r a) (presentation m q k s b) =
     start_one c (of_text q) r s (subst (λ (x : Presentation). AnswersStart c (of_text x) r) (one_presentation bytes p q h k) a) b
 
-bad_one : (a b : BadBytes) → a ≡ b → bad_bytes a.place (byte_text a.why) ≡ bad_bytes b.place (byte_text b.why)
-bad_one a b e = ap (λ (x : BadBytes). bad_bytes x.place (byte_text x.why)) e
-
 of_checkpoint_one : (c : Command) (bytes : List ℕ) (r s : Reply) → AnswersCheckpoint c bytes r → AnswersCheckpoint c bytes s → r ≡ s
-of_checkpoint_one c bytes _ _ (no_head b h) (no_head a k) = bad_one b a (one_refusal_of_head bytes b a h k)
+of_checkpoint_one c bytes _ _ (no_head b h) (no_head a k) = ap (λ (x : BadBytes). stopped [] (bad_bytes x)) (one_refusal_of_head bytes b a h k)
 of_checkpoint_one c bytes _ _ (no_head b h) (head g k s a) = absurd (not_bad bytes g b k h)
 of_checkpoint_one c bytes _ _ (head g k r a) (no_head b h) = absurd (not_bad bytes g b k h)
 of_checkpoint_one c bytes _ _ (head g h r a) (head f k s b) = start_one c (of_head bytes f) r s (subst (λ (x : Head). AnswersStart c (of_head bytes x) r) (one_head bytes g f h k) a) b

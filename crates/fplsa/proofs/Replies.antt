@@ -11,13 +11,11 @@ use Rattle.fplsa.specs.declared.status.Status.{Status}
 use Rattle.fplsa.specs.declared.status.Status.TheVariants.{Usage, ReadFault, WriteFault}
 use Rattle.fplsa.specs.declared.words.Command.{Command}
 use Rattle.fplsa.specs.Words.{IsCommand}
-use Rattle.fplsa.specs.Reply.{Reply, done, usage, refused, bad_bytes, bad_section, limit, overflow, no_memory, read_fault, write_fault, not_built, IsFree, IsPlain, status_of, text_of, line_of}
-use Rattle.fpl_resume.specs.Walk as walk
-use Rattle.fpl_resume.specs.Walk.{Stop, too_many, ended}
-use Rattle.fplsa.specs.Faults.{byte_text}
-use Rattle.fplsa.specs.Start.{Start, of_text, of_head, stop_reply}
+use Rattle.fplsa.specs.Reply.{Reply, done, usage, refused, stopped, no_memory, read_fault, write_fault, not_built, IsFree, IsPlain, fault_status, status_of, text_of, line_of}
+use Rattle.fpl_resume.specs.Walk.{Fault, too_many, bad_bytes, bad_section, overflow}
+use Rattle.fplsa.specs.Start.{Start, of_text, of_head}
 use Rattle.fplsa.specs.Answer.{Answers, AnswersCommand, AnswersText, AnswersCheckpoint, AnswersStart}
-use Rattle.fplsa.specs.Answer.AnswersStart.{view_not_built, stopped, table_done, check_done}
+use Rattle.fplsa.specs.Answer.AnswersStart.{view_not_built, failed_at, table_done, check_done}
 use Rattle.fplsa.specs.Answer.AnswersText.{text_too_long, no_presentation, presentation}
 use Rattle.fplsa.specs.Answer.AnswersCheckpoint.{no_head, head}
 use Rattle.fplsa.specs.Answer.AnswersCommand.{unread, input_too_long, checkpoint, text}
@@ -54,19 +52,15 @@ passed_input (Some bs) (Some rest) max P h f =
 abbrev IsInner : Reply → Type 0
 IsInner r = IsPlain r × (status_of r ≢ ReadFault)
 
-inner_same : (r s : Reply) → Some r ≡ Some s → IsInner r → IsInner s
-inner_same r s e h = let same : r ≡ s = cc in subst IsInner same h
-
-stop_plain : (stop : Stop) (r : Reply) → stop_reply stop ≡ Some r → IsInner r
-stop_plain (too_many w n) r e = inner_same (limit w n) r e (tt, λ f. cc)
-stop_plain (walk.bad_bytes b) r e = inner_same (bad_bytes b.place (byte_text b.why)) r e (tt, λ f. cc)
-stop_plain (walk.bad_section w spot why) r e = inner_same (bad_section w spot why) r e (tt, λ f. cc)
-stop_plain (walk.overflow w u) r e = inner_same (overflow w u.op u.a u.b) r e (tt, λ f. cc)
-stop_plain ended r e = cc
+fault_not : (f : Fault) → (fault_status f ≢ ReadFault) × (fault_status f ≢ Usage) × (fault_status f ≢ WriteFault)
+fault_not (too_many w n) = (λ e. cc, λ e. cc, λ e. cc)
+fault_not (bad_bytes b) = (λ e. cc, λ e. cc, λ e. cc)
+fault_not (bad_section w spot why) = (λ e. cc, λ e. cc, λ e. cc)
+fault_not (overflow w u) = (λ e. cc, λ e. cc, λ e. cc)
 
 start_plain : (c : Command) (s : Start) (r : Reply) → AnswersStart c s r → IsInner r
 start_plain c s _ (view_not_built a) = (tt, λ e. cc)
-start_plain c s _ (stopped a x e r h) = stop_plain x r h
+start_plain c s _ (failed_at a f e) = (tt, (fault_not f).0)
 start_plain c s _ (table_done a e h) = (tt, λ e. cc)
 start_plain c s _ (check_done a e) = (tt, λ e. cc)
 
@@ -76,7 +70,7 @@ text_plain c bytes _ (no_presentation l place reason h) = (tt, λ e. cc)
 text_plain c bytes _ (presentation l p h r a) = start_plain c (of_text p) r a
 
 checkpoint_plain : (c : Command) (bytes : List ℕ) (r : Reply) → AnswersCheckpoint c bytes r → IsInner r
-checkpoint_plain c bytes _ (no_head b h) = (tt, λ e. cc)
+checkpoint_plain c bytes _ (no_head b h) = (tt, (fault_not (bad_bytes b)).0)
 checkpoint_plain c bytes _ (head h k r a) = start_plain c (of_head bytes h) r a
 
 command_plain : (c : Command) (bytes : List ℕ) (r : Reply) → AnswersCommand c bytes r → IsPlain r × (status_of r ≢ ReadFault)
@@ -100,10 +94,7 @@ pub plain_outer : (r : Reply) → IsPlain r → (status_of r ≢ Usage) × (stat
 plain_outer (done t) h = (λ e. cc, λ e. cc)
 plain_outer usage h = absurd h
 plain_outer (refused place reason) h = (λ e. cc, λ e. cc)
-plain_outer (bad_bytes place reason) h = (λ e. cc, λ e. cc)
-plain_outer (bad_section w spot why) h = (λ e. cc, λ e. cc)
-plain_outer (limit w n) h = (λ e. cc, λ e. cc)
-plain_outer (overflow w op a b) h = (λ e. cc, λ e. cc)
+plain_outer (stopped text f) h = ((fault_not f).1, (fault_not f).2)
 plain_outer no_memory h = (λ e. cc, λ e. cc)
 plain_outer read_fault h = (λ e. cc, λ e. cc)
 plain_outer write_fault h = absurd h
@@ -117,10 +108,7 @@ written : (w : Reply) → (status_of w ≡ WriteFault) ⊎ (status_of w ≢ Writ
 written (done t) = inr (λ e. cc)
 written usage = inr (λ e. cc)
 written (refused place reason) = inr (λ e. cc)
-written (bad_bytes place reason) = inr (λ e. cc)
-written (bad_section w spot why) = inr (λ e. cc)
-written (limit weight n) = inr (λ e. cc)
-written (overflow weight op a b) = inr (λ e. cc)
+written (stopped text f) = inr (fault_not f).2
 written no_memory = inr (λ e. cc)
 written read_fault = inr (λ e. cc)
 written write_fault = inl refl

@@ -23,7 +23,7 @@ use Rattle.fpl_resume.specs.declared.stop.Stop as code
 use Rattle.fpl_resume.specs.declared.stop.Stop.TheVariants as told
 use Rattle.fpl_complete.specs.State.{unfit_of}
 use Rattle.fpl_resume.specs.Stops.{IsStop}
-use Rattle.fpl_resume.specs.Walk.{Stored, Stage, Stop, too_many, bad_bytes, bad_section, overflow, ended, Walked, next_weight, adopted, formed, computed_as, computed, framed, weighed, step_of, stopped, walk_on, walk_of, step_cost, cost_on, cost_of}
+use Rattle.fpl_resume.specs.Walk.{Stored, Stage, Fault, too_many, bad_bytes, bad_section, overflow, Stop, ended, failed, Walked, next_weight, adopted, formed, computed_as, computed, framed, weighed, step_of, stopped, walk_on, walk_of, step_cost, cost_on, cost_of}
 
 -- a step raises the table by one weight
 abbrev Grows : Stage → Result Stage Stop → Type 0
@@ -33,10 +33,7 @@ Grows stage (Err s) = Unit {0}
 -- a step does not come to the end of what is stored
 abbrev Goes : Result Stage Stop → Type 0
 Goes (Ok next) = Unit {0}
-Goes (Err (too_many w n)) = Unit {0}
-Goes (Err (bad_bytes b)) = Unit {0}
-Goes (Err (bad_section w spot why)) = Unit {0}
-Goes (Err (overflow w u)) = Unit {0}
+Goes (Err (failed f)) = Unit {0}
 Goes (Err ended) = ⊥
 
 either : (P : Result Stage Stop → Type 0) (b : Bool) (x y : Result Stage Stop) → P x → P y → P (if b then x else y)
@@ -88,13 +85,13 @@ module _ (p : Presentation) (stage : Stage) where
     step_grows : (c : Bool) (e : ℕ) → Grows stage (step_of c e p at stage)
     step_grows c e =
         let count = count_through stage.table (next_weight stage) in
-        either (Grows stage) (nat_lt e count) (Err (too_many (next_weight stage) count)) (weighed c p at stage) tt
+        either (Grows stage) (nat_lt e count) (Err (failed (too_many (next_weight stage) count))) (weighed c p at stage) tt
         (either (Grows stage) stage.stored (framed c p at stage (frame_of at.bytes stage.place (next_weight stage))) (computed c p stage) (framed_grows c (frame_of at.bytes stage.place (next_weight stage))) (computed_grows c))
 
     step_goes : (e : ℕ) → Goes (step_of true e p at stage)
     step_goes e =
         let count = count_through stage.table (next_weight stage) in
-        either Goes (nat_lt e count) (Err (too_many (next_weight stage) count)) (weighed true p at stage) tt
+        either Goes (nat_lt e count) (Err (failed (too_many (next_weight stage) count))) (weighed true p at stage) tt
         (either Goes stage.stored (framed true p at stage (frame_of at.bytes stage.place (next_weight stage))) (computed true p stage) (framed_goes (frame_of at.bytes stage.place (next_weight stage))) (computed_as_goes (close_weight stage.table p)))
 
 grown : (stage next : Stage) (r : Result Stage Stop) → r ≡ Ok next → Grows stage r → next.table.weight ≡ suc stage.table.weight
@@ -110,10 +107,7 @@ never_ends e p at (suc n) stage h = go (step_of true e p at stage) (step_goes p 
   where
     go : (r : Result Stage Stop) → Goes r → (walk_on (walk_of true e p at n) stage r).stop ≡ Some ended → ⊥
     go (Ok next) g k = never_ends e p at n next k
-    go (Err (too_many w m)) g k = cc
-    go (Err (bad_bytes b)) g k = cc
-    go (Err (bad_section w spot why)) g k = cc
-    go (Err (overflow w u)) g k = cc
+    go (Err (failed f)) g k = cc
     go (Err ended) g k = g
 
 -- what a loop through the weights keeps: the walk that is left, and its cost
@@ -148,9 +142,9 @@ module _ (c : Bool) (e : ℕ) (p : Presentation) (at : Stored) (limit : ℕ) whe
 
 -- what a stop tells
 pub stop_known : (stop : code.Stop) (r : Result Stage Stop) → IsStop stop r → (stop ≡ told.NoMemory) ⊎ ((s : Stop) × (r ≡ Err s) × IsStop {X = Stage} stop (Err s))
-stop_known (told.TooMany w n) r h = inr (too_many w n, h, refl)
-stop_known (told.BadBytes b) r h = inr (bad_bytes b, h, refl)
-stop_known (told.BadSection w spot why) r h = inr (bad_section w spot why, h, refl)
-stop_known (told.Overflow w op a b) r h = inr (overflow w (unfit_of op a b), h, refl)
+stop_known (told.TooMany w n) r h = inr (failed (too_many w n), h, refl)
+stop_known (told.BadBytes b) r h = inr (failed (bad_bytes b), h, refl)
+stop_known (told.BadSection w spot why) r h = inr (failed (bad_section w spot why), h, refl)
+stop_known (told.Overflow w op a b) r h = inr (failed (overflow w (unfit_of op a b)), h, refl)
 stop_known told.Ended r h = inr (ended, h, refl)
 stop_known told.NoMemory r h = inl refl

@@ -8,9 +8,9 @@
 --   text, whose reply is
 --   AnswersText: it is too long; it is no presentation; or a presentation, for which nothing is stored
 --   AnswersCheckpoint: its head is refused; or it has one, after which sections may be stored
---   AnswersStart: the view isn't built; or the run through the weights stops before the limit; or it comes to the limit, and the reply is the standard table
+--   AnswersStart: the view isn't built; or a fault stops the run through the weights; or it comes to the limit, and the reply is the standard table
 --   through it, as text; or it is a check, which also ends where the stored sections do, and the reply says how many there are
-use Rattle.std.specs.Prelude.{ℕ, ◌≡◌, ◌≤◌, ◌<◌, ◌-◌, ◌⊎◌, Some, None, List, length, slice_index, codes}
+use Rattle.std.specs.Prelude.{ℕ, ◌≡◌, ◌≤◌, ◌<◌, ◌-◌, ◌⊎◌, Some, None, List, [], length, slice_index, codes}
 use Rattle.fpl_model.specs.declared.presentation.Presentation.{Presentation}
 use Rattle.fpl_reader.specs.declared.fault.Reason.{Reason}
 use Rattle.fpl_reader.specs.declared.fault.Reason.TheVariants.{BadByte, NumberTooLarge, NameTooLong, TooDeep, Syntax, NoField, FieldTwice, BadPrime, NameTwice, BadWeight, TooManyGenerators, UnknownName, ZeroDenominator, MixedWeight, MixedParity}
@@ -24,10 +24,9 @@ use Rattle.fplsa.specs.Words.{IsCommand, IsNoCommand}
 use Rattle.fpl_bytes.specs.declared.fault.BadBytes.{BadBytes}
 use Rattle.fpl_checkpoint.specs.declared.head.Head.{Head}
 use Rattle.fpl_checkpoint.specs.Scans.{HasHead, IsBadHead}
-use Rattle.fpl_resume.specs.Walk.{Stop, ended}
-use Rattle.fplsa.specs.Faults.{byte_text}
-use Rattle.fplsa.specs.Reply.{Reply, done, usage, refused, bad_bytes, not_built}
-use Rattle.fplsa.specs.Start.{Start, of_text, of_head, walk_for, stop_reply}
+use Rattle.fpl_resume.specs.Walk.{Fault, bad_bytes, ended, failed}
+use Rattle.fplsa.specs.Reply.{Reply, done, usage, refused, stopped, not_built}
+use Rattle.fplsa.specs.Start.{Start, of_text, of_head, walk_for}
 use Rattle.fplsa.specs.CheckText.{check_text}
 
 abbrev pub most_bytes : ℕ
@@ -73,7 +72,7 @@ IsBuilt view = (view ≡ Table) ⊎ (view ≡ Check)
 
 pub data AnswersStart (c : Command) (s : Start) : Reply → Type 0 where
   view_not_built : (IsBuilt c.view → ⊥) → AnswersStart c s not_built
-  stopped : IsBuilt c.view → (stop : Stop) → (walk_for c s).stop ≡ Some stop → (reply : Reply) → stop_reply stop ≡ Some reply → AnswersStart c s reply
+  failed_at : IsBuilt c.view → (fault : Fault) → (walk_for c s).stop ≡ Some (failed fault) → AnswersStart c s (stopped [] fault)
   table_done : c.view ≡ Table → (walk_for c s).stop ≡ None → IsTableOf s.presentation c.limit (walk_for c s).stage.table →
       AnswersStart c s (done (table_text (names_of s.presentation) (walk_for c s).stage.table))
   check_done : c.view ≡ Check → ((walk_for c s).stop ≡ None) ⊎ ((walk_for c s).stop ≡ Some ended) →
@@ -85,7 +84,7 @@ pub data AnswersText (c : Command) (bytes : List ℕ) : Reply → Type 0 where
   presentation : length bytes ≤ most_text → (p : Presentation) → HasPresentation bytes p → (reply : Reply) → AnswersStart c (of_text p) reply → AnswersText c bytes reply
 
 pub data AnswersCheckpoint (c : Command) (bytes : List ℕ) : Reply → Type 0 where
-  no_head : (b : BadBytes) → IsBadHead bytes b → AnswersCheckpoint c bytes (bad_bytes b.place (byte_text b.why))
+  no_head : (b : BadBytes) → IsBadHead bytes b → AnswersCheckpoint c bytes (stopped [] (bad_bytes b))
   head : (h : Head) → HasHead bytes h → (reply : Reply) → AnswersStart c (of_head bytes h) reply → AnswersCheckpoint c bytes reply
 
 pub data AnswersCommand (c : Command) (bytes : List ℕ) : Reply → Type 0 where

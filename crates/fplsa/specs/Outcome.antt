@@ -1,13 +1,14 @@
 -- The reply that an outcome stands for.
 --   refusal_text: why an input is refused, in words
 --   reply_of: the reply
-use Rattle.std.specs.Prelude.{ℕ, List}
+use Rattle.std.specs.Prelude.{ℕ, List, []}
 use Rattle.fplsa.specs.declared.outcome.Refusal.{Refusal}
 use Rattle.fplsa.specs.declared.outcome.Refusal.TheVariants.{TooLong, Unread}
 use Rattle.fplsa.specs.declared.outcome.Outcome.{Outcome}
 use Rattle.fplsa.specs.declared.outcome.Outcome.TheVariants as found
-use Rattle.fplsa.specs.Reply.{Reply, done, usage, refused, bad_bytes, bad_section, limit, overflow, no_memory, read_fault, write_fault, not_built}
-use Rattle.fplsa.specs.Faults.{byte_text}
+use Rattle.fplsa.specs.Reply.{Reply, done, usage, refused, stopped, no_memory, read_fault, write_fault, not_built}
+use Rattle.fpl_complete.specs.State.{unfit_of}
+use Rattle.fpl_resume.specs.Walk.{too_many, bad_bytes, bad_section, overflow}
 use Rattle.fplsa.specs.Answer.{too_long, reason_text}
 
 abbrev pub refusal_text : Refusal → List ℕ
@@ -18,10 +19,10 @@ abbrev pub reply_of : Outcome → Reply
 reply_of (found.Done text) = done text.items
 reply_of found.Usage = usage
 reply_of (found.Refused place why) = refused place (refusal_text why)
-reply_of (found.BadBytes place why) = bad_bytes place (byte_text why)
-reply_of (found.BadSection weight spot why) = bad_section weight spot why
-reply_of (found.Limit weight count) = limit weight count
-reply_of (found.Overflow weight op a b) = overflow weight op a b
+reply_of (found.BadBytes bad) = stopped [] (bad_bytes bad)
+reply_of (found.BadSection weight spot why) = stopped [] (bad_section weight spot why)
+reply_of (found.Limit weight count) = stopped [] (too_many weight count)
+reply_of (found.Overflow weight op a b) = stopped [] (overflow weight (unfit_of op a b))
 reply_of found.NoMemory = no_memory
 reply_of found.ReadFault = read_fault
 reply_of found.WriteFault = write_fault

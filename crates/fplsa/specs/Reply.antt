@@ -1,19 +1,19 @@
 -- What a run replies.
---   Reply: how it ends, with what its output or its line shows
+--   Reply: how it ends, with what its output or its line shows; a run that a fault stops, with what was written before
+--   fault_status: the status of a fault that stops a run
 --   status_of: the status of a reply
 --   text_of: the bytes written to the output
 --   op_text: the sign of an operation, between spaces
+--   fault_line: what is said of a fault
 --   line_of: the line written to the error output, with its line feed; none where the text was written
 --   IsPlain: neither of what stands before and after the input is read: that the words are no command, and that the output failed
 --   IsFree: there was no memory, or a stream failed: the words and the input don't tell when
 use Rattle.std.specs.Prelude.{ℕ, List, [], ◌++◌, codes, decimal}
-use Rattle.fpl_numbers.specs.declared.number.Num.{Num}
 use Rattle.fpl_numbers.specs.declared.number.Op.{Op}
 use Rattle.fpl_numbers.specs.declared.number.Op.TheVariants.{Add, Mul}
-use Rattle.fpl_check.specs.declared.fault.Spot.{Spot}
-use Rattle.fpl_check.specs.declared.fault.Why.{Why}
 use Rattle.fpl_print.specs.Combinations.{number_text}
-use Rattle.fplsa.specs.Faults.{spot_text, why_text}
+use Rattle.fpl_resume.specs.Walk.{Fault, too_many, bad_bytes, bad_section, overflow}
+use Rattle.fplsa.specs.Faults.{byte_text, spot_text, why_text}
 use Rattle.fplsa.specs.declared.status.Status.{Status}
 use Rattle.fplsa.specs.declared.status.Status.TheVariants.{Done, Usage, Refused, BadCheckpoint, Limit, Overflow, NoMemory, ReadFault, WriteFault, NotBuilt}
 
@@ -21,23 +21,23 @@ pub data Reply : Type 0 where
   done : (text : List ℕ) → Reply
   usage : Reply
   refused : (place : ℕ) (reason : List ℕ) → Reply
-  bad_bytes : (place : ℕ) (reason : List ℕ) → Reply
-  bad_section : (weight : ℕ) (spot : Spot) (why : Why) → Reply
-  limit : (weight count : ℕ) → Reply
-  overflow : (weight : ℕ) (op : Op) (a b : Num) → Reply
+  stopped : (text : List ℕ) (fault : Fault) → Reply
   no_memory : Reply
   read_fault : Reply
   write_fault : Reply
   not_built : Reply
 
+abbrev pub fault_status : Fault → Status
+fault_status (too_many weight count) = Limit
+fault_status (bad_bytes b) = BadCheckpoint
+fault_status (bad_section weight spot why) = BadCheckpoint
+fault_status (overflow weight u) = Overflow
+
 abbrev pub status_of : Reply → Status
 status_of (done text) = Done
 status_of usage = Usage
 status_of (refused place reason) = Refused
-status_of (bad_bytes place reason) = BadCheckpoint
-status_of (bad_section weight spot why) = BadCheckpoint
-status_of (limit weight count) = Limit
-status_of (overflow weight op a b) = Overflow
+status_of (stopped text fault) = fault_status fault
 status_of no_memory = NoMemory
 status_of read_fault = ReadFault
 status_of write_fault = WriteFault
@@ -47,10 +47,7 @@ abbrev pub text_of : Reply → List ℕ
 text_of (done text) = text
 text_of usage = []
 text_of (refused place reason) = []
-text_of (bad_bytes place reason) = []
-text_of (bad_section weight spot why) = []
-text_of (limit weight count) = []
-text_of (overflow weight op a b) = []
+text_of (stopped text fault) = text
 text_of no_memory = []
 text_of read_fault = []
 text_of write_fault = []
@@ -60,14 +57,17 @@ abbrev pub op_text : Op → List ℕ
 op_text Add = codes " + "
 op_text Mul = codes " * "
 
+abbrev pub fault_line : Fault → List ℕ
+fault_line (too_many weight count) = codes "limit at weight " ++ decimal weight ++ codes ": " ++ decimal count ++ codes " symbols\n"
+fault_line (bad_bytes b) = codes "bad checkpoint at byte " ++ decimal b.place ++ codes ": " ++ byte_text b.why ++ codes "\n"
+fault_line (bad_section weight spot why) = codes "bad checkpoint in weight " ++ decimal weight ++ spot_text spot ++ codes ": " ++ why_text why ++ codes "\n"
+fault_line (overflow weight u) = codes "overflow at weight " ++ decimal weight ++ codes ": " ++ number_text u.a ++ op_text u.op ++ number_text u.b ++ codes "\n"
+
 abbrev pub line_of : Reply → List ℕ
 line_of (done text) = []
 line_of usage = codes "usage: fplsa VIEW LIMIT [ENTRIES]\n"
 line_of (refused place reason) = codes "refused at byte " ++ decimal place ++ codes ": " ++ reason ++ codes "\n"
-line_of (bad_bytes place reason) = codes "bad checkpoint at byte " ++ decimal place ++ codes ": " ++ reason ++ codes "\n"
-line_of (bad_section weight spot why) = codes "bad checkpoint in weight " ++ decimal weight ++ spot_text spot ++ codes ": " ++ why_text why ++ codes "\n"
-line_of (limit weight count) = codes "limit at weight " ++ decimal weight ++ codes ": " ++ decimal count ++ codes " symbols\n"
-line_of (overflow weight op a b) = codes "overflow at weight " ++ decimal weight ++ codes ": " ++ number_text a ++ op_text op ++ number_text b ++ codes "\n"
+line_of (stopped text fault) = fault_line fault
 line_of no_memory = codes "no memory\n"
 line_of read_fault = codes "read fault\n"
 line_of write_fault = codes "write fault\n"
@@ -89,10 +89,7 @@ abbrev pub IsPlain : Reply → Type 0
 IsPlain (done text) = Unit {0}
 IsPlain usage = ⊥
 IsPlain (refused place reason) = Unit {0}
-IsPlain (bad_bytes place reason) = Unit {0}
-IsPlain (bad_section weight spot why) = Unit {0}
-IsPlain (limit weight count) = Unit {0}
-IsPlain (overflow weight op a b) = Unit {0}
+IsPlain (stopped text fault) = Unit {0}
 IsPlain no_memory = Unit {0}
 IsPlain read_fault = Unit {0}
 IsPlain write_fault = ⊥

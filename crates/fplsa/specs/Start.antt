@@ -5,17 +5,13 @@
 --   does_compute view: whether a view computes the weights whose sections aren't stored, as all do but check
 --   walk_for c s: the weights through the command's limit, or as many as come before a stop
 --   cost_for c s: how many origins those of them have that are computed
---   stop_reply stop: the reply that a stop is; none where the stored sections end, at which only check stops
-use Rattle.std.specs.Prelude.{ℕ, List, [], Bool, true, false, Option, Some, None}
+use Rattle.std.specs.Prelude.{ℕ, List, [], Bool, true, false}
 use Rattle.fpl_model.specs.declared.presentation.Presentation.{Presentation}
 use Rattle.fpl_checkpoint.specs.declared.head.Head.{Head}
-use Rattle.fpl_resume.specs.Walk.{Stored, Stage, Walked, Stop, too_many, bad_bytes, bad_section, overflow, ended, begun, walk_of, cost_of}
+use Rattle.fpl_resume.specs.Walk.{Stored, Stage, Walked, begun, walk_of, cost_of}
 use Rattle.fplsa.specs.declared.words.View.{View}
 use Rattle.fplsa.specs.declared.words.View.TheVariants.{Check}
 use Rattle.fplsa.specs.declared.words.Command.{Command}
-use Rattle.fplsa.specs.Faults.{byte_text}
-use Rattle.fplsa.specs.Reply as reply
-use Rattle.fplsa.specs.Reply.{Reply}
 
 pub record Start : Type 0 where
   pub presentation : Presentation
@@ -41,10 +37,3 @@ walk_for c s = walk_of (does_compute c.view) c.entries s.presentation s.stored c
 
 abbrev pub cost_for : Command → Start → ℕ
 cost_for c s = cost_of (does_compute c.view) c.entries s.presentation s.stored c.limit (begun_for s)
-
-abbrev pub stop_reply : Stop → Option Reply
-stop_reply (too_many w n) = Some (reply.limit w n)
-stop_reply (bad_bytes b) = Some (reply.bad_bytes b.place (byte_text b.why))
-stop_reply (bad_section w spot why) = Some (reply.bad_section w spot why)
-stop_reply (overflow w u) = Some (reply.overflow w u.op u.a u.b)
-stop_reply ended = None

@@ -3,7 +3,9 @@ ghost use Rattle.std.specs.Prelude.{◌≡◌, ◌≤◌, ◌++◌, codes, decim
 ghost use Rattle.fpl_outside.specs.Outside.{Rose, Takes};
 ghost use Rattle.fpl_outside.specs.Whole.{WrotePrefix};
 ghost use Rattle.fpl_print.specs.Combinations.{below_text, magnitude_text, number_text, sign_text, is_below_nought};
-ghost use Rattle.fplsa.specs.Reply.{Reply, line_of, op_text, refused, bad_bytes, bad_section, limit, overflow};
+ghost use Rattle.fplsa.specs.Reply.{Reply, line_of, fault_line, op_text, refused};
+ghost use Rattle.fpl_complete.specs.State.{unfit_of};
+ghost use Rattle.fpl_resume.specs.Walk.{too_many, bad_bytes, bad_section, overflow};
 ghost use Rattle.fplsa.specs.Faults.{byte_text, spot_text, why_text};
 ghost use Rattle.fplsa.specs.Line.{piece_text, pieces_text};
 ghost use Rattle.fplsa.specs.Outcome.{refusal_text, reply_of};
@@ -11,7 +13,7 @@ ghost use Rattle.fplsa.specs.Outcome.{refusal_text, reply_of};
 use crate::fault_line::{byte_text, put_spot, put_why};
 use crate::outcome::{Outcome, Refusal};
 use fpl_check::{Spot, Why};
-use fpl_checkpoint::ByteWhy;
+use fpl_checkpoint::BadBytes;
 use fpl_numbers::{Num, Op};
 use fpl_outside::{Sink, WriteFault, write_whole};
 use itoa::{Buffer, Integer};
@@ -127,9 +129,9 @@ fn put_refused<E: Sink>(err: &mut E, place: u64, why: Refusal) -> Result<(), Wri
     )
 }
 
-fn put_bad_bytes<E: Sink>(err: &mut E, place: u64, why: ByteWhy) -> Result<(), WriteFault>
-    ensures whole { OnOk result (Takes (E.taken err.old) (E.taken err.new) (line_of (bad_bytes place (byte_text why)))) }
-    ensures part { OnErr result (WrotePrefix (E.taken err.old) (E.taken err.new) (line_of (bad_bytes place (byte_text why)))) }
+fn put_bad_bytes<E: Sink>(err: &mut E, bad: BadBytes) -> Result<(), WriteFault>
+    ensures whole { OnOk result (Takes (E.taken err.old) (E.taken err.new) (fault_line (bad_bytes bad))) }
+    ensures part { OnErr result (WrotePrefix (E.taken err.old) (E.taken err.new) (fault_line (bad_bytes bad))) }
     ensures fault { OnErr result (Rose (E.faults err.old) (E.faults err.new)) }
     ensures later { E.faults err.old ≤ E.faults err.new }
 {
@@ -137,9 +139,9 @@ fn put_bad_bytes<E: Sink>(err: &mut E, place: u64, why: ByteWhy) -> Result<(), W
         err,
         &[
             Piece::Text(b"bad checkpoint at byte "),
-            Piece::Count(place),
+            Piece::Count(bad.place),
             Piece::Text(b": "),
-            Piece::Text(byte_text(why)),
+            Piece::Text(byte_text(bad.why)),
             Piece::Text(b"\n"),
         ],
     )
@@ -188,8 +190,8 @@ fn put_bad_section<E: Sink>(
     spot: Spot,
     why: Why,
 ) -> Result<(), WriteFault>
-    ensures whole { OnOk result (Takes (E.taken err.old) (E.taken err.new) (line_of (bad_section weight spot why))) }
-    ensures part { OnErr result (WrotePrefix (E.taken err.old) (E.taken err.new) (line_of (bad_section weight spot why))) }
+    ensures whole { OnOk result (Takes (E.taken err.old) (E.taken err.new) (fault_line (bad_section weight spot why))) }
+    ensures part { OnErr result (WrotePrefix (E.taken err.old) (E.taken err.new) (fault_line (bad_section weight spot why))) }
     ensures fault { OnErr result (Rose (E.faults err.old) (E.faults err.new)) }
     ensures later { E.faults err.old ≤ E.faults err.new }
 {
@@ -198,8 +200,8 @@ fn put_bad_section<E: Sink>(
 }
 
 fn put_limit<E: Sink>(err: &mut E, weight: u32, count: u64) -> Result<(), WriteFault>
-    ensures whole { OnOk result (Takes (E.taken err.old) (E.taken err.new) (line_of (limit weight count))) }
-    ensures part { OnErr result (WrotePrefix (E.taken err.old) (E.taken err.new) (line_of (limit weight count))) }
+    ensures whole { OnOk result (Takes (E.taken err.old) (E.taken err.new) (fault_line (too_many weight count))) }
+    ensures part { OnErr result (WrotePrefix (E.taken err.old) (E.taken err.new) (fault_line (too_many weight count))) }
     ensures fault { OnErr result (Rose (E.faults err.old) (E.faults err.new)) }
     ensures later { E.faults err.old ≤ E.faults err.new }
 {
@@ -207,7 +209,7 @@ fn put_limit<E: Sink>(err: &mut E, weight: u32, count: u64) -> Result<(), WriteF
         err,
         &[
             Piece::Text(b"limit at weight "),
-            Piece::Count(u64::from(weight)),
+            Piece::Count(weight as u64),
             Piece::Text(b": "),
             Piece::Count(count),
             Piece::Text(b" symbols\n"),
@@ -216,8 +218,8 @@ fn put_limit<E: Sink>(err: &mut E, weight: u32, count: u64) -> Result<(), WriteF
 }
 
 fn put_overflow<E: Sink>(err: &mut E, weight: u32, op: Op, a: Num, b: Num) -> Result<(), WriteFault>
-    ensures whole { OnOk result (Takes (E.taken err.old) (E.taken err.new) (line_of (overflow weight op a b))) }
-    ensures part { OnErr result (WrotePrefix (E.taken err.old) (E.taken err.new) (line_of (overflow weight op a b))) }
+    ensures whole { OnOk result (Takes (E.taken err.old) (E.taken err.new) (fault_line (overflow weight (unfit_of op a b)))) }
+    ensures part { OnErr result (WrotePrefix (E.taken err.old) (E.taken err.new) (fault_line (overflow weight (unfit_of op a b)))) }
     ensures fault { OnErr result (Rose (E.faults err.old) (E.faults err.new)) }
     ensures later { E.faults err.old ≤ E.faults err.new }
 {
@@ -225,7 +227,7 @@ fn put_overflow<E: Sink>(err: &mut E, weight: u32, op: Op, a: Num, b: Num) -> Re
         err,
         &[
             Piece::Text(b"overflow at weight "),
-            Piece::Count(u64::from(weight)),
+            Piece::Count(weight as u64),
             Piece::Text(b": "),
             Piece::Number(a),
             Piece::Text(op_text(op)),
@@ -246,7 +248,7 @@ pub fn put_line<E: Sink>(err: &mut E, outcome: &Outcome) -> Result<(), WriteFaul
         Outcome::Done(_) => write_whole(err, b""),
         Outcome::Usage => write_whole(err, b"usage: fplsa VIEW LIMIT [ENTRIES]\n"),
         Outcome::Refused { place, why } => put_refused(err, *place, *why),
-        Outcome::BadBytes { place, why } => put_bad_bytes(err, *place, *why),
+        Outcome::BadBytes(bad) => put_bad_bytes(err, *bad),
         Outcome::BadSection { weight, spot, why } => put_bad_section(err, *weight, *spot, *why),
         Outcome::Limit { weight, count } => put_limit(err, *weight, *count),
         Outcome::Overflow { weight, op, a, b } => put_overflow(err, *weight, *op, *a, *b),

@@ -6,7 +6,7 @@ ghost use Rattle.fplsa.specs.Reply.{status_of};
 
 use crate::status::Status;
 use fpl_check::{Spot, Why};
-use fpl_checkpoint::ByteWhy;
+use fpl_checkpoint::BadBytes;
 use fpl_numbers::{Num, Op};
 use fpl_reader::Reason;
 
@@ -23,7 +23,7 @@ pub enum Outcome {
     Done(Vec<u8>),
     Usage,
     Refused { place: u64, why: Refusal },
-    BadBytes { place: u64, why: ByteWhy },
+    BadBytes(BadBytes),
     BadSection { weight: u32, spot: Spot, why: Why },
     Limit { weight: u32, count: u64 },
     Overflow { weight: u32, op: Op, a: Num, b: Num },
@@ -74,7 +74,7 @@ impl Outcome {
             Outcome::Done(_) => Status::Done,
             Outcome::Usage => Status::Usage,
             Outcome::Refused { .. } => Status::Refused,
-            Outcome::BadBytes { .. } | Outcome::BadSection { .. } => Status::BadCheckpoint,
+            Outcome::BadBytes(_) | Outcome::BadSection { .. } => Status::BadCheckpoint,
             Outcome::Limit { .. } => Status::Limit,
             Outcome::Overflow { .. } => Status::Overflow,
             Outcome::NoMemory => Status::NoMemory,

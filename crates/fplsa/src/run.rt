@@ -99,10 +99,7 @@ fn of_checkpoint<L: Ledger>(
             };
             of_start(alloc, c, begin, bytes, steps)
         }
-        Err(ScanError::Bad(bad)) => Outcome::BadBytes {
-            place: bad.place,
-            why: bad.why,
-        },
+        Err(ScanError::Bad(bad)) => Outcome::BadBytes(bad),
         Err(ScanError::NoMemory) => Outcome::NoMemory,
     }
 }

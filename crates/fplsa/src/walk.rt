@@ -1,13 +1,14 @@
 //! The run through the weights of what was read.
-ghost use Rattle.std.specs.Prelude.{◌≡◌, ◌≤◌, ◌<◌, ◌+◌, ◌⊎◌, length, None, Some, Err, OnOk, IfErr};
+ghost use Rattle.std.specs.Prelude.{◌≡◌, ◌≤◌, ◌<◌, ◌+◌, ◌⊎◌, [], length, None, Err, OnOk, IfErr};
 ghost use Rattle.fpl_model.specs.Sound.{IsSound};
 ghost use Rattle.fpl_resume.specs.declared.stop.Stop as code;
-ghost use Rattle.fpl_resume.specs.Walk.{Stage, Stop, walk_of, cost_of, stopped};
+ghost use Rattle.fpl_resume.specs.Walk as plain;
+ghost use Rattle.fpl_resume.specs.Walk.{Stage, Fault, failed, walk_of, cost_of};
 ghost use Rattle.fpl_resume.specs.Stops.{IsStop, stored_in};
 ghost use Rattle.fplsa.specs.declared.words.View.{View};
 ghost use Rattle.fplsa.specs.Words.{IsInRange};
-ghost use Rattle.fplsa.specs.Reply.{no_memory};
-ghost use Rattle.fplsa.specs.Start.{does_compute, cost_for, stop_reply};
+ghost use Rattle.fplsa.specs.Reply.{no_memory, stopped};
+ghost use Rattle.fplsa.specs.Start.{does_compute, cost_for};
 ghost use Rattle.fplsa.specs.Answer.{AnswersStart};
 ghost use Rattle.fplsa.specs.Outcome.{reply_of};
 ghost use Rattle.fplsa.specs.Run.{Settles};
@@ -51,7 +52,7 @@ fn walk<F: Field, L: Ledger>(
     requires start { run.old.stage.table.weight ≡ 0 }
     requires version { (run.old.version ≡ 1) ⊎ (run.old.version ≡ 2) }
     ensures presentation { run.new.presentation ≡ run.old.presentation }
-    ensures whole { OnOk result (walk_of (does_compute c.view) c.entries run.old.presentation (stored_in run.old bytes.now) c.limit run.old.stage ≡ stopped run.new.stage None) }
+    ensures whole { OnOk result (walk_of (does_compute c.view) c.entries run.old.presentation (stored_in run.old bytes.now) c.limit run.old.stage ≡ plain.stopped run.new.stage None) }
     ensures weight { OnOk result (run.new.stage.table.weight ≡ c.limit) }
     ensures stop { IfErr result (λ stop. HasStopped stop run.new.stage (walk_of (does_compute c.view) c.entries run.old.presentation (stored_in run.old bytes.now) c.limit run.old.stage)) }
     ensures rises { steps.old ≤ steps.new }
@@ -69,14 +70,11 @@ fn walk<F: Field, L: Ledger>(
 // What a stop comes to, but for the end of what is stored.
 fn ending(stop: Stop) -> Outcome
     ensures memory { stop ≡ code.TheVariants.NoMemory → reply_of result ≡ no_memory }
-    ensures reply { (s : Stop) → IsStop {X = Stage} stop (Err s) → (stop ≡ code.TheVariants.NoMemory → ⊥) → (stop ≡ code.TheVariants.Ended → ⊥) → stop_reply s ≡ Some (reply_of result) }
+    ensures reply { (f : Fault) → IsStop {X = Stage} stop (Err (failed f)) → (stop ≡ code.TheVariants.NoMemory → ⊥) → reply_of result ≡ stopped [] f }
 {
     match stop {
         Stop::TooMany { weight, count } => Outcome::Limit { weight, count },
-        Stop::BadBytes(bad) => Outcome::BadBytes {
-            place: bad.place,
-            why: bad.why,
-        },
+        Stop::BadBytes(bad) => Outcome::BadBytes(bad),
         Stop::BadSection { weight, spot, why } => Outcome::BadSection { weight, spot, why },
         Stop::Overflow { weight, op, a, b } => Outcome::Overflow { weight, op, a, b },
         Stop::Ended => Outcome::NotBuilt,
