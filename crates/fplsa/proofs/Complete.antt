@@ -13,7 +13,8 @@ use Rattle.fpl_model.specs.Sound.{IsSound}
 use Rattle.fpl_reader.proofs.OneAnswer.{one_presentation, not_both}
 use Rattle.fpl_reader.proofs.Soundness.{presentation_sound}
 use Rattle.fpl_table.specs.Plain.{PlainTable, symbols_in}
-use Rattle.fpl_table.specs.Standard.{count_through}
+use Rattle.fpl_algebra.specs.Symbols.{symbols, symbols_of}
+use Rattle.fpl_table.specs.Standard.{count_of, count_through}
 use Rattle.fpl_next.specs.Holds.{Holds}
 use Rattle.fpl_next.specs.Raised.{IsRaised}
 use Rattle.fpl_next.specs.Raised.IsRaised.{started}
@@ -22,7 +23,6 @@ use Rattle.fpl_completion.specs.Weight.{close_weight}
 use Rattle.fpl_completion.specs.Section.{section_of, FitsAt, OverflowsAt}
 use Rattle.fpl_completion.proofs.Computed.{computes_one, computes_over_primes}
 use Rattle.fpl_completion.proofs.Completed.{next_holds, next_raised}
-use Rattle.fpl_complete.proofs.Raising.{few_symbols}
 use Rattle.fpl_resume.specs.Walk.{Stored, Stage, Stop, failed, Walked, next_weight, raised, computed_as, step_of, walk_on, walk_of}
 use Rattle.fplsa.specs.declared.status.Status.{Status}
 use Rattle.fplsa.specs.declared.status.Status.TheVariants.{Done, Usage, Refused, BadCheckpoint, Limit, Overflow, NoMemory, ReadFault, WriteFault, NotBuilt}
@@ -57,12 +57,16 @@ free_cases NotBuilt h = absurd h
 abbrev raised_by : Stage → Presentation → Held → Stage
 raised_by stage p held = raised stage (rows_of held.pivots) (section_of stage.table p held) stage.place false
 
+symbols_counted : (T : PlainTable) → length (symbols_in T) ≡ count_of T (suc T.weight)
+unfolding symbols symbols_of
+symbols_counted T = refl
+
 computed_next : (e : ℕ) (p : Presentation) (at : Stored) (stage : Stage) → stage.stored ≡ false → nat_lt e (count_through stage.table (next_weight stage)) ≡ false →
     step_of true e p at stage ≡ computed_as stage p (close_weight stage.table p)
 computed_next e p at stage a b = rw (b, a) refl
 
 module _ (words : List (List ℕ)) (bytes : List ℕ) (h : HasTable words bytes) where
-  p : Presentation
+  abbrev p : Presentation
   p = h.presentation
 
   sound : IsSound p
@@ -71,7 +75,7 @@ module _ (words : List (List ℕ)) (bytes : List ℕ) (h : HasTable words bytes)
   range : (h.command.limit ≤ 1000) × (h.command.entries ≤ 2000000)
   range = command_in_range words h.command h.spelled
 
-  walk : ℕ → Stage → Walked
+  abbrev walk : ℕ → Stage → Walked
   walk n stage = walk_of true h.command.entries p (of_text p).stored n stage
 
   no_overflow : (T : PlainTable) (u : Unfit) → IsRaised p T → T.weight < h.command.limit → close_weight T p ≡ Err u → ⊥
@@ -90,38 +94,37 @@ module _ (words : List (List ℕ)) (bytes : List ℕ) (h : HasTable words bytes)
   few : (T : PlainTable) → Holds p T → T.weight < h.command.limit → count_through T (suc T.weight) ≤ h.command.entries
   few T holds low =
       let same : count_through T (suc T.weight) ≡ count_through h.table (suc T.weight) =
-          counts_through p T.weight h.command.limit T h.table sound (held_is_table p T holds) h.standard (omega (arith, low)) (suc T.weight) (omega arith) in
+      counts_through p T.weight h.command.limit T h.table sound (held_is_table p T holds) h.standard (omega (arith, low)) (suc T.weight) (omega arith) in
       omega (arith, same, h.within (suc T.weight) (omega (arith, low)))
 
+  few_symbols : (T : PlainTable) → Holds p T → T.weight < h.command.limit → length (symbols_in T) ≤ 2000000
+  few_symbols T holds low =
+      let l : count_through T T.weight + count_of T (suc T.weight) ≤ h.command.entries = few T holds low in
+      omega (arith, l, symbols_counted T, range.1)
+
+  next_stop : (n : ℕ) (stage : Stage) → IsRaised p stage.table → stage.table.weight < h.command.limit →
+      ((held : Held) → close_weight stage.table p ≡ Ok held → (walk n (raised_by stage p held)).stop ≡ None) → (r : Result Held Unfit) → close_weight stage.table p ≡ r → (walk_on (walk n) stage (computed_as stage p r)).stop ≡ None
+  next_stop n stage raised low again (Err u) run = absurd (no_overflow stage.table u raised low run)
+  next_stop n stage raised low again (Ok held) run = again held run
+
   goes_on : (n : ℕ) (stage : Stage) → Holds p stage.table → IsRaised p stage.table → stage.stored ≡ false → stage.table.weight + n ≡ h.command.limit → (walk n stage).stop ≡ None
-  unfolding walk
   goes_on zero stage holds raised plain sum = refl
-  goes_on (suc n) stage holds raised plain sum = ap (λ (r : Result Stage Stop). (walk_on (walk n) stage r).stop) next ∙ go (close_weight stage.table p) refl
-    where
-      T : PlainTable
-      T = stage.table
-
-      low : T.weight < h.command.limit
-      low = omega (arith, sum)
-
-      within : nat_lt h.command.entries (count_through T (next_weight stage)) ≡ false
-      within = let l = few T holds low in grind (arith, l)
-
-      next : step_of true h.command.entries p (of_text p).stored stage ≡ computed_as stage p (close_weight T p)
-      next = computed_next h.command.entries p (of_text p).stored stage plain within
-
-      go : (r : Result Held Unfit) → close_weight T p ≡ r → (walk_on (walk n) stage (computed_as stage p r)).stop ≡ None
-      go (Err u) run = absurd (no_overflow T u raised low run)
-      go (Ok held) run =
-          let small : length (symbols_in T) ≤ 2000000 = few_symbols T (count_through T (T.weight + 1)) refl (let l = few T holds low in let up : T.weight + 1 ≡ suc T.weight = omega arith in rw up (omega (arith, l, range.1))) in
-          goes_on n (raised_by stage p held) (next_holds p T holds held run (omega (arith, low, range.0)) small) (next_raised p T holds held run raised) refl (omega (arith, sum))
+  goes_on (suc n) stage holds raised plain sum =
+      let low : stage.table.weight < h.command.limit = omega (arith, sum) in
+      let l : count_through stage.table (suc stage.table.weight) ≤ h.command.entries = few stage.table holds low in
+      let within : nat_lt h.command.entries (count_through stage.table (suc stage.table.weight)) ≡ false = grind (arith, l) in
+      let next : step_of true h.command.entries p (of_text p).stored stage ≡ computed_as stage p (close_weight stage.table p) = computed_next h.command.entries p (of_text p).stored stage plain within in
+      ap (λ (r : Result Stage Stop). (walk_on (walk n) stage r).stop) next
+      ∙ next_stop n stage raised low
+      (λ held run. goes_on n (raised_by stage p held) (next_holds p stage.table holds held run (omega (arith, low, range.0)) (few_symbols stage.table holds low)) (next_raised p stage.table holds held run raised) refl (omega (arith, sum)))
+      (close_weight stage.table p) refl
 
   start_table : (r : Reply) → AnswersStart h.command (of_text p) r → status_of r ≡ Done
   start_table _ (view_not_built a) = absurd (a (inl h.view))
   start_table _ (failed_at a f e) =
       let over : (walk_of (does_compute h.command.view) h.command.entries p (of_text p).stored h.command.limit (begun_for (of_text p))).stop ≡ Some (failed f) = e in
       let table : (walk_of true h.command.entries p (of_text p).stored h.command.limit (begun_for (of_text p))).stop ≡ Some (failed f) =
-          subst (λ (v : View). (walk_of (does_compute v) h.command.entries p (of_text p).stored h.command.limit (begun_for (of_text p))).stop ≡ Some (failed f)) h.view over in
+      subst (λ (v : View). (walk_of (does_compute v) h.command.entries p (of_text p).stored h.command.limit (begun_for (of_text p))).stop ≡ Some (failed f)) h.view over in
       let on = goes_on h.command.limit (begun_for (of_text p)) (start_holds p sound) started refl (omega arith) in
       let no : None ≡ Some (failed f) = sym on ∙ table in
       cc

@@ -2,7 +2,7 @@
 use Rattle.std.proofs.Common.{List, ℕ, ◌+◌, ◌<◌, [], ◌∷◌, ◌++◌, ◌≡◌, length, take, drop, get_or, fold, Ok, Err, refl, sym, ap, ◌∙◌, append_assoc, arith}
 use Rattle.std.proofs.lemmas.List.{append-nil, take-append-drop}
 use Rattle.std.proofs.lemmas.Grind.{fold-append, take_at_read}
-use Rattle.std.specs.Prelude.{OnErr, nat_eq, false, codes, decimal}
+use Rattle.std.specs.Prelude.{OnOk, OnErr, nat_eq, false, codes, decimal}
 use Rattle.fpl_print.specs.Combinations.{below_text}
 use Rattle.std.specs.declared.option.Option.{Option}
 use Rattle.std.specs.declared.result.Result.{Result}
@@ -17,6 +17,10 @@ on_err (Ok x) P p = tt
 on_err (Err e) P p = p
 
 -- a second piece after a first one that was taken
+pub on_ok_after : {T E : Type 0} (r : Result T E) (a b c : Option (List ℕ)) (u v : List ℕ) → Takes a b u → OnOk r (Takes b c v) → OnOk r (Takes a c (u ++ v))
+on_ok_after (Ok x) a b c u v t h = takes_more a b c u v t h
+on_ok_after (Err e) a b c u v t h = tt
+
 pub on_err_after : {T E : Type 0} (r : Result T E) (a b c : Option (List ℕ)) (u v : List ℕ) → Takes a b u → OnErr r (WrotePrefix b c v) → OnErr r (WrotePrefix a c (u ++ v))
 on_err_after (Ok x) a b c u v t h = tt
 on_err_after (Err e) a b c u v t h = wrote_after a b c u v t h

@@ -1,5 +1,5 @@
 -- From the reply to a part of the input to that of the whole, and to what a run did.
-use Rattle.std.proofs.Common.{◌≡◌, ℕ, ◌<◌, ◌+◌, ◌⊎◌, inl, inr, List, ◌++◌, length, length-append, refl, sym, subst, arith, None, Some, Ok, Err}
+use Rattle.std.proofs.Common.{◌≡◌, ℕ, ◌<◌, ◌+◌, ◌⊎◌, inl, inr, List, ◌++◌, length, length-append, refl, sym, ap, ◌∙◌, subst, arith, None, Some, Ok, Err}
 use Rattle.std.specs.Prelude.{◌≢◌, IfSome, OnOk, OnErr}
 use Rattle.std.specs.declared.option.Option.{Option}
 use Rattle.std.specs.declared.result.Result.{Result}
@@ -8,7 +8,7 @@ use Rattle.std.proofs.lemmas.List.{append-nil}
 use Rattle.fpl_outside.specs.Outside.{Gives, Takes, Rose}
 use Rattle.fpl_outside.specs.Whole.{PassedMax, WrotePrefix}
 use Rattle.fplsa.specs.declared.status.Status.{Status}
-use Rattle.fplsa.specs.declared.status.Status.TheVariants.{Usage, ReadFault, WriteFault}
+use Rattle.fplsa.specs.declared.status.Status.TheVariants.{Done, Usage, NoMemory, ReadFault, WriteFault}
 use Rattle.fplsa.specs.declared.words.Command.{Command}
 use Rattle.fplsa.specs.Words.{IsCommand}
 use Rattle.fplsa.specs.Reply.{Reply, done, usage, refused, stopped, no_memory, read_fault, write_fault, not_built, IsFree, IsPlain, fault_status, status_of, text_of, line_of}
@@ -20,7 +20,7 @@ use Rattle.fplsa.specs.Answer.AnswersText.{text_too_long, no_presentation, prese
 use Rattle.fplsa.specs.Answer.AnswersCheckpoint.{no_head, head}
 use Rattle.fplsa.specs.Answer.AnswersCommand.{unread, input_too_long, checkpoint, text}
 use Rattle.fplsa.specs.Answer.Answers.{command}
-use Rattle.fplsa.specs.Run.{Settles, Says, IsReplied}
+use Rattle.fplsa.specs.Run.{Settles, Says, IsReplied, IsPartOf}
 
 pub settles_through : (A B : Reply → Type 0) (r : Reply) → (A r → B r) → Settles A r → Settles B r
 settles_through A B r f (inl e) = inl e
@@ -94,7 +94,7 @@ pub plain_outer : (r : Reply) → IsPlain r → (status_of r ≢ Usage) × (stat
 plain_outer (done t) h = (λ e. cc, λ e. cc)
 plain_outer usage h = absurd h
 plain_outer (refused place reason) h = (λ e. cc, λ e. cc)
-plain_outer (stopped text f) h = ((fault_not f).1, (fault_not f).2)
+plain_outer (stopped t f) h = ((fault_not f).1, (fault_not f).2)
 plain_outer no_memory h = (λ e. cc, λ e. cc)
 plain_outer read_fault h = (λ e. cc, λ e. cc)
 plain_outer write_fault h = absurd h
@@ -108,7 +108,7 @@ written : (w : Reply) → (status_of w ≡ WriteFault) ⊎ (status_of w ≢ Writ
 written (done t) = inr (λ e. cc)
 written usage = inr (λ e. cc)
 written (refused place reason) = inr (λ e. cc)
-written (stopped text f) = inr (fault_not f).2
+written (stopped t f) = inr (fault_not f).2
 written no_memory = inr (λ e. cc)
 written read_fault = inr (λ e. cc)
 written write_fault = inl refl
@@ -116,6 +116,14 @@ written not_built = inr (λ e. cc)
 
 free_of : (s : Status) → s ≡ WriteFault → IsFree s
 free_of s e = rw e tt
+
+-- what stands in an output that failed
+pub part_of : (words : List (List ℕ)) (left : Option (List ℕ)) (r w : Reply) (oo on : Option (List ℕ)) → IfSome left (λ bytes. (r ≡ read_fault) ⊎ Settles (Answers words bytes) r) →
+    (status_of w ≡ WriteFault → status_of r ≡ Done) → (status_of w ≡ WriteFault → WrotePrefix oo on (text_of r)) → status_of w ≡ WriteFault → IfSome left (λ bytes. IsPartOf words bytes oo on)
+part_of words None r w oo on a full front e = tt
+part_of words (Some bytes) r w oo on (inl k) full front e = let d = full e in let no : ReadFault ≡ Done = sym (ap status_of k) ∙ d in cc
+part_of words (Some bytes) r w oo on (inr (inl k)) full front e = let d = full e in let no : NoMemory ≡ Done = sym (ap status_of k) ∙ d in cc
+part_of words (Some bytes) r w oo on (inr (inr a)) full front e = record { reply = r; answers = a; done = full e; part = front e }
 
 module _ (words : List (List ℕ)) (oo on eo en : Option (List ℕ)) (before now : ℕ) where
   replied_same : (left : Option (List ℕ)) (r : Reply) → IfSome left (λ bytes. (r ≡ read_fault) ⊎ Settles (Answers words bytes) r) → Takes oo on (text_of r) → Says eo en before now (line_of r) →

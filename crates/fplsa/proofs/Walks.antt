@@ -22,7 +22,8 @@ use Rattle.fpl_sections.specs.Reading.{payload_at}
 use Rattle.fpl_resume.specs.declared.stop.Stop as code
 use Rattle.fpl_resume.specs.declared.stop.Stop.TheVariants as told
 use Rattle.fpl_complete.specs.State.{unfit_of}
-use Rattle.fpl_resume.specs.Stops.{IsStop}
+use Rattle.fpl_resume.specs.Stops.{PlainRun, stored_in, IsStop}
+use Rattle.fplsa.specs.Begin.{HasStopped}
 use Rattle.fpl_resume.specs.Walk.{Stored, Stage, Fault, too_many, bad_bytes, bad_section, overflow, Stop, ended, failed, Walked, next_weight, adopted, formed, computed_as, computed, framed, weighed, step_of, stopped, walk_on, walk_of, step_cost, cost_on, cost_of}
 
 -- a step raises the table by one weight
@@ -101,14 +102,14 @@ grown stage next (Err s) e g = cc
 pub step_raises : (c : Bool) (e : ℕ) (p : Presentation) (at : Stored) (stage next : Stage) → step_of c e p at stage ≡ Ok next → next.table.weight ≡ suc stage.table.weight
 step_raises c e p at stage next h = grown stage next (step_of c e p at stage) h (step_grows p stage at c e)
 
+ends_on : (further : Stage → Walked) (stage : Stage) → ((next : Stage) → (further next).stop ≡ Some ended → ⊥) → (r : Result Stage Stop) → Goes r → (walk_on further stage r).stop ≡ Some ended → ⊥
+ends_on further stage again (Ok next) g h = again next h
+ends_on further stage again (Err (failed f)) g h = cc
+ends_on further stage again (Err ended) g h = g
+
 pub never_ends : (e : ℕ) (p : Presentation) (at : Stored) (n : ℕ) (stage : Stage) → (walk_of true e p at n stage).stop ≡ Some ended → ⊥
 never_ends e p at zero stage h = cc
-never_ends e p at (suc n) stage h = go (step_of true e p at stage) (step_goes p stage at e) h
-  where
-    go : (r : Result Stage Stop) → Goes r → (walk_on (walk_of true e p at n) stage r).stop ≡ Some ended → ⊥
-    go (Ok next) g k = never_ends e p at n next k
-    go (Err (failed f)) g k = cc
-    go (Err ended) g k = g
+never_ends e p at (suc n) stage h = ends_on (walk_of true e p at n) stage (λ next. never_ends e p at n next) (step_of true e p at stage) (step_goes p stage at e) h
 
 -- what a loop through the weights keeps: the walk that is left, and its cost
 module _ (c : Bool) (e : ℕ) (p : Presentation) (at : Stored) (limit : ℕ) where
@@ -148,3 +149,25 @@ stop_known (told.BadSection w spot why) r h = inr (failed (bad_section w spot wh
 stop_known (told.Overflow w op a b) r h = inr (failed (overflow w (unfit_of op a b)), h, refl)
 stop_known told.Ended r h = inr (ended, h, refl)
 stop_known told.NoMemory r h = inl refl
+
+stored_at : ℕ → List ℕ → Stored
+stored_at v bytes = record { version = v; bytes = bytes }
+
+-- the same step, told by what a run has become
+pub stored_as : (r s : PlainRun) (bytes : List ℕ) → r.version ≡ s.version → stored_in r bytes ≡ stored_in s bytes
+unfolding stored_at
+stored_as r s bytes e = ap (λ v. stored_at v bytes) e
+
+pub step_as : (c d : Bool) (e : ℕ) (p q : Presentation) (at bt : Stored) (stage : Stage) → d ≡ c → q ≡ p → bt ≡ at → step_of c e p at stage ≡ step_of d e q bt stage
+step_as c d e p q at bt stage x y z = rw (x, y, z) refl
+
+pub cost_as : (c d : Bool) (p q : Presentation) (at bt : Stored) (stage : Stage) → d ≡ c → q ≡ p → bt ≡ at → step_cost c p at stage ≡ step_cost d q bt stage
+cost_as c d p q at bt stage x y z = rw (x, y, z) refl
+
+pub stopped_at : (c : Bool) (e : ℕ) (p : Presentation) (at : Stored) (limit : ℕ) (stage left : Stage) (stop : code.Stop) (whole : Walked) → left ≡ stage → whole ≡ walk_of c e p at (limit - stage.table.weight) stage →
+    stage.table.weight < limit → IsStop stop (step_of c e p at stage) → HasStopped stop left whole
+stopped_at c e p at limit stage left stop whole same is low h = go (stop_known stop (step_of c e p at stage) h)
+  where
+    go : (stop ≡ told.NoMemory) ⊎ ((s : Stop) × (step_of c e p at stage ≡ Err s) × IsStop {X = Stage} stop (Err s)) → HasStopped stop left whole
+    go (inl m) = inl m
+    go (inr k) = inr (k.0, is ∙ walk_stops c e p at limit stage k.0 low k.1 ∙ ap (λ (x : Stage). stopped x (Some k.0)) (sym same), k.2)

@@ -48,7 +48,11 @@ fn put_origin<E: Sink>(err: &mut E, origin: Origin) -> Result<(), WriteFault>
         ),
         Origin::Cube(i) => put_pieces(
             err,
-            &[Piece::Text(b"C("), Piece::Count(i as u64), Piece::Text(b")")],
+            &[
+                Piece::Text(b"C("),
+                Piece::Count(i as u64),
+                Piece::Text(b")"),
+            ],
         ),
         Origin::Row(n) => put_pieces(err, &[Piece::Text(b"row "), Piece::Count(n)]),
     }

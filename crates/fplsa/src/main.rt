@@ -4,6 +4,8 @@
 ghost use Rattle.std.specs.Prelude.{◌≡◌, ◌<◌};
 
 mod check_text;
+#[cfg(test)]
+mod checkpoint_tests;
 mod fault_line;
 mod laws;
 mod line;
@@ -11,8 +13,6 @@ mod outcome;
 mod run;
 mod spelling;
 mod status;
-#[cfg(test)]
-mod checkpoint_tests;
 #[cfg(test)]
 mod tests;
 mod walk;

@@ -1,7 +1,6 @@
 //! The run through the weights of what was read.
 ghost use Rattle.std.specs.Prelude.{◌≡◌, ◌≤◌, ◌<◌, ◌+◌, ◌⊎◌, [], length, None, Err, OnOk, IfErr};
 ghost use Rattle.fpl_model.specs.Sound.{IsSound};
-ghost use Rattle.fpl_resume.specs.declared.stop.Stop as code;
 ghost use Rattle.fpl_resume.specs.Walk as plain;
 ghost use Rattle.fpl_resume.specs.Walk.{Stage, Fault, failed, walk_of, cost_of};
 ghost use Rattle.fpl_resume.specs.Stops.{IsStop, stored_in};
@@ -58,7 +57,7 @@ fn walk<F: Field, L: Ledger>(
     ensures rises { steps.old ≤ steps.new }
     ensures cost { steps.new ≤ steps.old + cost_of (does_compute c.view) c.entries run.old.presentation (stored_in run.old bytes.now) c.limit run.old.stage }
 {
-    while run.weight() < c.limit {
+    'weights: while run.weight() < c.limit {
         match run.advance(bytes, does_compute(c.view), c.entries, steps) {
             Ok(()) => {}
             Err(stop) => return Err(stop),
@@ -69,8 +68,8 @@ fn walk<F: Field, L: Ledger>(
 
 // What a stop comes to, but for the end of what is stored.
 fn ending(stop: Stop) -> Outcome
-    ensures memory { stop ≡ code.TheVariants.NoMemory → reply_of result ≡ no_memory }
-    ensures reply { (f : Fault) → IsStop {X = Stage} stop (Err (failed f)) → (stop ≡ code.TheVariants.NoMemory → ⊥) → reply_of result ≡ stopped [] f }
+    ensures memory { stop ≡ Stop.NoMemory → reply_of result ≡ no_memory }
+    ensures reply { (f : Fault) → IsStop {X = Stage} stop (Err (failed f)) → (stop ≡ Stop.NoMemory → ⊥) → reply_of result ≡ stopped [] f }
 {
     match stop {
         Stop::TooMany { weight, count } => Outcome::Limit { weight, count },
@@ -131,6 +130,25 @@ fn checked<F: Field>(alloc: Global, run: &Run<F>, c: Command, bytes: &[u8]) -> O
     }
 }
 
+// What a check comes to that stopped: the end of what is stored is no fault.
+fn checked_to<F: Field>(
+    alloc: Global,
+    run: &Run<F>,
+    c: Command,
+    bytes: &[u8],
+    stop: Stop,
+) -> Outcome
+    requires { IsInRange c }
+    ensures ended { stop ≡ Stop.Ended → HasChecked run.now c bytes.now (reply_of result) }
+    ensures memory { stop ≡ Stop.NoMemory → reply_of result ≡ no_memory }
+    ensures reply { (f : Fault) → IsStop {X = Stage} stop (Err (failed f)) → (stop ≡ Stop.NoMemory → ⊥) → reply_of result ≡ stopped [] f }
+{
+    match stop {
+        Stop::Ended => checked(alloc, run, c, bytes),
+        _ => ending(stop),
+    }
+}
+
 fn check_through<F: Field, L: Ledger>(
     alloc: Global,
     field: F,
@@ -160,8 +178,7 @@ fn check_through<F: Field, L: Ledger>(
     };
     match walk(&mut run, bytes, c, steps) {
         Ok(()) => checked(alloc, &run, c, bytes),
-        Err(Stop::Ended) => checked(alloc, &run, c, bytes),
-        Err(stop) => ending(stop),
+        Err(stop) => checked_to(alloc, &run, c, bytes, stop),
     }
 }
 

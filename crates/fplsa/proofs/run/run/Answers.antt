@@ -1,5 +1,5 @@
 use Rattle.std.proofs.Common.{◌∙◌, sym}
-use Rattle.fplsa.proofs.Replies.{replied, says}
+use Rattle.fplsa.proofs.Replies.{replied, says, part_of}
 use Rattle.fplsa.proofs.Complete.{completes, fault_read}
 use Rattle.fplsa.proofs.run.run.Goals as goal
 
@@ -13,3 +13,6 @@ returns-clause-complete g c =
     completes _ _ c.status.result _ _ _ _ _ _ _ _ (returns-clause-reply g c)
     (λ e. fault_read _ _ _ c.write_text-outcome.ensures.same c.answer.ensures.read (sym c.status.ensures ∙ e))
     (λ e. c.write_text-outcome.ensures.fault (sym c.status.ensures ∙ e))
+
+pub returns-clause-part : goal.returns-clause-part
+returns-clause-part g c = λ e. part_of _ _ _ _ _ _ c.answer.ensures.reply c.write_text-outcome.ensures.done c.write_text-outcome.ensures.part (sym c.status.ensures ∙ e)

@@ -4,8 +4,8 @@ use Rattle.fpl_resume.specs.Stops.{stored_in}
 use Rattle.fplsa.specs.Start.{does_compute}
 use Rattle.fplsa.proofs.walk.walk.Given as goal
 
-abbrev pub invariant-loop-run : goal.invariant-loop-run
-invariant-loop-run g l = record {
+abbrev pub invariant-weights : goal.invariant-weights
+invariant-weights g l = record {
   presentation : l.run.presentation ≡ l.fn.run.presentation;
   version : l.run.version ≡ l.fn.run.version;
   within : l.run.stage.table.weight ≤ l.c.limit;
@@ -16,5 +16,5 @@ invariant-loop-run g l = record {
       ≤ l.fn.steps + cost_of (does_compute l.c.view) l.c.entries l.fn.run.presentation (stored_in l.fn.run l.bytes) l.c.limit l.fn.run.stage;
 }
 
-abbrev pub decreases-loop-run : goal.decreases-loop-run
-decreases-loop-run g l = l.c.limit - l.run.stage.table.weight
+abbrev pub decreases-weights : goal.decreases-weights
+decreases-weights g l = l.c.limit - l.run.stage.table.weight
