@@ -34,7 +34,7 @@ use Rattle.fpl_check.specs.declared.fault.Why.TheVariants.{OriginCount}
 use Rattle.fpl_check.specs.Refusal.{demand}
 use Rattle.fpl_check.specs.Premises.{AreCoefficientsOf, IsSectionFor}
 use Rattle.fpl_check.specs.Check.{test_count, rows_stored, Accepts}
-use Rattle.fpl_valid.specs.Valid.{slimmed, whole_section, TellsOrigins, AcceptedInOrder, SlimIsAccepted, SlimIsFor, SlimIsSlim, WholeIsAccepted, SectionIsAccepted, SectionIsFor, SectionIsSlim}
+use Rattle.fpl_valid.specs.Valid.{slimmed, whole_section, TellsOrigins, AcceptedInOrder, SlimIsAccepted, SlimIsFor, SlimIsSlim, WholeIsAccepted, SectionIsAccepted, SectionIsFor, SectionIsSlim, OneStepEach}
 use Rattle.fpl_valid.proofs.Conclusions.{HaveRows}
 use Rattle.fpl_valid.proofs.Accepted.{accepted_parts, accepts_whole}
 use Rattle.fpl_valid.proofs.InOrder.{accepted_in_order}
@@ -42,6 +42,11 @@ use Rattle.fpl_valid.proofs.Slimmed.{slim_parts}
 use Rattle.fpl_valid.proofs.SlimAgain.{slim_again, slim_numbers}
 use Rattle.fpl_valid.proofs.Whole.{rows_closed, ascending, whole_parts, whole_accepted}
 use Rattle.fpl_valid.proofs.Numbered.{run_numbers}
+use Rattle.fpl_valid.proofs.Counted.{inserts_counted}
+use Rattle.fpl_check.specs.ClosedRows.{close_count}
+use Rattle.fpl_check.proofs.ListedOrigins.{demanded}
+use Rattle.fpl_check.proofs.PassedTests.{same_count}
+use Rattle.fpl_valid.specs.Valid.{insert_count}
 
 module _ (p : Presentation) (T : PlainTable) (holds : Holds p T) where
   is_field : IsField T.kind
@@ -144,3 +149,13 @@ pub section_is_slim : SectionIsSlim
 section_is_slim p T s holds e =
     let c = computed p T holds s e in
     subst (λ s. slimmed T p s ≡ s) (sym c.is) (slim_is_slim p T (whole_section T (Some (length (origins_of T p))) c.held) (weighed_in_order p T holds c.held c.run))
+
+pub one_step_each : OneStepEach
+one_step_each p T s holds e =
+    let c = computed p T holds s e in
+    let rows = rows_of c.held.pivots in
+    let inserts = inserts_counted T p (is_field p T holds) (have_rows p T holds) c.held c.run in
+    let long : length (closed_list rows) ≡ length c.held.pivots = length-map rows (coefficients_from 1) ∙ length-map c.held.pivots (λ q. q.row) in
+    let accepted = section_is_accepted p T s holds e in
+    let h = accepted_parts T p s accepted.0 accepted.1 in
+    (subst (λ s. insert_count s.steps ≡ length s.closed) (sym c.is) (inserts ∙ sym long), same_count (close_count s.steps) (length s.closed) (demanded _ _ _ h.0.closes))

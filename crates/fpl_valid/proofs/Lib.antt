@@ -12,4 +12,5 @@ pub mod Slimming
 pub mod Slimmed
 pub mod Numbered
 pub mod SlimAgain
+pub mod Counted
 pub mod Held
