@@ -4,7 +4,7 @@ use Rattle.std.specs.Option.{option_or}
 use Rattle.std.specs.List.{find}
 use mathlib.Core.Path.{refl, sym, ap, ap₂, ◌∙◌, subst}
 use native.Mathlib.Omega.{arith}
-use native.Mathlib.Decide.{ℕ_discrete, dec_le}
+use native.Mathlib.Decide.{ℕ_discrete}
 use Rattle.std.proofs.lemmas.List.{length-append}
 use Rattle.std.proofs.lemmas.List.Folds.{find-append}
 use Rattle.fpl_fields.specs.Field.{Field}
@@ -27,7 +27,7 @@ use Rattle.fpl_model.specs.declared.presentation.Presentation.{Presentation}
 use Rattle.fpl_log.specs.declared.step.Origin.{Origin}
 use Rattle.fpl_log.specs.declared.step.Step.{Step}
 use Rattle.fpl_log.specs.declared.step.Step.TheVariants.{Insert, Close}
-use Rattle.fpl_log.specs.Slim.{is_left_out, next_number, next_count, slim_step, kept_if, slim_steps}
+use Rattle.fpl_log.specs.Slim.{next_number, next_count, slim_step, kept_if, slim_steps}
 use Rattle.fpl_elimination.specs.Plain.{PivotRow, IsPivotRow, stands_at, Swept, sweep_of, Held, Elimination, Inserted, keep_of, insert_of, close_by, close_to}
 use Rattle.fpl_elimination.specs.Spans.{table_of}
 use Rattle.fpl_elimination.proofs.Sweeping.{sweep_reads}
