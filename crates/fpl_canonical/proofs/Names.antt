@@ -1,5 +1,5 @@
 -- A name that isn't there has no bytes.
-use Rattle.std.proofs.Common.{◌≡◌, ℕ, zero, suc, List, [], ◌∷◌, None, Some, map, get_or, refl}
+use Rattle.std.proofs.Common.{◌≡◌, ℕ, zero, suc, List, [], ◌∷◌, None, map, get_or, refl}
 use Rattle.std.specs.Prelude.{slice_get}
 
 pub name_past : {A : Type 0} (name : A → List ℕ) (xs : List A) (k : ℕ) → slice_get xs k ≡ None → get_or (map name xs) k [] ≡ []

@@ -8,6 +8,7 @@
 --   begins_below e         whether a member of a sum is a multiple whose number is below 0
 --   expression_text names stand e   the text of a tree: a name, 0, [A,B], C*A, or a sum
 --   sum_text names first es         the members of a sum, each after its sign
+--   side_text p e          the text of a side of an equation, or of an ideal element
 --   field_line, generator_line, equation_line, ideal_line   the lines of these items
 --   lines line xs          the lines of a list's members, in order
 --   canonical_of p         field; generators; relations; ideal elements; queries

@@ -11,7 +11,7 @@ use std::alloc::AllocError;
 
 /// Where an expression stands.
 #[derive(Clone, Copy, Debug, PartialEq, Eq)]
-pub(crate) enum Stand {
+pub enum Stand {
     /// As a side of an equation, an ideal element or a member of a bracket.
     Alone,
     /// As a member of a sum, after its sign.
@@ -124,11 +124,7 @@ pub(crate) fn push_expression(
 
 #[cycle(writing)]
 #[tactic(auto, using(fpl_model::proofs::Plain::plain_forms))]
-fn push_sum(
-    out: &mut Vec<u8>,
-    generators: &Generators,
-    members: &Exprs,
-) -> Result<(), AllocError>
+fn push_sum(out: &mut Vec<u8>, generators: &Generators, members: &Exprs) -> Result<(), AllocError>
     ensures { OnOk result (out.new.items ≡ out.old.items ++ sum_text (map (λ g. g.name) generators.now) true (trees (map plain members.now))) }
 {
     let mut first = true;

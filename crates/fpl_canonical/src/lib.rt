@@ -5,4 +5,5 @@ mod expression;
 mod numerals;
 mod writing;
 
+pub use expression::Stand;
 pub use writing::write;

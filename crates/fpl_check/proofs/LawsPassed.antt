@@ -9,7 +9,7 @@ use Rattle.fpl_numbers.specs.declared.number.Num.{Num}
 use Rattle.fpl_numbers.specs.declared.number.Kind.{Kind}
 use Rattle.fpl_numbers.specs.Numbers.{IsField}
 use Rattle.fpl_numbers.specs.Kinds.{field_of, number_of}
-use Rattle.fpl_rows.specs.Meaning.{row_in, vector_in, IsClosedList, InSpanOf}
+use Rattle.fpl_rows.specs.Meaning.{row_in, vector_in, AreRows, IsClosedList, InSpanOf}
 use Rattle.fpl_rows.proofs.Readings.{vector_past}
 use Rattle.fpl_algebra.specs.Tree.{none}
 use Rattle.fpl_algebra.specs.Derives.{Derives, Expression}
@@ -108,6 +108,24 @@ module _ (p : Presentation) (T : PlainTable) (s : Section) (holds : Holds p T) (
       subst (λ k. ConcludedAt k conclusions) same (λ vector stand i d l.
       let h = (conclusions_spanned T is_field p vector stand s.steps [] s.steps conclusions (λ i d l. absurd (omega (arith, l))) section.numbers.steps e).0 i d l in
       (h.spanned, h.row.length_is))
+
+  -- conclusions are rows, one a step
+  pub record Concluded (k : Kind) (conclusions : List (List Num)) : Type 0 where
+    pub rows : (vector : Origin → Vector (field_of k)) → RowsStand k vector → AreRows T.kind (length (symbols_in T)) conclusions
+    pub whole : (vector : Origin → Vector (field_of k)) → RowsStand k vector → length conclusions ≡ length s.steps
+
+  concluded : (conclusions : List (List Num)) → conclusions_of T p s ≡ Ok conclusions → (k : Kind) → T.kind ≡ k → Concluded k conclusions
+  concluded conclusions e k same =
+      subst (λ k. Concluded k conclusions) same (record {
+        rows = λ vector stand i d l. ((conclusions_spanned T is_field p vector stand s.steps [] s.steps conclusions (λ i d l. absurd (omega (arith, l))) section.numbers.steps e).0 i d l).row;
+        whole = λ vector stand. (let r = conclusions_spanned T is_field p vector stand s.steps [] s.steps conclusions (λ i d l. absurd (omega (arith, l))) section.numbers.steps e in let l = r.1 in omega (arith, l));
+      })
+
+  pub conclusions_rows : (conclusions : List (List Num)) → conclusions_of T p s ≡ Ok conclusions → AreRows T.kind (length (symbols_in T)) conclusions
+  conclusions_rows conclusions e = (concluded conclusions e p.field holds.kind).rows vector stand
+
+  pub conclusions_whole : (conclusions : List (List Num)) → conclusions_of T p s ≡ Ok conclusions → length conclusions ≡ length s.steps
+  conclusions_whole conclusions e = (concluded conclusions e p.field holds.kind).whole vector stand
 
   pub conclusions_zero : (conclusions : List (List Num)) → conclusions_of T p s ≡ Ok conclusions → (tree : ℕ → Expression (field_of p.field)) → IsStandard (field_of p.field) (presentation_in p) (table_in p.field T) tree →
       All (λ row. Derives (field_of p.field) (presentation_in p) (over_symbols (field_of p.field) (presentation_in p) (table_in p.field T) tree (vector_in p.field row)) none) conclusions

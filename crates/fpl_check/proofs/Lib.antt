@@ -8,3 +8,4 @@ mod Tested
 pub mod ClosedTests
 pub mod PassedTests
 mod LawsPassed
+pub mod AcceptedSections

@@ -292,18 +292,23 @@ module _ (T : PlainTable) (is_field : IsField T.kind) (p : Presentation) (s : Se
   pub passed_closed : (rows : List (List Num)) → Passes rows → IsClosedList T.kind (length (symbols_in T)) rows
   passed_closed rows k = are_closed T.kind is_field (length (symbols_in T)) rows (passed_rows rows k) k.leads k.apart
 
+  -- the closed rows are the conclusions of the Close steps
+  pub passed_same : (rows : List (List Num)) (k : Passes rows) → AreRows T.kind (length (symbols_in T)) k.conclusions → length k.conclusions ≡ length s.steps → rows ≡ close_rows s.steps k.conclusions
+  passed_same rows k are whole =
+      let closes = close_among (IsRowOf T.kind (length (symbols_in T))) s.steps k.conclusions are in
+      let count : close_count s.steps ≡ length s.closed = same_count _ _ (demanded _ _ _ k.closes) in
+      let many : length rows ≡ length (close_rows s.steps k.conclusions) =
+      ap length (sym k.are) ∙ length-map s.closed (stored_row (length (symbols_in T))) ∙ sym count ∙ sym (close_length s.steps k.conclusions whole) in
+      all_same T.kind (length (symbols_in T)) 1 rows (close_rows s.steps k.conclusions) (passed_rows rows k) closes many k.same
+
   module _ (vector : Origin → Vector (field_of T.kind)) (stand : RowsStand T is_field p vector) where
     -- the closed rows are conclusions, so they are in the span of the origins' vectors
     pub passed_spanned : (rows : List (List Num)) → Passes rows → All (IsSpannedRow T is_field p vector) rows
     passed_spanned rows k =
         let r = conclusions_spanned T is_field p vector stand s.steps [] s.steps k.conclusions (λ i d l. absurd (omega (arith, l))) section.numbers.steps k.concluded in
         let closes = close_among (IsSpannedRow T is_field p vector) s.steps k.conclusions r.0 in
-        let count : close_count s.steps ≡ length s.closed = same_count _ _ (demanded _ _ _ k.closes) in
         let whole : length k.conclusions ≡ length s.steps = (let l = r.1 in omega (arith, l)) in
-        let many : length rows ≡ length (close_rows s.steps k.conclusions) =
-        ap length (sym k.are) ∙ length-map s.closed (stored_row (length (symbols_in T))) ∙ sym count ∙ sym (close_length s.steps k.conclusions whole) in
-        subst (All (IsSpannedRow T is_field p vector))
-        (sym (all_same T.kind (length (symbols_in T)) 1 rows (close_rows s.steps k.conclusions) (passed_rows rows k) (λ i d l. (closes i d l).row) many k.same)) closes
+        subst (All (IsSpannedRow T is_field p vector)) (sym (passed_same rows k (λ i d l. (r.0 i d l).row) whole)) closes
 
     -- and the origins' vectors are in their span
     pub passed_each : (rows : List (List Num)) → Passes rows → (o : Origin) → Contains (origins_of T p) o → InSpanOf T.kind rows (vector o)

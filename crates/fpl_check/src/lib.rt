@@ -16,3 +16,4 @@ mod stored;
 pub use check::check_section;
 pub use fault::{CheckFault, Spot, Why};
 pub use laws::accepted;
+pub use origins::count_origins;

@@ -23,7 +23,7 @@ use fpl_table::{Symbols, Table};
 use std::alloc::Global;
 
 /// The number of origins of the weight after the table's, where it is below 2^64 - 1.
-fn count_origins<F: Field>(table: &Table<F>, p: &Presentation) -> Option<u64>
+pub fn count_origins<F: Field>(table: &Table<F>, p: &Presentation) -> Option<u64>
     requires sound { IsSound p.now }
     requires agrees { Agrees table.now p.now }
     ensures { IfSome result (λ found. found ≡ length (origins_of table.now p.now)) }

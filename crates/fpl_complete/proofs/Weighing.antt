@@ -1,17 +1,17 @@
 -- The closed rows of a weight and its section, from the parts that make them.
 use Rattle.std.specs.Prelude.{ℕ, suc, ◌+◌, ◌-◌, ◌≡◌, ◌≤◌, List, [], length, Ok, Some}
-use mathlib.Core.Path.{refl, sym, subst, ap, ◌∙◌}
+use mathlib.Core.Path.{sym, subst, ap, ◌∙◌}
 use native.Mathlib.Omega.{arith}
 use Rattle.std.proofs.lemmas.List.{length-map}
 use Rattle.fpl_numbers.specs.declared.number.Num.{Num}
-use Rattle.fpl_numbers.specs.declared.number.Unfit.{Unfit}
 use Rattle.fpl_numbers.specs.declared.number.Fault.{Fault}
 use Rattle.fpl_numbers.specs.declared.number.Fault.TheVariants.{NoMemory}
 use Rattle.fpl_numbers.specs.declared.number.Fault.TheVariants.{Unfit as Unfits}
 use Rattle.fpl_numbers.specs.Results.{map_ok, IsFault}
 use Rattle.fpl_log.specs.declared.step.Step.{Step}
 use Rattle.fpl_log.specs.declared.section.Section.{Section}
-use Rattle.fpl_log.specs.Slim.{AreInOrder, slim_steps}
+use Rattle.fpl_log.specs.Slim.{AllNameEarlier, slim_steps}
+use Rattle.fpl_log.proofs.SlimLoops.{order_names}
 use Rattle.fpl_elimination.specs.Plain.{Held, rows_of}
 use Rattle.fpl_echelon.specs.Outcomes.{ClosedParts, closed_as}
 use Rattle.fpl_model.specs.declared.presentation.Presentation.{Presentation}
@@ -42,8 +42,8 @@ module _ (T : PlainTable) (p : Presentation) where
       let r = part_fits parts (close_weight T p) (closed_as rows steps) k in
       record { held = r.0; run = r.1.0; rows_are = ap (λ (z : ClosedParts). z.rows) r.1.1; steps_are = ap (λ (z : ClosedParts). z.steps) r.1.1 }
 
-  pub steps_order : Holds p T → (rows : List (List Num)) (steps : List Step) → map_ok parts (close_weight T p) ≡ Ok (closed_as rows steps) → AreInOrder [] 0 steps
-  steps_order holds rows steps k = let c = closes rows steps k in subst (AreInOrder [] 0) (sym c.steps_are) (weighed_in_order p T holds c.held c.run)
+  pub steps_name : Holds p T → (rows : List (List Num)) (steps : List Step) → map_ok parts (close_weight T p) ≡ Ok (closed_as rows steps) → AllNameEarlier 0 steps
+  steps_name holds rows steps k = let c = closes rows steps k in subst (AllNameEarlier 0) (sym c.steps_are) (order_names [] 0 c.held.steps (weighed_in_order p T holds c.held c.run))
 
   counted : (rows : List (List Num)) (steps : List Step) → Closes rows steps → length steps ≡ length (origins_of T p) + length rows
   counted rows steps c = ap length c.steps_are ∙ origins_counted T p c.held c.run ∙ ap (λ n. length (origins_of T p) + n) (sym (ap length c.rows_are ∙ length-map c.held.pivots (λ q. q.row)))

@@ -8,8 +8,8 @@
 --   unfit_of op a b             an operation with its operands
 --   sum_after count from n      the sum of count v over the n weights v that follow `from`
 --   BoundsOrigins p from d count   each weight v of p above `from` and up to d has at most count v origins
+--   slimmed T p s               a section of the weight after T's, without the steps of dependent origins, and with the number of origins
 --   weighed_as rows section     the closed rows of a weight, and its section
---   slimmed T p s               a section of the weight after the table's as it is kept: without the steps of dependent origins, and with the number of origins
 use Rattle.std.specs.Prelude.{ℕ, zero, suc, ◌≡◌, ◌≤◌, ◌<◌, ◌+◌, ◌-◌, List, [], length, Some, None, slice_index_or}
 use Rattle.fpl_numbers.specs.declared.number.Num.{Num}
 use Rattle.fpl_numbers.specs.declared.number.Op.{Op}
@@ -64,6 +64,9 @@ sum_after count from (suc n) = sum_after count from n + count (suc (from + n))
 abbrev pub BoundsOrigins : Presentation → ℕ → ℕ → (ℕ → ℕ) → Type 0
 BoundsOrigins p from d count = (v : ℕ) → from < v → v ≤ d → (T : PlainTable) → IsRaised p T → suc T.weight ≡ v → length (origins_of T p) ≤ count v
 
+abbrev pub slimmed : PlainTable → Presentation → Section → Section
+slimmed T p s = record { weight = s.weight; origins = Some (length (origins_of T p)); steps = slim_steps [] 0 s.steps; closed = s.closed }
+
 -- the closed rows of a weight, and its section
 pub record PlainWeighed : Type 0 where
   pub rows : List (List Num)
@@ -71,6 +74,3 @@ pub record PlainWeighed : Type 0 where
 
 abbrev pub weighed_as : List (List Num) → Section → PlainWeighed
 weighed_as rows section = record { rows = rows; section = section }
-
-abbrev pub slimmed : PlainTable → Presentation → Section → Section
-slimmed T p s = record { weight = s.weight; origins = Some (length (origins_of T p)); steps = slim_steps [] 0 s.steps; closed = s.closed }

@@ -11,11 +11,10 @@ pub enum RaiseFault {
     NoMemory,
 }
 
-/// Why a stored section was not adopted.
+/// Why a section was not adopted.
 #[derive(Clone, Copy, Debug, PartialEq, Eq)]
 pub enum AdoptFault {
-    /// As where a weight is computed.
     Raise(RaiseFault),
-    /// The section of `weight` fails a test.
+    /// Where the section of `weight` is wrong, and what is wrong there.
     Bad { weight: u32, spot: Spot, why: Why },
 }

@@ -1,9 +1,11 @@
 //! Completion: a presentation's table, raised weight by weight.
 #![tactic(auto)]
 
+mod accepting;
 mod fault;
 mod section;
 mod state;
+mod weighed;
 mod weight;
 
 pub use fault::{AdoptFault, RaiseFault};

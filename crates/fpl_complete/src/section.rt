@@ -1,6 +1,6 @@
 ghost use Rattle.std.specs.Prelude.{◌≡◌, ◌≤◌, ◌-◌, [], length, All, IfOk, Some};
 ghost use Rattle.fpl_scalar.specs.Vectors.{AreElements};
-ghost use Rattle.fpl_log.specs.Slim.{AreInOrder, slim_steps};
+ghost use Rattle.fpl_log.specs.Slim.{AllNameEarlier, slim_steps};
 ghost use Rattle.fpl_completion.specs.Section.{coefficients_from, closed_list};
 
 use fpl_log::{ClosedList, ClosedRow, Coefficient, Section, StepList};
@@ -51,7 +51,7 @@ pub fn section_of<F: Field>(
     steps: StepList,
     rows: &Rows<F>,
 ) -> Result<Section, AllocError>
-    requires order { AreInOrder [] 0 steps }
+    requires names { AllNameEarlier 0 steps }
     requires elements { All (AreElements (F.kind_of field.now)) rows.now }
     requires closes { length rows.now ≤ length steps }
     ensures { IfOk result (λ s. s ≡ record { weight = weight; origins = Some (length steps - length rows.now); steps = slim_steps [] 0 steps; closed = closed_list rows.now }) }

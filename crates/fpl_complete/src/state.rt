@@ -1,24 +1,26 @@
-ghost use Rattle.std.specs.Prelude.{◌≡◌, ◌≤◌, ◌<◌, ◌+◌, ◌-◌, ◌++◌, ◌∷◌, [], ◌↔◌, ℕ, max, take, length, Ok, Err, IfOk, OnOk, OnErr, IsErrOf};
+ghost use Rattle.std.specs.Prelude.{◌≡◌, ◌≤◌, ◌<◌, ◌+◌, ◌-◌, ◌++◌, ◌∷◌, [], ◌↔◌, ℕ, List, max, take, length, Ok, Err, IfOk, OnOk, OnErr, IsErrOf};
 ghost use Rattle.fpl_numbers.specs.declared.number.Num.{Num};
 ghost use Rattle.fpl_numbers.specs.declared.number.Op.{Op};
 ghost use Rattle.fpl_numbers.specs.declared.number.Kind.{Kind};
+ghost use Rattle.fpl_elimination.specs.Plain.{Held, rows_of};
 ghost use Rattle.fpl_model.specs.Sound.{IsSound};
+ghost use Rattle.fpl_table.specs.Push.{push_of};
 ghost use Rattle.fpl_table.specs.Standard.{start_of, count_through, IsTableOf};
 ghost use Rattle.fpl_rewrite.specs.Origins.{origins_of};
 ghost use Rattle.fpl_next.specs.Raised.{IsRaised};
 ghost use Rattle.fpl_completion.specs.Weight.{close_weight, next_of};
-ghost use Rattle.fpl_completion.specs.Section.{Computes, OverflowsAt};
-ghost use Rattle.std.specs.Prelude.{List};
-ghost use Rattle.fpl_table.specs.Push.{push_of};
+ghost use Rattle.fpl_completion.specs.Section.{section_of, Computes, OverflowsAt};
 ghost use Rattle.fpl_check.specs.declared.fault.Spot.{Spot};
 ghost use Rattle.fpl_check.specs.declared.fault.Why.{Why};
 ghost use Rattle.fpl_check.specs.Refusal.{bad, unfit};
 ghost use Rattle.fpl_check.specs.Premises.{IsSectionFor};
 ghost use Rattle.fpl_check.specs.Check.{check_of, Accepts};
-ghost use Rattle.fpl_complete.specs.State.{slimmed, AreOfWeights, BoundsOrigins, PassesAfter, section_at, sum_after, unfit_of};
+ghost use Rattle.fpl_complete.specs.State.{AreOfWeights, BoundsOrigins, PassesAfter, section_at, slimmed, sum_after, unfit_of};
 
-use crate::{AdoptFault, RaiseFault};
+use crate::accepting::accept;
 use crate::weight::complete_weight;
+use crate::{AdoptFault, RaiseFault};
+use fpl_check::CheckFault;
 use fpl_log::{Section, Sections};
 use fpl_model::Presentation;
 use fpl_scalar::{Fault, Field};
@@ -102,6 +104,14 @@ impl<F: Field> State<F> {
         self.table.weight()
     }
 
+    /// How many symbols there are of the weights from 1 to the one after the table's.
+    pub fn next_count(&self) -> u64
+        requires { self.now.table.weight < 1000 }
+        ensures { result ≡ count_through self.now.table (self.now.table.weight + 1) }
+    {
+        self.count + self.table.symbol_count(self.table.weight() + 1)
+    }
+
     /// Adds the next weight, and keeps its section.
     ///
     /// `Limit` comes, before any operation, exactly where the symbols of the weights from 1 to
@@ -116,6 +126,7 @@ impl<F: Field> State<F> {
         requires weight { self.old.table.weight < 1000 }
         requires entries { entries ≤ 2000000 }
         ensures presentation { self.new.presentation ≡ self.old.presentation }
+        ensures value { OnOk result ((h : Held) × (close_weight self.old.table self.old.presentation ≡ Ok h) × (self.new.table ≡ push_of self.old.table (rows_of h.pivots)) × (self.new.sections ≡ self.old.sections ++ section_of self.old.table self.old.presentation h ∷ [])) }
         ensures next { OnOk result (next_of self.old.table self.old.presentation ≡ Ok self.new.table) }
         ensures weight { OnOk result (self.new.table.weight ≡ self.old.table.weight + 1) }
         ensures sections { OnOk result (self.new.sections ≡ self.old.sections ++ section_at self.new.sections self.new.table.weight ∷ []) }
@@ -123,16 +134,16 @@ impl<F: Field> State<F> {
         ensures within { OnOk result (count_through self.new.table self.new.table.weight ≤ entries) }
         ensures counts { OnOk result ((v : ℕ) → v ≤ self.old.table.weight + 1 → count_through self.new.table v ≡ count_through self.old.table v) }
         ensures limit { (w c : ℕ) → IsErrOf result (RaiseFault.Limit w c) ↔ ((w ≡ self.old.table.weight + 1) × (c ≡ count_through self.old.table w) × (entries < c)) }
-        ensures unfit { (w : ℕ) (op : Op) (a b : Num) → IsErrOf result (RaiseFault.Overflow w op a b) → close_weight self.old.table self.old.presentation ≡ Err (unfit_of op a b) }
         ensures overflow { (w : ℕ) (op : Op) (a b : Num) → IsErrOf result (RaiseFault.Overflow w op a b) → (w ≡ self.old.table.weight + 1) × OverflowsAt self.old.presentation w (unfit_of op a b) × (count_through self.old.table w ≤ entries) }
+        ensures refused { (w : ℕ) (op : Op) (a b : Num) → IsErrOf result (RaiseFault.Overflow w op a b) → close_weight self.old.table self.old.presentation ≡ Err (unfit_of op a b) }
         ensures fractions { (w : ℕ) (op : Op) (a b : Num) → IsErrOf result (RaiseFault.Overflow w op a b) → self.old.presentation.field ≡ Kind.Rational }
         ensures unchanged { OnErr result (self.new ≡ self.old) }
         ensures step { OnOk result (steps.new ≡ steps.old + length (origins_of self.old.table self.old.presentation)) }
         ensures most { (steps.old ≤ steps.new) × (steps.new ≤ steps.old + length (origins_of self.old.table self.old.presentation)) }
         ensures before { (w c : ℕ) → IsErrOf result (RaiseFault.Limit w c) → steps.new ≡ steps.old }
     {
-        let weight = self.table.weight() + 1;
-        let count = self.count + self.table.symbol_count(weight);
+        let weight = self.weight() + 1;
+        let count = self.next_count();
         if count > entries {
             return Err(RaiseFault::Limit { weight, count });
         }
@@ -148,31 +159,22 @@ impl<F: Field> State<F> {
                 });
             }
         };
-        match self.sections.push(weighed.section) {
-            Ok(()) => {}
-            Err(_) => return Err(RaiseFault::NoMemory),
-        }
-        match self.table.push_weight(&weighed.rows) {
+        match weighed.keep(&mut self.table, &mut self.sections) {
             Ok(()) => {
                 self.count = count;
                 Ok(())
             }
-            Err(_) => {
-                self.sections.pop();
-                Err(RaiseFault::NoMemory)
-            }
+            Err(_) => Err(RaiseFault::NoMemory),
         }
     }
 
-    /// How many symbols there are of the weights from 1 to the next one.
-    pub fn next_count(&self) -> u64
-        requires weight { self.now.table.weight < 1000 }
-        ensures { result ≡ count_through self.now.table (self.now.table.weight + 1) }
-    {
-        self.count + self.table.symbol_count(self.table.weight() + 1)
-    }
-
-    /// STUB
+    /// Adds the next weight by a section of it, whoever made that: the section is checked, slimmed
+    /// and kept, and nothing is computed anew.
+    ///
+    /// `Limit` comes, before the check, exactly where the symbols of the weights from 1 to the new
+    /// one number more than `entries`; `Bad` names the first test of the section that fails, and
+    /// `Overflow` the first operation that does not fit before any test fails. After a refusal the
+    /// state is unchanged, and the section is gone.
     pub fn adopt(&mut self, section: Section, entries: u64) -> Result<(), AdoptFault>
         requires weight { self.old.table.weight < 1000 }
         requires entries { entries ≤ 2000000 }
@@ -182,16 +184,39 @@ impl<F: Field> State<F> {
         ensures sections { OnOk result (self.new.sections ≡ self.old.sections ++ slimmed self.old.table self.old.presentation section ∷ []) }
         ensures weight { OnOk result (self.new.table.weight ≡ self.old.table.weight + 1) }
         ensures within { OnOk result (count_through self.new.table self.new.table.weight ≤ entries) }
+        ensures counts { OnOk result ((v : ℕ) → v ≤ self.old.table.weight + 1 → count_through self.new.table v ≡ count_through self.old.table v) }
+
+        // What a refusal names.
         ensures limit { (w c : ℕ) → IsErrOf result (AdoptFault.Raise (RaiseFault.Limit w c)) ↔ ((w ≡ self.old.table.weight + 1) × (c ≡ count_through self.old.table w) × (entries < c)) }
         ensures bad { (w : ℕ) (spot : Spot) (why : Why) → IsErrOf result (AdoptFault.Bad w spot why) → (w ≡ self.old.table.weight + 1) × (check_of self.old.table self.old.presentation section ≡ Err (bad spot why)) × (count_through self.old.table w ≤ entries) }
         ensures overflow { (w : ℕ) (op : Op) (a b : Num) → IsErrOf result (AdoptFault.Raise (RaiseFault.Overflow w op a b)) → (w ≡ self.old.table.weight + 1) × (check_of self.old.table self.old.presentation section ≡ Err (unfit (unfit_of op a b))) × (count_through self.old.table w ≤ entries) }
         ensures unchanged { OnErr result (self.new ≡ self.old) }
     {
+        let weight = self.weight() + 1;
         let count = self.next_count();
         if count > entries {
-            return Err(AdoptFault::Raise(RaiseFault::Limit { weight: self.table.weight() + 1, count }));
+            return Err(AdoptFault::Raise(RaiseFault::Limit { weight, count }));
         }
-        Err(AdoptFault::Raise(RaiseFault::NoMemory))
+        let weighed = match accept(self.alloc, &self.table, &self.presentation, section) {
+            Ok(weighed) => weighed,
+            Err(CheckFault::NoMemory) => return Err(AdoptFault::Raise(RaiseFault::NoMemory)),
+            Err(CheckFault::Bad { spot, why }) => return Err(AdoptFault::Bad { weight, spot, why }),
+            Err(CheckFault::Unfit(u)) => {
+                return Err(AdoptFault::Raise(RaiseFault::Overflow {
+                    weight,
+                    op: u.op,
+                    a: u.a,
+                    b: u.b,
+                }));
+            }
+        };
+        match weighed.keep(&mut self.table, &mut self.sections) {
+            Ok(()) => {
+                self.count = count;
+                Ok(())
+            }
+            Err(_) => Err(AdoptFault::Raise(RaiseFault::NoMemory)),
+        }
     }
 
     /// Adds weights up to `d`, if the table has not come so far, and keeps their sections.
@@ -211,6 +236,7 @@ impl<F: Field> State<F> {
         ensures weight { OnOk result (self.new.table.weight ≡ max self.old.table.weight d) }
         ensures reached { (self.old.table.weight ≤ self.new.table.weight) × (self.new.table.weight ≤ max self.old.table.weight d) }
         ensures within { (v : ℕ) → self.old.table.weight < v → v ≤ self.new.table.weight → count_through self.new.table v ≤ entries }
+        ensures table { IsTableOf self.new.presentation self.new.table.weight self.new.table }
         ensures sections { take (length self.old.sections) self.new.sections ≡ self.old.sections }
         ensures fits { (v : ℕ) → self.old.table.weight < v → v ≤ self.new.table.weight → Computes self.old.presentation v (Ok (section_at self.new.sections v)) }
 

@@ -12,8 +12,9 @@ ghost use Rattle.fpl_completion.specs.Section.{section_of};
 ghost use Rattle.fpl_complete.specs.State.{weighed_as};
 
 use crate::section::section_of;
+use crate::weighed::Weighed;
 use fpl_echelon::{Closed, Echelon, sweep};
-use fpl_log::{Origin, Section};
+use fpl_log::Origin;
 use fpl_model::Presentation;
 use fpl_rewrite::{Origins, origin_row};
 use fpl_rows::Rows;
@@ -167,13 +168,6 @@ fn close_weight<F: Field, L: Ledger>(
             Err(fault) => Err(fault),
         },
     }
-}
-
-/// The closed rows of a weight, and its section.
-#[derive(Drop)]
-pub struct Weighed<F: Field> {
-    pub rows: Rows<F>,
-    pub section: Section,
 }
 
 /// Completes the weight after the table's: its closed rows, and its slimmed section.

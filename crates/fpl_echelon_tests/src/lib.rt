@@ -1,10 +1,10 @@
 //! Eliminations over residues and fractions, worked by hand.
 #![tactic(auto)]
 
-ghost use Rattle.std.specs.Prelude.{◌≡◌, ◌<◌, [], length, IfOk};
+ghost use Rattle.std.specs.Prelude.{◌≡◌, ◌<◌, length, IfOk};
 ghost use Rattle.fpl_numbers.specs.Numbers.{IsElement};
 ghost use Rattle.fpl_scalar.specs.Vectors.{AreElements};
-ghost use Rattle.fpl_log.specs.Slim.{AreInOrder};
+ghost use Rattle.fpl_log.specs.Slim.{AllNameEarlier};
 
 #[cfg(test)]
 mod tests {
@@ -82,7 +82,7 @@ mod tests {
 
     /// Three steps: a row; a dependent one; and the first less both.
     fn section(alloc: Global) -> Result<Section, AllocError>
-        ensures { IfOk result (λ s. AreInOrder [] 0 s.steps) }
+        ensures { IfOk result (λ s. AllNameEarlier 0 s.steps) }
     {
         let one = Num {
             numerator: 1,

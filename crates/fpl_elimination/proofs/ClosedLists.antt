@@ -1,17 +1,16 @@
 -- Ascending reduced pivot rows are a closed list of the same span.
-use Rattle.std.specs.Prelude.{◌≡◌, ◌≢◌, ℕ, zero, suc, ◌+◌, ◌-◌, ◌<◌, ◌↔◌, List, [], ◌∷◌, length, get_or, All, Option, Some, None, option_map, unwrap_or, Bool, true, false, cond}
+use Rattle.std.specs.Prelude.{◌≡◌, ℕ, zero, suc, ◌+◌, ◌-◌, ◌<◌, ◌↔◌, List, [], ◌∷◌, length, get_or, All, Option, Some, None, option_map, unwrap_or, Bool, true, false, cond}
 use Rattle.std.specs.List.{find}
-use mathlib.Core.Path.{sym, refl, ap, ◌∙◌, subst}
+use mathlib.Core.Path.{sym, refl, ap, ◌∙◌}
 use native.Mathlib.Omega.{arith}
-use native.Mathlib.Decide.{dec_lt}
 use Rattle.std.proofs.lemmas.List.{get_or-map, length-map}
 use Rattle.fpl_fields.specs.Field.{Field}
 use Rattle.fpl_linear.specs.Vector.{Vector}
 use Rattle.fpl_linear.specs.Lists.{vector_of}
-use Rattle.fpl_linear.specs.Span.{Spanned, InSpan, SpansKind}
+use Rattle.fpl_linear.specs.Span.{InSpan}
 use Rattle.fpl_linear.specs.Closed.{IsClosed}
-use Rattle.fpl_linear.specs.Echelon.{Pivots, IsRow, IsReduced}
-use Rattle.fpl_linear.proofs.Span.{spanned_one, in_span, kind_span_iff}
+use Rattle.fpl_linear.specs.Echelon.{IsReduced, AreRowsOf}
+use Rattle.fpl_linear.proofs.ReducedRows.{reduced_is_closed}
 use Rattle.fpl_numbers.specs.declared.number.Num.{Num}
 use Rattle.fpl_numbers.specs.declared.number.Kind.{Kind}
 use Rattle.fpl_numbers.specs.Numbers.{IsField, is_nought}
@@ -51,34 +50,6 @@ found_at s (q ∷ ps) p d e = go (stands_at s q) (found_at s ps p d) e
     go true k f = (0, (omega arith, some_same f))
     go false k f = (let r = k f in (suc r.0, ((let l = r.1.0 in omega arith), r.1.1)))
 
--- the rows of a table of pivots, in the order of their places
-record AreRowsOf (K : Field) (at : Pivots K) (count : ℕ) (row : ℕ → Vector K) (pivot : ℕ → ℕ) : Type 0 where
-  there : (i : ℕ) → i < count → at (pivot i) ≡ Some (row i)
-  ascend : (i j : ℕ) → i < j → j < count → pivot i < pivot j
-  all : (s : ℕ) (u : Vector K) → at s ≡ Some u → (i : ℕ) × ((i < count) × (pivot i ≡ s))
-
-rows_of_pivots : (K : Field) (at : Pivots K) (count : ℕ) (row : ℕ → Vector K) (pivot : ℕ → ℕ) → AreRowsOf K at count row pivot → SpansKind K (IsRow K at) count row
-rows_of_pivots K at count row pivot h = record {
-  each = λ u r. let f = h.all r.0 u r.1 in subst (InSpan K count row) (some_same (sym (h.there f.0 f.1.0) ∙ ap at f.1.1 ∙ r.1)) (in_span K count row f.0 f.1.0);
-  from = λ i l. spanned_one K (IsRow K at) (row i) (pivot i, h.there i l);
-}
-
-reduced_is_closed : (K : Field) (n : ℕ) (at : Pivots K) → IsReduced K n at → (count : ℕ) (row : ℕ → Vector K) (pivot : ℕ → ℕ) → AreRowsOf K at count row pivot →
-    IsClosed K count row pivot × ((v : Vector K) → InSpan K count row v ↔ Spanned K (IsRow K at) v)
-reduced_is_closed K n at r count row pivot h = (
-  record {
-    leads = λ i l. (r.echelon.has_lead (pivot i) (row i) (h.there i l)).leads;
-    above = λ i s l k. (r.echelon.has_lead (pivot i) (row i) (h.there i l)).above s k;
-    ascend = h.ascend;
-    apart = λ i j l k d. r.apart (pivot i) (pivot j) (row i) (row j) (h.there i l) (h.there j k) (apart i j l k d (dec_lt i j));
-  },
-  λ v. let s = kind_span_iff K (IsRow K at) count row (rows_of_pivots K at count row pivot h) v in (s.1, s.0),
-)
-  where
-    apart : (i j : ℕ) → i < count → j < count → i ≢ j → Dec (i < j) → pivot i ≢ pivot j
-    apart i j l k d (yes o) e = absurd (omega (arith, h.ascend i j o k, e))
-    apart i j l k d (no o) e = let p : j < i = omega (arith, o, d) in absurd (omega (arith, h.ascend j i p l, e))
-
 module _ (kind : Kind) (K : Field) (value : Num → K.Carrier) (reads : Reads kind K value) (listed : IsField kind) (n : ℕ) (ps : List PivotRow) (rows : All (IsPivotRow kind n) ps) (ascends : AscendsFrom 0 n ps) where
   abbrev pub row_at : ℕ → Vector K
   row_at i = vector_of K value (get_or (rows_of ps) i [])
@@ -113,7 +84,7 @@ module _ (kind : Kind) (K : Field) (value : Num → K.Carrier) (reads : Reads ki
     all = λ s u e. found s u (find (stands_at (s + 1)) ps) refl e;
   }
     where
-      found : (s : ℕ) (u : Vector K) (o : Option PivotRow) → find (stands_at (s + 1)) ps ≡ o → option_map (λ p. vector_of K value p.row) o ≡ Some u → (i : ℕ) × ((i < length (rows_of ps)) × (pivot_at i ≡ s))
+      found : (s : ℕ) (u : Vector K) (o : Option PivotRow) → find (stands_at (s + 1)) ps ≡ o → option_map (λ p. vector_of K value p.row) o ≡ Some u → (i : ℕ) × (i < length (rows_of ps)) × (pivot_at i ≡ s)
       found s u None f e = absurd (none_some e)
       found s u (Some p) f e =
           let m = length-map ps (λ p. p.row) in
@@ -121,7 +92,7 @@ module _ (kind : Kind) (K : Field) (value : Num → K.Carrier) (reads : Reads ki
           let q = found_lead (s + 1) ps p (sym f) in
           let a = pivot_is r.0 r.1.0 in
           let b : (get_or ps r.0 no_row).lead ≡ p.lead = ap (λ w. w.lead) r.1.1 in
-          (r.0, ((let l = r.1.0 in omega arith), omega arith))
+          (r.0, (let l = r.1.0 in omega arith), omega arith)
 
   pub closed_list : IsReduced K n (table_of K value ps) → IsClosed K (length (rows_of ps)) row_at pivot_at × ((v : Vector K) → InSpan K (length (rows_of ps)) row_at v ↔ InSpanAt K value ps v)
   closed_list r = reduced_is_closed K n (table_of K value ps) r (length (rows_of ps)) row_at pivot_at are_rows

@@ -1,4 +1,4 @@
-ghost use Rattle.std.specs.Prelude.{◌≡◌, ◌<◌, ◌≤◌, length};
+ghost use Rattle.std.specs.Prelude.{◌≡◌, ◌<◌, ◌≤◌, ◌/◌, ◌%◌, ◌^◌, length};
 ghost use Rattle.fpl_lanes.specs.Lanes.{AllBelow, added, multiplied, first_of};
 
 /// Adds `c` times `other` to `row` modulo `p`: each place becomes the remainder of
@@ -12,9 +12,10 @@ pub fn axpy(p: u32, row: &mut [u32], c: u32, other: &[u32])
     requires same_length { length row.old ≡ length other.now }
     ensures { row.new ≡ added p row.old c other.now }
 {
+    let share = share_of(p);
     for i in 0..other.len() {
         // at most 65520 + 65520 * 65520, which is below 2^32
-        row[i] = (row[i] + c * other[i]) % p;
+        row[i] = remainder(p, share, row[i] + c * other[i]);
     }
 }
 
@@ -27,9 +28,31 @@ pub fn scale(p: u32, row: &mut [u32], c: u32)
     requires factor { c < p }
     ensures { row.new ≡ multiplied p c row.old }
 {
+    let share = share_of(p);
     for i in 0..row.len() {
-        row[i] = c * row[i] % p;
+        row[i] = remainder(p, share, c * row[i]);
     }
+}
+
+/// 2^32 divided by `p`, rounded down.
+fn share_of(p: u32) -> u32
+    requires { 3 ≤ p }
+    ensures { result ≡ 2 ^ 32 / p }
+{
+    ((1u64 << 32) / u64::from(p)) as u32
+}
+
+/// The remainder of `x` modulo `p`, without a division: `x` times the share of `p` in 2^32 gives
+/// the quotient, or one less.
+fn remainder(p: u32, share: u32, x: u32) -> u32
+    requires least { 3 ≤ p }
+    requires most { p ≤ 65521 }
+    requires share { share ≡ 2 ^ 32 / p }
+    ensures { result ≡ x % p }
+{
+    let quotient = (u64::from(x) * u64::from(share)) >> 32;
+    let rest = x - quotient as u32 * p;
+    if rest >= p { rest - p } else { rest }
 }
 
 /// The least place, from 0, that is not 0; `None` exactly where there is none.

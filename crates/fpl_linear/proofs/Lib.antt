@@ -8,3 +8,4 @@ pub mod Closing
 pub mod Echelon
 pub mod Reduced
 pub mod Kernel
+pub mod ReducedRows

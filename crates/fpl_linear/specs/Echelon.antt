@@ -11,6 +11,7 @@
 --   empty       no row
 --   close_at    the closed rows below a place, and the closed row of that place
 --   close       the rows below n, each less the closed rows below it
+--   AreRowsOf   the rows of a table of pivots, in the order of their places
 use Rattle.std.specs.Prelude.{ℕ, zero, suc, ◌≡◌, ◌≢◌, ◌<◌, Option, Some, None, cond, nat_eq}
 use Rattle.fpl_fields.specs.Field.{Field}
 use Rattle.fpl_linear.specs.Vector.{Vector, vplus, scale}
@@ -54,3 +55,8 @@ close_at K closed (Some u) s = put K closed s (reduce K closed s u)
 unfoldable pub close : (K : Field) → Pivots K → ℕ → Pivots K
 close K at zero = empty K
 close K at (suc s) = close_at K (close K at s) (at s) s
+
+pub record AreRowsOf (K : Field) (at : Pivots K) (count : ℕ) (row : ℕ → Vector K) (pivot : ℕ → ℕ) : Type 0 where
+  pub there : (i : ℕ) → i < count → at (pivot i) ≡ Some (row i)
+  pub ascend : (i j : ℕ) → i < j → j < count → pivot i < pivot j
+  pub all : (s : ℕ) (u : Vector K) → at s ≡ Some u → (i : ℕ) × (i < count) × (pivot i ≡ s)

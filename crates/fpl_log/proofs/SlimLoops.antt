@@ -6,7 +6,8 @@ use Rattle.std.proofs.Common.{append_assoc, append-nil}
 use Rattle.std.proofs.lemmas.List.{length-append}
 use Rattle.fpl_log.specs.declared.terms.Term.{Term}
 use Rattle.fpl_log.specs.declared.step.Step.{Step}
-use Rattle.fpl_log.specs.Slim.{is_left_out, new_number, next_number, next_count, slim_term, slim_terms, slim_step, kept_if, slim_steps, CitesEarlier, AreInOrder}
+use Rattle.fpl_log.specs.declared.step.Step.TheVariants.{Insert, Close}
+use Rattle.fpl_log.specs.Slim.{is_left_out, new_number, next_number, next_count, slim_term, slim_terms, slim_step, kept_if, slim_steps, CitesEarlier, AreInOrder, NamesEarlier, AllNameEarlier}
 use Rattle.fpl_log.proofs.TermsTaken.{drop_next}
 
 term-first : (o : Option ℕ) (t : Term) (ts : List Term) → slim_term o t ts ≡ slim_term o t [] ++ ts
@@ -29,18 +30,18 @@ count-next false s kept = length-append kept (s ∷ [])
 
 -- the steps that are left, in order, and what they leave
 pub record Left (steps : List Step) (i : ℕ) (numbers : List (Option ℕ)) (kept : List Step) : Type 0 where
-  pub order : AreInOrder numbers (length kept) (drop i steps)
+  pub order : AllNameEarlier (length numbers) (drop i steps)
   pub left : slim_steps [] 0 steps ≡ kept ++ slim_steps numbers (length kept) (drop i steps)
 
-pub cites_here : (steps : List Step) (i : ℕ) (numbers : List (Option ℕ)) (kept : List Step) (s : Step) → Left steps i numbers kept → Some s ≡ slice_get steps i → CitesEarlier numbers s
-cites_here steps i numbers kept s h e = (subst (AreInOrder numbers (length kept)) (drop_next steps i s e) h.order).0
+pub cites_here : (steps : List Step) (i : ℕ) (numbers : List (Option ℕ)) (kept : List Step) (s : Step) → Left steps i numbers kept → Some s ≡ slice_get steps i → NamesEarlier (length numbers) s
+cites_here steps i numbers kept s h e = (subst (AllNameEarlier (length numbers)) (drop_next steps i s e) h.order).0
 
 pub steps_next : (steps : List Step) (j i : ℕ) (numbers after : List (Option ℕ)) (kept more : List Step) (s : Step) → j ≡ suc i → Some s ≡ slice_get steps i → Left steps i numbers kept →
     after ≡ numbers ++ (next_number (is_left_out s) (length kept)) ∷ [] → more ≡ kept ++ kept_if (is_left_out s) (slim_step numbers s) [] → Left steps j after more
 steps_next steps j i numbers after kept more s is e h f g =
     subst (λ j. Left steps j after more) (sym is) (subst (λ n. Left steps (suc i) n more) (sym f) (subst (Left steps (suc i) numbers') (sym g)
     (record {
-      order = subst (λ c. AreInOrder numbers' c (drop (suc i) steps)) (sym count) (subst (AreInOrder numbers (length kept)) (drop_next steps i s e) h.order).1;
+      order = subst (λ n. AllNameEarlier n (drop (suc i) steps)) (sym (length-append numbers _)) (subst (AllNameEarlier (length numbers)) (drop_next steps i s e) h.order).1;
       left =
           h.left ∙ ap (λ w. kept ++ slim_steps numbers (length kept) w) (drop_next steps i s e)
           ∙ ap (λ w. kept ++ w) (kept-first (is_left_out s) (slim_step numbers s) (slim_steps numbers' (next_count (is_left_out s) (length kept)) (drop (suc i) steps)))
@@ -64,3 +65,15 @@ steps_end steps i numbers kept l h = sym (h.left ∙ ap (λ w. kept ++ slim_step
 
 pub terms_end : (numbers : List (Option ℕ)) (ts kept : List Term) (i : ℕ) → length ts ≤ i → slim_terms numbers ts ≡ kept ++ slim_terms numbers (drop i ts) → kept ≡ slim_terms numbers ts
 terms_end numbers ts kept i l e = sym (e ∙ ap (λ w. kept ++ slim_terms numbers w) (drop-all ts i l) ∙ append-nil kept)
+
+-- steps in order name earlier steps
+names_of : (numbers : List (Option ℕ)) (s : Step) → CitesEarlier numbers s → NamesEarlier (length numbers) s
+names_of numbers (Insert origin terms scale) h = h
+names_of numbers (Close of terms) h = (h.0, h.2)
+
+pub order_names : (numbers : List (Option ℕ)) (count : ℕ) (ss : List Step) → AreInOrder numbers count ss → AllNameEarlier (length numbers) ss
+order_names numbers count [] h = tt
+order_names numbers count (s ∷ ss) h = (
+  names_of numbers s h.0,
+  subst (λ n. AllNameEarlier n ss) (length-append numbers _) (order_names (numbers ++ (next_number (is_left_out s) count) ∷ []) (next_count (is_left_out s) count) ss h.1),
+)

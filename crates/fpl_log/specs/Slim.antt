@@ -10,6 +10,8 @@
 --   numbers_after                   the new numbers of the steps before and of these
 --   CitesEarlier numbers step       each step that it names is an earlier one, and what a Close step closes stays
 --   AreInOrder numbers count steps  each of the steps does
+--   NamesEarlier count step         each step that it names is one of the count steps before
+--   AllNameEarlier count steps      each of the steps does, where count steps stand before them
 use Rattle.std.specs.Prelude.{◌≢◌, ℕ, ◌+◌, ◌-◌, ◌≤◌, List, [], ◌∷◌, ◌++◌, length, Option, Some, None, Bool, true, false, unwrap_or, slice_index_or, All}
 use Rattle.fpl_numbers.specs.Numbers.{is_nought}
 use Rattle.fpl_log.specs.declared.terms.Term.{Term}
@@ -67,3 +69,11 @@ CitesEarlier numbers (Close of terms) = IsEarlier (length numbers) of × (new_nu
 abbrev pub AreInOrder : List (Option ℕ) → ℕ → List Step → Type 0
 AreInOrder numbers count [] = Unit {0}
 AreInOrder numbers count (s ∷ ss) = CitesEarlier numbers s × AreInOrder (numbers ++ (next_number (is_left_out s) count) ∷ []) (next_count (is_left_out s) count) ss
+
+abbrev pub NamesEarlier : ℕ → Step → Type 0
+NamesEarlier count (Insert origin terms scale) = All (λ t. IsEarlier count t.step) terms
+NamesEarlier count (Close of terms) = IsEarlier count of × All (λ t. IsEarlier count t.step) terms
+
+abbrev pub AllNameEarlier : ℕ → List Step → Type 0
+AllNameEarlier count [] = Unit {0}
+AllNameEarlier count (s ∷ ss) = NamesEarlier count s × AllNameEarlier (count + 1) ss

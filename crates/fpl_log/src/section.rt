@@ -1,6 +1,6 @@
 ghost use Rattle.std.specs.Prelude.{◌≡◌, ◌<◌, ◌^◌, ◌++◌, ◌∷◌, [], IfOk, OnOk, OnErr, List, length, slice_get, Some};
 ghost use Rattle.std.specs.Option.{option_copied};
-ghost use Rattle.fpl_log.specs.Slim.{AreInOrder, slim_steps};
+ghost use Rattle.fpl_log.specs.Slim.{AllNameEarlier, slim_steps};
 
 use crate::slimming::slim_of;
 use crate::{ClosedList, StepList};
@@ -32,7 +32,7 @@ impl Section {
     /// Leaves out each Insert step with scale 0 and each term that cites one, numbers the rest in
     /// order, and notes how many origins the weight has. On a refusal the section is gone.
     pub fn slim(self, alloc: Global, origins: u64) -> Result<Section, AllocError>
-        requires { AreInOrder [] 0 self.steps }
+        requires { AllNameEarlier 0 self.steps }
         ensures { IfOk result (λ s. s ≡ record self { origins = Some origins; steps = slim_steps [] 0 self.steps }) }
     {
         let steps = slim_of(alloc, &self.steps)?;

@@ -1,5 +1,5 @@
 ghost use Rattle.std.specs.Prelude.{◌≡◌, ◌≢◌, ◌≤◌, ◌<◌, ◌^◌, ◌+◌, ◌++◌, ◌∷◌, [], length, All, IfOk, OnOk, None};
-ghost use Rattle.fpl_log.specs.Slim.{IsEarlier, CitesEarlier, AreInOrder, new_number, slim_term, slim_terms, slim_steps, is_left_out, next_number, slim_step, kept_if};
+ghost use Rattle.fpl_log.specs.Slim.{IsEarlier, NamesEarlier, AllNameEarlier, new_number, slim_term, slim_terms, slim_steps, is_left_out, next_number, slim_step, kept_if};
 
 use crate::{Step, StepList, Term, Terms};
 use std::alloc::{AllocError, Global};
@@ -47,7 +47,7 @@ fn place(
     numbers: &mut Vec<Option<u64>>,
     kept: &mut StepList,
 ) -> Result<(), AllocError>
-    requires { CitesEarlier numbers.old.items step.now }
+    requires { NamesEarlier (length numbers.old.items) step.now }
     ensures numbers { OnOk result (numbers.new.items ≡ numbers.old.items ++ (next_number (is_left_out step.now) (length kept.old)) ∷ []) }
     ensures kept { OnOk result (kept.new ≡ kept.old ++ kept_if (is_left_out step.now) (slim_step numbers.old.items step.now) []) }
 {
@@ -81,7 +81,7 @@ fn place(
 
 /// The steps that stay.
 pub fn slim_of(alloc: Global, steps: &StepList) -> Result<StepList, AllocError>
-    requires { AreInOrder [] 0 steps.now }
+    requires { AllNameEarlier 0 steps.now }
     ensures { IfOk result (λ l. l ≡ slim_steps [] 0 steps.now) }
 {
     let mut numbers = Vec::new(alloc);

@@ -11,19 +11,19 @@ use Rattle.fpl_numbers.specs.Kinds.{up_part, down_part}
 use Rattle.fpl_numbers.proofs.Gcd.{gcd_is}
 use Rattle.fpl_numbers.proofs.Integers.{up-mul, down-mul, up-divided, down-divided, int_same}
 
-gcd-one : (n : ℕ) → gcd n 1 ≡ 1
+pub gcd-one : (n : ℕ) → gcd n 1 ≡ 1
 gcd-one n = same_from_IsGcd n 1 (gcd n 1) 1 (gcd_is n 1) (one-dvd n, dvd_refl 1, λ c p q. q)
 
-times-one : (z : ℤ) → z *ℤ pos 1 ≡ z
+pub times-one : (z : ℤ) → z *ℤ pos 1 ≡ z
 times-one z = int_same (z *ℤ pos 1) z (omega (arith, up-mul z (pos 1), down-mul z (pos 1)))
 
-divided-one : (z : ℤ) → divided z 1 ≡ z
+pub divided-one : (z : ℤ) → divided z 1 ≡ z
 divided-one z = int_same (divided z 1) z (ap₂ (λ u v. u + v) (up-divided z 1 ∙ div-one (up_part z)) (sym (down-divided z 1 ∙ div-one (down_part z))))
 
 num_same : {n n' d d' : ℤ} → n ≡ n' → d ≡ d' → Path Num (record { numerator = n; denominator = d }) (record { numerator = n'; denominator = d' })
 num_same p q i = record { numerator = p i; denominator = q i }
 
-within_true : (n : ℕ) → n ≤ bound → nat_le n bound ≡ true
+pub within_true : (n : ℕ) → n ≤ bound → nat_le n bound ≡ true
 within_true n h = grind arith
 
 -- a number over 1

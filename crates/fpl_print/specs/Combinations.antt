@@ -5,6 +5,7 @@
 --   is_below_nought: whether a number is below 0, which residues never are
 --   is_one: whether its magnitude is 1
 --   sign_text: what stands before a term: for the first one - where its number is below 0, for the later ones + or - between spaces
+--   number_text: a number: a - where it is below 0, and its magnitude
 --   term_text: a term: its sign, the magnitude of its number and * where that isn't 1, and the name
 --   none_after, term_or_nothing: a number's place in a combination: its term where the number isn't 0; first says whether no term stands before
 --   terms_text: the terms of a row of numbers, the first at the given place, and 0 where no term stands at all
@@ -45,6 +46,9 @@ sign_text true false = []
 sign_text true true = codes "-"
 sign_text false false = codes " + "
 sign_text false true = codes " - "
+
+abbrev pub number_text : Num → List ℕ
+number_text c = sign_text true (is_below_nought c) ++ magnitude_text c
 
 abbrev pub factor_text : Num → List ℕ
 factor_text c = if is_one c then [] else magnitude_text c ++ codes "*"

@@ -91,7 +91,7 @@ module _ {N : Type 0} (P Q : algebra.Presentation N) (same : P.generators ≡ Q.
   mutual
     unfolding weight_of weights_of
 
-    weight_same : (t : Tree N) → weight_of P t ≡ weight_of Q t
+    pub weight_same : (t : Tree N) → weight_of P t ≡ weight_of Q t
     weight_same (gen g) = ap (λ (g : algebra.Generator). exact g.weight) (generator_same g)
     weight_same none = refl
     weight_same (sum_of es) = weights_same es
@@ -105,7 +105,7 @@ module _ {N : Type 0} (P Q : algebra.Presentation N) (same : P.generators ≡ Q.
   mutual
     unfolding parity_of parities_of
 
-    parity_same : (t : Tree N) → parity_of P t ≡ parity_of Q t
+    pub parity_same : (t : Tree N) → parity_of P t ≡ parity_of Q t
     parity_same (gen g) = ap (λ (g : algebra.Generator). exact g.parity) (generator_same g)
     parity_same none = refl
     parity_same (sum_of es) = parities_same es

@@ -26,7 +26,7 @@ AreWords text [] = Unit {0}
 AreWords text (t ∷ ts) = IsWordAt text t.start t.end t.kind × AreWords text ts
 
 -- the bytes of a piece in its text
-piece_bytes : (before bytes after : List ℕ) → word_of (before ++ (bytes ++ after)) (length before) (length before + length bytes) ≡ bytes
+pub piece_bytes : (before bytes after : List ℕ) → word_of (before ++ (bytes ++ after)) (length before) (length before + length bytes) ≡ bytes
 piece_bytes before bytes after =
     let l = length-append before (bytes ++ after) in
     let m = length-append bytes after in

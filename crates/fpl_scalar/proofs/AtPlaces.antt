@@ -2,7 +2,7 @@
 use Rattle.std.proofs.Common.{◌≡◌, ℕ, suc, true, false, ◌+◌, ◌<◌, List, [], ◌∷◌, ◌++◌, length, take, drop, get_or, map, refl, sym, ap, ◌∙◌, subst, arith, add-one, append_assoc}
 use Rattle.std.proofs.Math.ListN.{set}
 use Rattle.std.proofs.Math.Seq.{drop-cons, take-suc-set}
-use Rattle.std.proofs.lemmas.List.{drop-set-lt, map-set, length-map, get_or-map}
+use Rattle.std.proofs.lemmas.List.{drop-set-lt, map-set, length-map, get_or-map, take_more}
 use Rattle.std.proofs.lemmas.List.Elements.{All-set}
 use Rattle.std.proofs.lemmas.Grind.{common_steps}
 use Rattle.std.specs.Prelude.{Result, Ok, Err, Option, Some, None, option_map}
@@ -11,8 +11,8 @@ use Rattle.fpl_numbers.specs.declared.number.Kind.{Kind}
 use Rattle.fpl_numbers.specs.declared.number.Unfit.{Unfit}
 use Rattle.fpl_numbers.specs.declared.number.Op.TheVariants.{Add, Mul}
 use Rattle.fpl_numbers.specs.Numbers.{IsElement, operate, is_nought}
-use Rattle.fpl_numbers.specs.Results.{map_ok}
-use Rattle.fpl_scalar.specs.Vectors.{AreElements, axpy_of, axpied, scale_of, scaled, first_of}
+use Rattle.fpl_numbers.specs.Results.{map_ok, and_then}
+use Rattle.fpl_scalar.specs.Vectors.{AreElements, fused, stands_after, axpy_of, axpied, scale_of, scaled, first_of}
 
 -- what holds of every number of a row holds of the number of one element
 pub element_at : {E : Type 0} (kind : Kind) (f : E → Num) (xs : List E) (i : ℕ) (x : E) → AreElements kind (map f xs) → i < length xs → x ≡ get_or xs i x → IsElement kind (f x)
@@ -90,6 +90,28 @@ module _ {E : Type 0} (kind : Kind) (f : E → Num) (row other : List E) (c : Nu
   stands_step v m ism isv =
       rw (stands_of, ← ism, ← isv, set_before f row i v lt, set_after f row i v)
       (sym (append_assoc (take i (map f row)) (f v ∷ []) (axpied kind (drop (i + 1) (map f row)) c (drop (i + 1) (map f other)))))
+
+  kept_before : take (i + 1) (map f row) ≡ take i (map f row) ++ (f x ∷ [])
+  kept_before =
+      let ltr : i < length (map f row) = rw length-map lt in
+      take_more (map f row) i (f x) ltr ∙ ap (λ w. take i (map f row) ++ (w ∷ [])) (get_or-map f row i x (f x) lt ∙ ap f (sym isx))
+
+  -- a place to which nothing is added keeps its number
+  pub axpy_pass : fused kind (f x) c (f y) ≡ Ok (f x) →
+      map_ok (λ rest. take i (map f row) ++ rest) (axpy_of kind (drop i (map f row)) c (drop i (map f other))) ≡
+      map_ok (λ rest. take (i + 1) (map f row) ++ rest) (axpy_of kind (drop (i + 1) (map f row)) c (drop (i + 1) (map f other)))
+  axpy_pass e =
+      let rest : Result (List Num) Unfit = axpy_of kind (drop (i + 1) (map f row)) c (drop (i + 1) (map f other)) in
+      ap (map_ok (λ rest. take i (map f row) ++ rest)) (left_of ∙ ap (and_then (λ s. map_ok (λ rest. s ∷ rest) (axpy_of kind (drop (i + 1) (map f row)) c (drop (i + 1) (map f other))))) e)
+      ∙ moved (take i (map f row)) (f x) rest ∙ ap (λ w. map_ok (λ rest. w ++ rest) (axpy_of kind (drop (i + 1) (map f row)) c (drop (i + 1) (map f other)))) (sym kept_before)
+
+  pub stands_pass : fused kind (f x) c (f y) ≡ Ok (f x) →
+      take i (map f row) ++ axpied kind (drop i (map f row)) c (drop i (map f other)) ≡
+      take (i + 1) (map f row) ++ axpied kind (drop (i + 1) (map f row)) c (drop (i + 1) (map f other))
+  stands_pass e =
+      let rest : List Num = axpied kind (drop (i + 1) (map f row)) c (drop (i + 1) (map f other)) in
+      ap (λ w. take i (map f row) ++ w) (stands_of ∙ ap (stands_after (f x ∷ drop (i + 1) (map f row)) rest) e)
+      ∙ sym (append_assoc (take i (map f row)) (f x ∷ []) rest) ∙ ap (λ w. w ++ rest) (sym kept_before)
 
 module _ {E : Type 0} (kind : Kind) (f : E → Num) (row : List E) (c : Num) (i : ℕ) (x : E) (lt : i < length row) (isx : x ≡ get_or row i x) where
   pub scale_mul : (u : Unfit) → Err u ≡ operate kind Mul c (f x) → scale_of kind c (drop i (map f row)) ≡ Err u

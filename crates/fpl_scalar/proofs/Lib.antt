@@ -8,3 +8,4 @@ pub mod FractionElements
 pub mod ReducedQuotients
 pub mod WholeFractions
 pub mod ResidueRows
+pub mod Noughts

@@ -89,7 +89,12 @@ pub trait Field: Copy + Drop {
     {
         for i in 0..other.len() {
             let x = row[i];
-            let m = match self.mul(c, other[i]) {
+            let y = other[i];
+            // a multiple of 0 adds nothing, and always fits
+            if self.is_zero(y) {
+                continue;
+            }
+            let m = match self.mul(c, y) {
                 Ok(m) => m,
                 Err(u) => return Err(u),
             };

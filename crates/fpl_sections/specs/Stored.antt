@@ -62,13 +62,13 @@ module _ (version : Version) (kind : Kind) where
     pub steps : (length s.steps < 2 ^ 64) × AllByRecursion IsStoredStep s.steps
     pub closed : (length s.closed < 2 ^ 32) × AllByRecursion IsStoredRow s.closed
 
+abbrev pub IsWritableOrigin : Origin → Type 0
+IsWritableOrigin (Row n) = ⊥
+IsWritableOrigin _ = Unit {0}
+
 module _ (kind : Kind) where
   abbrev pub AreWritableTerms : List Term → Type 0
   AreWritableTerms ts = (length ts < 2 ^ 32) × All (λ t. IsElement kind t.factor) ts
-
-  abbrev pub IsWritableOrigin : Origin → Type 0
-  IsWritableOrigin (Row n) = ⊥
-  IsWritableOrigin _ = Unit {0}
 
   abbrev pub IsWritableStep : Step → Type 0
   IsWritableStep (Insert origin terms scale) = IsWritableOrigin origin × IsElement kind scale × (is_nought scale ≡ false) × AreWritableTerms terms

@@ -1,5 +1,5 @@
-ghost use Rattle.std.specs.Prelude.{◌≡◌, ◌+◌, ◌<◌, drop, IfOk, Ok, Err};
-ghost use Rattle.fpl_sections.specs.Frames.{frame_of};
+ghost use Rattle.std.specs.Prelude.{◌≡◌, length, IfOk};
+ghost use Rattle.fpl_sections.specs.Frames.{frame_of, LiesIn};
 
 use fpl_bytes::{BadBytes, ByteWhy, u32_at, u64_at};
 
@@ -14,7 +14,8 @@ pub enum Frame {
 /// The frame of the section that begins at place `at`. Only a whole section can have the wrong
 /// weight, which its place names.
 pub fn scan_frame(bytes: &[u8], at: usize, w: u32) -> Result<Frame, BadBytes>
-    ensures { result ≡ frame_of bytes.now at w }
+    ensures value { result ≡ frame_of bytes.now at w }
+    ensures inside { IfOk result (LiesIn at (length bytes.now)) }
 {
     let Some(rest) = bytes.get(at..) else {
         return Ok(Frame::Tail);

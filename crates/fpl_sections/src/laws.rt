@@ -4,21 +4,24 @@ ghost use Rattle.std.specs.Prelude.{◌≡◌, ◌<◌, ◌≤◌, ◌+◌, ◌^
 ghost use Rattle.fpl_numbers.specs.declared.number.Kind.{Kind};
 ghost use Rattle.fpl_log.specs.declared.section.Section.{Section};
 ghost use Rattle.fpl_bytes.specs.declared.version.Version.{Version};
+ghost use Rattle.fpl_bytes.specs.declared.version.Version.TheVariants.{Two};
 ghost use Rattle.fpl_bytes.specs.Codes.{IsBytes};
 ghost use Rattle.fpl_sections.specs.declared.frame.Frame.TheVariants.{Whole};
 ghost use Rattle.fpl_sections.specs.Spelling.{payload_bytes, frame_bytes};
 ghost use Rattle.fpl_sections.specs.Reading.{payload_at};
-ghost use Rattle.fpl_sections.specs.Stored.{IsStoredSection};
+ghost use Rattle.fpl_sections.specs.Stored.{IsStoredSection, IsWritable};
 ghost use Rattle.fpl_sections.specs.Frames.{frame_of};
 
 /// A payload that is read is that of the section that was read, which has bytes; the payload of a
-/// section that has bytes is read as it. So a payload stands for one section at most.
+/// section that has bytes is read as it. So a payload stands for one section at most. What has
+/// bytes in the second version can be written.
 pub fn sections_are_read_back()
     ensures taken { (version : Version) (kind : Kind) (w end : ℕ) (bytes : List ℕ) (s : Section) →
         IsBytes bytes → payload_at version kind w end bytes ≡ Ok s →
         (bytes ≡ payload_bytes version kind s) × IsStoredSection version kind s × (s.weight ≡ w) }
     ensures again { (version : Version) (kind : Kind) (end : ℕ) (s : Section) →
         IsStoredSection version kind s → payload_at version kind s.weight end (payload_bytes version kind s) ≡ Ok s }
+    ensures writable { (kind : Kind) (s : Section) → IsStoredSection Two kind s → IsWritable kind s }
 {}
 
 /// Where a frame of weight w stands at a place, whatever stands before and after it, its payload

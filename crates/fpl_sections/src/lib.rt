@@ -13,6 +13,6 @@ mod writing;
 
 pub use fpl_bytes::{BadBytes, ByteWhy, ScanError};
 pub use frame::{Frame, scan_frame};
-
+pub use laws::{frames_are_read_back, sections_are_read_back};
 pub use payload::read_section;
-
+pub use writing::section_bytes;

@@ -44,12 +44,7 @@ impl Payload {
     }
 
     // One by one: a count reserves nothing.
-    fn terms_of(
-        self,
-        alloc: Global,
-        count: u32,
-        bytes: &[u8],
-    ) -> Result<(Terms, &[u8]), ScanError>
+    fn terms_of(self, alloc: Global, count: u32, bytes: &[u8]) -> Result<(Terms, &[u8]), ScanError>
         ensures { Gives (λ x. (x.0, x.1.now)) result (items_at (term_at self.version self.kind self.end) count bytes.now) }
     {
         let mut terms = Terms::new(alloc);

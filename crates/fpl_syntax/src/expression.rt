@@ -1,4 +1,4 @@
-ghost use Rattle.std.specs.Prelude.{◌≡◌, ◌++◌, ◌∷◌, [], IfOk, Some, None};
+ghost use Rattle.std.specs.Prelude.{◌≡◌, ◌++◌, ◌∷◌, [], IfOk, OnOk, Some, None};
 ghost use Rattle.fpl_syntax.specs.Grammar.{term_of};
 ghost use Rattle.fpl_syntax.specs.Sight.{sight};
 ghost use Rattle.fpl_syntax.specs.Machine.{Moves, Takes, fresh, summed, settled, opened, signed, resumed, begin_factor, begin_term, begin_sum, enclosed, after_number, after_term, step_wait, last_term, finished};
@@ -211,11 +211,26 @@ fn begin_sum(
     }
 }
 
+// Most sums have two terms, so room is taken for two at first.
+fn push_term(alloc: Global, terms: &mut Exprs, t: Expr) -> Result<(), AllocError>
+    ensures { OnOk result (terms.new ≡ terms.old ++ t ∷ []) }
+{
+    if terms.is_empty() {
+        *terms = Items::from_vec(Vec::with_capacity(alloc, 2)?);
+    }
+    terms.push(t)
+}
+
 // A further term, after its sign.
-fn go_on(partial: &mut Partial, t: Expr, negative: bool) -> Result<Option<Wait>, AllocError>
+fn go_on(
+    alloc: Global,
+    partial: &mut Partial,
+    t: Expr,
+    negative: bool,
+) -> Result<Option<Wait>, AllocError>
     ensures { IfOk result (λ next. Moves partial.new next (signed (record partial.old { terms = partial.old.terms ++ t ∷ [] }) negative)) }
 {
-    partial.terms.push(t)?;
+    push_term(alloc, &mut partial.terms, t)?;
     Ok(sign(partial, negative))
 }
 
@@ -301,8 +316,8 @@ fn after_term(
     ensures { IfOk result (λ next. Moves partial.new next (after_term (sight scope.now) partial.old t symbol)) }
 {
     match symbol {
-        Symbol::Plus => go_on(partial, t, false),
-        Symbol::Minus => go_on(partial, t, true),
+        Symbol::Plus => go_on(alloc, partial, t, false),
+        Symbol::Minus => go_on(alloc, partial, t, true),
         _ => {
             let e = take_sum(alloc, partial, t)?;
             match take_frame(partial) {

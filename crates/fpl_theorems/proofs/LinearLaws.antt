@@ -1,12 +1,10 @@
 -- Proofs of the theorems of linear algebra.
-use Rattle.std.specs.Prelude.{ℕ, ◌≡◌, ◌≢◌, ◌<◌, Some}
+use Rattle.std.specs.Prelude.{◌≡◌}
 use mathlib.Core.Path.{sym, ap, ◌∙◌, subst}
-use native.Mathlib.Omega.{arith}
-use native.Mathlib.Decide.{dec_lt}
 use Rattle.fpl_fields.specs.Field.{Field}
 use Rattle.fpl_linear.specs.Vector.{Vector, vplus, scale}
-use Rattle.fpl_linear.specs.Span.{InSpan, IsRowOf, SpansKind, combination}
-use Rattle.fpl_linear.specs.Echelon.{Pivots, IsRow}
+use Rattle.fpl_linear.specs.Span.{InSpan, IsRowOf, combination}
+use Rattle.fpl_linear.specs.Echelon.{IsRow}
 use Rattle.fpl_linear.proofs.Vectors.{vplus_assoc, vzero-vplus, vplus_comm, minus-vplus, scale_scale, scale-vplus, scale-unit}
 use Rattle.fpl_linear.proofs.Numbers.{minus_squared}
 use Rattle.fpl_linear.proofs.Span.{rows_span, kind_span_iff, in_span, spanned_one}
@@ -15,8 +13,9 @@ use Rattle.fpl_linear.proofs.Closed.{swept_iff, at_pivot, rows_number, rows_same
 use Rattle.fpl_linear.proofs.Closing.{rows_closing}
 use Rattle.fpl_linear.proofs.Echelon.{reduce_iff}
 use Rattle.fpl_linear.proofs.Reduced.{put_echelon, kept_leads, kept_place, kept_within, kept_whole, close_reduced, close_spans, reduced_same}
+use Rattle.fpl_linear.proofs.ReducedRows.{reduced_is_closed}
 use Rattle.fpl_linear.proofs.Kernel.{solutions_are, same_solutions}
-use Rattle.fpl_theorems.specs.Linear.{SpansAreOne, SweepsToZero, SweepsInSpan, SweepsPivots, SomeClosedList, OneClosedList, ReducesToZero, PutSpansMore, ClosesReduced, OneReduced, AreRowsOf, ReducedIsClosed, FreeRowsSolve, KernelOfRows}
+use Rattle.fpl_theorems.specs.Linear.{SpansAreOne, SweepsToZero, SweepsInSpan, SweepsPivots, SomeClosedList, OneClosedList, ReducesToZero, PutSpansMore, ClosesReduced, OneReduced, ReducedIsClosed, FreeRowsSolve, KernelOfRows}
 
 module _ (K : Field) where
   pub spans_are_one : SpansAreOne K
@@ -71,29 +70,8 @@ module _ (K : Field) where
   pub one_reduced : OneReduced K
   one_reduced n at at' r r' same = reduced_same K n at at' r r' (λ u h. (same u).0 (spanned_one K _ u h)) (λ u h. (same u).1 (spanned_one K _ u h))
 
-  some_is : {T : Type 0} {x y : T} → Some x ≡ Some y → x ≡ y
-  some_is e = cc
-
-  rows_of_pivots : (at : Pivots K) (count : ℕ) (row : ℕ → Vector K) (pivot : ℕ → ℕ) → AreRowsOf K at count row pivot → SpansKind K (IsRow K at) count row
-  rows_of_pivots at count row pivot h = record {
-    each = λ u r. let f = h.all r.0 u r.1 in subst (InSpan K count row) (some_is (sym (h.there f.0 f.1) ∙ ap at f.2 ∙ r.1)) (in_span K count row f.0 f.1);
-    from = λ i l. spanned_one K (IsRow K at) (row i) (pivot i, h.there i l);
-  }
-
-  pub reduced_is_closed : ReducedIsClosed K
-  reduced_is_closed n at r count row pivot h = (
-    record {
-      leads = λ i l. (r.echelon.has_lead (pivot i) (row i) (h.there i l)).leads;
-      above = λ i s l k. (r.echelon.has_lead (pivot i) (row i) (h.there i l)).above s k;
-      ascend = h.ascend;
-      apart = λ i j l k d. r.apart (pivot i) (pivot j) (row i) (row j) (h.there i l) (h.there j k) (apart i j l k d (dec_lt i j));
-    },
-    λ v. let s = kind_span_iff K (IsRow K at) count row (rows_of_pivots at count row pivot h) v in (s.1, s.0),
-  )
-    where
-      apart : (i j : ℕ) → i < count → j < count → i ≢ j → Dec (i < j) → pivot i ≢ pivot j
-      apart i j l k d (yes o) e = absurd (omega (arith, h.ascend i j o k, e))
-      apart i j l k d (no o) e = let p : j < i = omega (arith, o, d) in absurd (omega (arith, h.ascend j i p l, e))
+  pub rows_are_closed : ReducedIsClosed K
+  rows_are_closed n at r count row pivot h = reduced_is_closed K n at r count row pivot h
 
   pub free_rows_solve : FreeRowsSolve K
   free_rows_solve n at r x = solutions_are K n at r x

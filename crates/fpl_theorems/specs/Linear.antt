@@ -13,12 +13,12 @@
 --   ReducedIsClosed        the rows of a reduced echelon, in the order of their places, are a closed list
 --   FreeRowsSolve          the solutions of a reduced echelon are what its free rows span
 --   KernelOfRows           and so are the solutions of any rows with its span
-use Rattle.std.specs.Prelude.{ℕ, ◌≡◌, ◌<◌, ◌≤◌, ◌↔◌, ◌⊎◌, Some, None}
+use Rattle.std.specs.Prelude.{ℕ, ◌≡◌, ◌<◌, ◌≤◌, ◌↔◌, ◌⊎◌, None}
 use Rattle.fpl_fields.specs.Field.{Field}
 use Rattle.fpl_linear.specs.Vector.{Vector, vzero, vplus, scale}
 use Rattle.fpl_linear.specs.Span.{Spanned, InSpan, IsRowOf}
 use Rattle.fpl_linear.specs.Closed.{IsClosed, swept}
-use Rattle.fpl_linear.specs.Echelon.{Pivots, IsRow, IsEchelon, IsReduced, reduce, put, close}
+use Rattle.fpl_linear.specs.Echelon.{Pivots, IsRow, IsEchelon, IsReduced, AreRowsOf, reduce, put, close}
 use Rattle.fpl_linear.specs.Kernel.{IsSolution, IsFree}
 
 abbrev pub SpansAreOne : Field → Type 0
@@ -69,12 +69,6 @@ ClosesReduced K =
 abbrev pub OneReduced : Field → Type 0
 OneReduced K =
     (n : ℕ) (at at' : Pivots K) → IsReduced K n at → IsReduced K n at' → ((v : Vector K) → Spanned K (IsRow K at) v ↔ Spanned K (IsRow K at') v) → (s : ℕ) → at s ≡ at' s
-
--- the rows of a table of pivots, in the order of their places
-pub record AreRowsOf (K : Field) (at : Pivots K) (count : ℕ) (row : ℕ → Vector K) (pivot : ℕ → ℕ) : Type 0 where
-  pub there : (i : ℕ) → i < count → at (pivot i) ≡ Some (row i)
-  pub ascend : (i j : ℕ) → i < j → j < count → pivot i < pivot j
-  pub all : (s : ℕ) (u : Vector K) → at s ≡ Some u → (i : ℕ) × (i < count) × (pivot i ≡ s)
 
 abbrev pub ReducedIsClosed : Field → Type 0
 ReducedIsClosed K =

@@ -1,51 +1,46 @@
--- A line of five pieces, put one after another.
-use Rattle.std.proofs.Common.{List, ℕ, ◌++◌, rules, Ok, Err}
-use Rattle.std.specs.Prelude.{OnOk, OnErr}
+-- Pieces put one after another.
+use Rattle.std.proofs.Common.{List, ℕ, ◌+◌, ◌<◌, [], ◌∷◌, ◌++◌, ◌≡◌, length, take, drop, get_or, fold, Ok, Err, refl, sym, ap, ◌∙◌, append_assoc, arith}
+use Rattle.std.proofs.lemmas.List.{append-nil, take-append-drop}
+use Rattle.std.proofs.lemmas.Grind.{fold-append, take_at_read}
+use Rattle.std.specs.Prelude.{OnErr, nat_eq, false, codes, decimal}
+use Rattle.fpl_print.specs.Combinations.{below_text}
 use Rattle.std.specs.declared.option.Option.{Option}
 use Rattle.std.specs.declared.result.Result.{Result}
 use Rattle.fpl_outside.specs.Outside.{Takes}
 use Rattle.fpl_outside.specs.Whole.{WrotePrefix}
 use Rattle.fpl_outside.proofs.Pieces.{takes_more, wrote_front, wrote_after}
+use Rattle.fplsa.specs.declared.line.Piece.{Piece}
+use Rattle.fplsa.specs.Line.{piece_text, pieces_text}
 
 pub on_err : {T E : Type 0} (r : Result T E) (P : Type 0) → P → OnErr r P
-on_err (Ok x) P p = search rules
+on_err (Ok x) P p = tt
 on_err (Err e) P p = p
 
-pub ok_through : {T E : Type 0} (r : Result T E) (P Q : Type 0) → (P → Q) → OnOk r P → OnOk r Q
-ok_through (Ok x) P Q f p = f p
-ok_through (Err e) P Q f p = search rules
+-- a second piece after a first one that was taken
+pub on_err_after : {T E : Type 0} (r : Result T E) (a b c : Option (List ℕ)) (u v : List ℕ) → Takes a b u → OnErr r (WrotePrefix b c v) → OnErr r (WrotePrefix a c (u ++ v))
+on_err_after (Ok x) a b c u v t h = tt
+on_err_after (Err e) a b c u v t h = wrote_after a b c u v t h
 
-pub err_through : {T E : Type 0} (r : Result T E) (P Q : Type 0) → (P → Q) → OnErr r P → OnErr r Q
-err_through (Ok x) P Q f p = search rules
-err_through (Err e) P Q f p = f p
+pub below_other : (d : ℕ) → (d ≡ 1 → ⊥) → below_text d ≡ codes "/" ++ decimal d
+below_other d h = let e : nat_eq d 1 ≡ false = grind arith in rw e refl
 
-module _ (u v w x y : List ℕ) where
-  abbrev pub line : List ℕ
-  line = u ++ v ++ w ++ x ++ y
+texts_from : (before : List ℕ) (ps : List Piece) → fold (λ text piece. text ++ piece_text piece) before ps ≡ before ++ pieces_text ps
+texts_from before [] = sym (append-nil before)
+texts_from before (p ∷ ps) = texts_from (before ++ piece_text p) ps ∙ append_assoc before (piece_text p) (pieces_text ps) ∙ ap (λ x. before ++ x) (sym (texts_from (piece_text p) ps))
 
-  pub first : (a b : Option (List ℕ)) → WrotePrefix a b u → WrotePrefix a b line
-  first a b p = wrote_front a b (u ++ v ++ w ++ x) y (wrote_front a b (u ++ v ++ w) x (wrote_front a b (u ++ v) w (wrote_front a b u v p)))
+texts_more : (ps : List Piece) (i : ℕ) (d : Piece) → i < length ps → pieces_text (take (i + 1) ps) ≡ pieces_text (take i ps) ++ piece_text (get_or ps i d)
+texts_more ps i d l = ap pieces_text (take_at_read ps i d l).1 ∙ fold-append (λ text piece. text ++ piece_text piece) [] (take i ps) (get_or ps i d ∷ [])
 
-  pub second : (a b c : Option (List ℕ)) → Takes a b u → WrotePrefix b c v → WrotePrefix a c line
-  second a b c t p = wrote_front a c (u ++ v ++ w ++ x) y (wrote_front a c (u ++ v ++ w) x (wrote_front a c (u ++ v) w (wrote_after a b c u v t p)))
+texts_split : (ps : List Piece) (n : ℕ) → pieces_text ps ≡ pieces_text (take n ps) ++ pieces_text (drop n ps)
+texts_split ps n =
+    ap pieces_text (sym (take-append-drop n ps)) ∙ fold-append (λ text piece. text ++ piece_text piece) [] (take n ps) (drop n ps) ∙ texts_from (pieces_text (take n ps)) (drop n ps)
 
-  pub third : (a b c : Option (List ℕ)) → Takes a b (u ++ v) → WrotePrefix b c w → WrotePrefix a c line
-  third a b c t p = wrote_front a c (u ++ v ++ w ++ x) y (wrote_front a c (u ++ v ++ w) x (wrote_after a b c (u ++ v) w t p))
+-- the pieces through one more place
+pub piece_taken : (a b c : Option (List ℕ)) (ps : List Piece) (i : ℕ) (d : Piece) → i < length ps → Takes a b (pieces_text (take i ps)) → Takes b c (piece_text (get_or ps i d)) → Takes a c (pieces_text (take (i + 1) ps))
+piece_taken a b c ps i d l t h = rw (texts_more ps i d l) (takes_more a b c (pieces_text (take i ps)) (piece_text (get_or ps i d)) t h)
 
-  pub fourth : (a b c : Option (List ℕ)) → Takes a b (u ++ v ++ w) → WrotePrefix b c x → WrotePrefix a c line
-  fourth a b c t p = wrote_front a c (u ++ v ++ w ++ x) y (wrote_after a b c (u ++ v ++ w) x t p)
-
-  pub fifth : (a b c : Option (List ℕ)) → Takes a b (u ++ v ++ w ++ x) → WrotePrefix b c y → WrotePrefix a c line
-  fifth a b c t p = wrote_after a b c (u ++ v ++ w ++ x) y t p
-
-  pub two : (a b c : Option (List ℕ)) → Takes a b u → Takes b c v → Takes a c (u ++ v)
-  two a b c p q = takes_more a b c u v p q
-
-  pub three : (a b c : Option (List ℕ)) → Takes a b (u ++ v) → Takes b c w → Takes a c (u ++ v ++ w)
-  three a b c p q = takes_more a b c (u ++ v) w p q
-
-  pub four : (a b c : Option (List ℕ)) → Takes a b (u ++ v ++ w) → Takes b c x → Takes a c (u ++ v ++ w ++ x)
-  four a b c p q = takes_more a b c (u ++ v ++ w) x p q
-
-  pub five : (a b c : Option (List ℕ)) → Takes a b (u ++ v ++ w ++ x) → Takes b c y → Takes a c line
-  five a b c p q = takes_more a b c (u ++ v ++ w ++ x) y p q
+-- a prefix of the piece at a place, after those before it
+pub piece_part : (a b c : Option (List ℕ)) (ps : List Piece) (i : ℕ) (d : Piece) → i < length ps → Takes a b (pieces_text (take i ps)) → WrotePrefix b c (piece_text (get_or ps i d)) → WrotePrefix a c (pieces_text ps)
+piece_part a b c ps i d l t h =
+    rw (texts_split ps (i + 1), texts_more ps i d l)
+    (wrote_front a c (pieces_text (take i ps) ++ piece_text (get_or ps i d)) (pieces_text (drop (i + 1) ps)) (wrote_after a b c (pieces_text (take i ps)) (piece_text (get_or ps i d)) t h))

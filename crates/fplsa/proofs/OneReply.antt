@@ -1,21 +1,29 @@
 -- Words and the bytes of an input have at most one reply.
-use Rattle.std.proofs.Common.{◌≡◌, ℕ, ◌-◌, ◌<◌, ◌≤◌, List, refl, sym, ap, ◌∙◌, subst, arith}
+use Rattle.std.proofs.Common.{◌≡◌, ℕ, ◌<◌, ◌≤◌, List, Ok, Err, refl, sym, ap, ◌∙◌, subst, arith}
 use mathlib.Core.Path.{ap₂}
 use native.Mathlib.Decide.{dec_lt}
+use Rattle.fpl_numbers.specs.declared.number.Num.{Num}
+use Rattle.fpl_numbers.specs.declared.number.Op.{Op}
+use Rattle.fpl_numbers.specs.declared.number.Unfit.{Unfit}
 use Rattle.fpl_model.specs.declared.presentation.Presentation.{Presentation}
 use Rattle.fpl_model.specs.Sound.{IsSound}
 use Rattle.fpl_reader.proofs.OneAnswer.{one_presentation, one_refusal, not_both}
 use Rattle.fpl_reader.proofs.Soundness.{presentation_sound}
 use Rattle.fpl_table.specs.Plain.{PlainTable}
-use Rattle.fpl_table.specs.Standard.{IsTableOf, PassesAt, count_through}
+use Rattle.fpl_table.specs.Standard.{IsTableOf, count_through}
 use Rattle.fpl_next.specs.Holds.{AreOne}
 use Rattle.fpl_next.proofs.One.{tables_are_one}
+use Rattle.fpl_completion.specs.Section.{FitsAt, OverflowsAt}
+use Rattle.fpl_completion.proofs.Computed.{computes_one}
+use Rattle.fpl_complete.specs.State.{unfit_of}
 use Rattle.fpl_print.specs.TableText.{table_text, names_of}
 use Rattle.fpl_print.proofs.OneText.{one_text}
 use Rattle.fplsa.specs.declared.words.Command.{Command}
-use Rattle.fplsa.specs.Reply.{Reply, done, refused, limit}
+use Rattle.fplsa.specs.Reply.{Reply, done, refused, limit, overflow}
+use Rattle.fplsa.specs.Events.{NumberThrough, IsPassed, StopsAt, PassesBelow}
+use Rattle.fplsa.specs.Events.StopsAt.{too_many_symbols, no_fit}
 use Rattle.fplsa.specs.Answer.{AnswersCommand, AnswersText, AnswersPresentation, reason_text}
-use Rattle.fplsa.specs.Answer.AnswersPresentation.{view_not_built, fractions_not_built, too_many_symbols, table_done}
+use Rattle.fplsa.specs.Answer.AnswersPresentation.{view_not_built, stopped, table_done}
 use Rattle.fplsa.specs.Answer.AnswersText.{text_too_long, no_presentation, presentation}
 use Rattle.fplsa.specs.Answer.AnswersCommand.{unread, input_too_long, checkpoint_not_built, text}
 use Rattle.fplsa.specs.Answer.Answers.{no_command, command}
@@ -23,48 +31,53 @@ use Rattle.fplsa.specs.OneReply.{OneReply}
 use Rattle.fplsa.proofs.Names.{one_command}
 use Rattle.fplsa.proofs.Parts.{counts_through}
 
--- a weight before the one that passes is within the limit
-passes_first : (p : Presentation) (d e w w' n n' : ℕ) → IsSound p → PassesAt p d e w n → PassesAt p d e w' n' → w < w' → ⊥
-passes_first p d e w w' n n' sound h k l =
-    let same : count_through h.table w ≡ count_through k.table w = counts_through p (w - 1) (w' - 1) h.table k.table sound h.below k.below (omega arith) w (omega arith) in
-    omega (arith, same, h.number, h.passes, k.least w l)
-
-passes_one : (p : Presentation) (d e w w' n n' : ℕ) → IsSound p → PassesAt p d e w n → PassesAt p d e w' n' → (w ≡ w') × (n ≡ n')
-passes_one p d e w w' n n' sound h k = go (dec_lt w w') (dec_lt w' w)
+pub numbers_one : (p : Presentation) (w m n : ℕ) → IsSound p → NumberThrough p w m → NumberThrough p w n → m ≡ n
+numbers_one p w m n sound h k = go (dec_lt k.through h.through)
   where
-    go : Dec (w < w') → Dec (w' < w) → (w ≡ w') × (n ≡ n')
-    go (yes l) m = absurd (passes_first p d e w w' n n' sound h k l)
-    go (no l) (yes m) = absurd (passes_first p d e w' w n' n sound k h m)
-    go (no l) (no m) =
-        let one : w ≡ w' = omega (arith, l, m) in
-        let same : count_through h.table w ≡ count_through k.table w = counts_through p (w - 1) (w' - 1) h.table k.table sound h.below k.below (omega (arith, one)) w (omega (arith, h.from_one)) in
-        (one, sym h.number ∙ same ∙ ap (count_through k.table) one ∙ k.number)
+    go : Dec (k.through < h.through) → m ≡ n
+    go (yes l) = sym h.number ∙ sym (counts_through p k.through h.through k.table h.table sound k.whole h.whole (omega arith) w k.near) ∙ k.number
+    go (no l) = sym h.number ∙ counts_through p h.through k.through h.table k.table sound h.whole k.whole (omega (arith, l)) w h.near ∙ k.number
 
-passes_not : (p : Presentation) (d e w n : ℕ) (T : PlainTable) → IsSound p → PassesAt p d e w n → IsTableOf p d T → ((v : ℕ) → v ≤ d → count_through T v ≤ e) → ⊥
-passes_not p d e w n T sound h t within =
-    let same : count_through h.table w ≡ count_through T w = counts_through p (w - 1) d h.table T sound h.below t (omega (arith, h.to_end)) w (omega (arith, h.from_one)) in
-    omega (arith, same, h.number, h.passes, within w h.to_end)
+pub fits_not : (p : Presentation) (w : ℕ) (u : Unfit) → IsSound p → FitsAt p w → OverflowsAt p w u → ⊥
+fits_not p w u sound f o = let same : Ok f.0 ≡ Err u = computes_one p w (Ok f.0) (Err u) sound f.1 o in cc
+
+pub passed_goes_on : (p : Presentation) (e w : ℕ) (r : Reply) → IsSound p → IsPassed p e w → StopsAt p e w r → ⊥
+passed_goes_on p e w _ sound h (too_many_symbols n k l) = omega (arith, numbers_one p w h.count n sound h.number k, h.few, l)
+passed_goes_on p e w _ sound h (no_fit n k l op a b o) = fits_not p w (unfit_of op a b) sound h.fits o
+
+unfit_one : (w : ℕ) (op op' : Op) (a b a' b' : Num) → unfit_of op a b ≡ unfit_of op' a' b' → overflow w op a b ≡ overflow w op' a' b'
+unfit_one w op op' a b a' b' e = ap (λ u. overflow w u.op u.a u.b) e
+
+stop_one : (p : Presentation) (e w : ℕ) (r s : Reply) → IsSound p → StopsAt p e w r → StopsAt p e w s → r ≡ s
+stop_one p e w _ _ sound (too_many_symbols m h l) (too_many_symbols n k o) = ap (limit w) (numbers_one p w m n sound h k)
+stop_one p e w _ _ sound (too_many_symbols m h l) (no_fit n k o op a b u) = absurd (omega (arith, numbers_one p w m n sound h k, l, o))
+stop_one p e w _ _ sound (no_fit n k o op a b u) (too_many_symbols m h l) = absurd (omega (arith, numbers_one p w m n sound h k, l, o))
+stop_one p e w _ _ sound (no_fit m h l op a b u) (no_fit n k o op' a' b' u') =
+    let same : Err (unfit_of op a b) ≡ Err (unfit_of op' a' b') = computes_one p w (Err (unfit_of op a b)) (Err (unfit_of op' a' b')) sound u u' in
+    unfit_one w op op' a b a' b' cc
+
+-- a run stops at one weight, with one reply
+stopped_one : (p : Presentation) (e v w : ℕ) (r s : Reply) → IsSound p → 1 ≤ v → 1 ≤ w → PassesBelow p e v → PassesBelow p e w → StopsAt p e v r → StopsAt p e w s → r ≡ s
+stopped_one p e v w r s sound l m below below' h k = go (dec_lt v w) (dec_lt w v)
+  where
+    go : Dec (v < w) → Dec (w < v) → r ≡ s
+    go (yes a) b = absurd (passed_goes_on p e v r sound (below' v l a) h)
+    go (no a) (yes b) = absurd (passed_goes_on p e w s sound (below w m b) k)
+    go (no a) (no b) = let one : v ≡ w = omega (arith, a, b) in stop_one p e w r s sound (subst (λ x. StopsAt p e x r) one h) k
 
 text_one : (p : Presentation) (d : ℕ) (T S : PlainTable) → IsSound p → IsTableOf p d T → IsTableOf p d S → table_text (names_of p) T ≡ table_text (names_of p) S
 text_one p d T S sound t s = let one : AreOne T S = tables_are_one p d T S sound t s in one_text (names_of p) T S one.kind one.weight one.generators one.basis one.images one.entries
 
 presentation_one : (c : Command) (p : Presentation) (r s : Reply) → IsSound p → AnswersPresentation c p r → AnswersPresentation c p s → r ≡ s
 presentation_one c p _ _ sound (view_not_built a) (view_not_built b) = refl
-presentation_one c p _ _ sound (view_not_built a) (fractions_not_built b f) = refl
-presentation_one c p _ _ sound (view_not_built a) (too_many_symbols b f w n h) = absurd (a b)
-presentation_one c p _ _ sound (view_not_built a) (table_done b f T t m) = absurd (a b)
-presentation_one c p _ _ sound (fractions_not_built a e) (view_not_built b) = refl
-presentation_one c p _ _ sound (fractions_not_built a e) (fractions_not_built b f) = refl
-presentation_one c p _ _ sound (fractions_not_built a e) (too_many_symbols b f w n h) = absurd (f e)
-presentation_one c p _ _ sound (fractions_not_built a e) (table_done b f T t m) = absurd (f e)
-presentation_one c p _ _ sound (too_many_symbols a e w n h) (view_not_built b) = absurd (b a)
-presentation_one c p _ _ sound (too_many_symbols a e w n h) (fractions_not_built b f) = absurd (e f)
-presentation_one c p _ _ sound (too_many_symbols a e w n h) (too_many_symbols b f v m k) = let o = passes_one p c.limit c.entries w v n m sound h k in ap₂ limit o.0 o.1
-presentation_one c p _ _ sound (too_many_symbols a e w n h) (table_done b f T t m) = absurd (passes_not p c.limit c.entries w n T sound h t m)
-presentation_one c p _ _ sound (table_done a e T t m) (view_not_built b) = absurd (b a)
-presentation_one c p _ _ sound (table_done a e T t m) (fractions_not_built b f) = absurd (e f)
-presentation_one c p _ _ sound (table_done a e T t m) (too_many_symbols b f w n h) = absurd (passes_not p c.limit c.entries w n T sound h t m)
-presentation_one c p _ _ sound (table_done a e T t m) (table_done b f S s k) = ap done (text_one p c.limit T S sound t s)
+presentation_one c p _ _ sound (view_not_built a) (stopped b w l m below s k) = absurd (a b)
+presentation_one c p _ _ sound (view_not_built a) (table_done b below T t) = absurd (a b)
+presentation_one c p _ _ sound (stopped a w l m below r h) (view_not_built b) = absurd (b a)
+presentation_one c p _ _ sound (stopped a w l m below r h) (stopped b v l' m' below' s k) = stopped_one p c.entries w v r s sound l l' below below' h k
+presentation_one c p _ _ sound (stopped a w l m below r h) (table_done b all T t) = absurd (passed_goes_on p c.entries w r sound (all w l (omega (arith, m))) h)
+presentation_one c p _ _ sound (table_done a all T t) (view_not_built b) = absurd (b a)
+presentation_one c p _ _ sound (table_done a all T t) (stopped b w l m below s k) = absurd (passed_goes_on p c.entries w s sound (all w l (omega (arith, m))) k)
+presentation_one c p _ _ sound (table_done a all T t) (table_done b all' S s) = ap done (text_one p c.limit T S sound t s)
 
 of_text_one : (c : Command) (bytes : List ℕ) (r s : Reply) → AnswersText c bytes r → AnswersText c bytes s → r ≡ s
 of_text_one c bytes _ _ (text_too_long l) (text_too_long m) = refl

@@ -7,13 +7,16 @@ use Rattle.std.specs.Io.KnownBytes.{IsAtEnd}
 use Rattle.std.proofs.lemmas.List.{append-nil}
 use Rattle.fpl_outside.specs.Outside.{Gives, Takes, Rose}
 use Rattle.fpl_outside.specs.Whole.{PassedMax, WrotePrefix}
+use Rattle.fpl_model.specs.declared.presentation.Presentation.{Presentation}
 use Rattle.fplsa.specs.declared.status.Status.{Status}
 use Rattle.fplsa.specs.declared.status.Status.TheVariants.{Usage, ReadFault, WriteFault}
 use Rattle.fplsa.specs.declared.words.Command.{Command}
 use Rattle.fplsa.specs.Words.{IsCommand}
-use Rattle.fplsa.specs.Reply.{Reply, done, usage, refused, limit, no_memory, read_fault, write_fault, not_built, IsFree, IsPlain, status_of, text_of, line_of}
+use Rattle.fplsa.specs.Reply.{Reply, done, usage, refused, limit, overflow, no_memory, read_fault, write_fault, not_built, IsFree, IsPlain, status_of, text_of, line_of}
 use Rattle.fplsa.specs.Answer.{Answers, AnswersCommand, AnswersText, AnswersPresentation}
-use Rattle.fplsa.specs.Answer.AnswersPresentation.{view_not_built, fractions_not_built, too_many_symbols, table_done}
+use Rattle.fplsa.specs.Events.{StopsAt}
+use Rattle.fplsa.specs.Events.StopsAt.{too_many_symbols, no_fit}
+use Rattle.fplsa.specs.Answer.AnswersPresentation.{view_not_built, stopped, table_done}
 use Rattle.fplsa.specs.Answer.AnswersText.{text_too_long, no_presentation, presentation}
 use Rattle.fplsa.specs.Answer.AnswersCommand.{unread, input_too_long, checkpoint_not_built, text}
 use Rattle.fplsa.specs.Answer.Answers.{command}
@@ -46,11 +49,14 @@ passed_input (Some bs) (Some rest) max P h f =
     let passed : max < length h.front + length h.piece = h.passed in
     f bs (rw all (omega (arith, length-append (h.front ++ h.piece) rest, length-append h.front h.piece, passed)))
 
-presentation_plain : (c : Command) (p : _) (r : Reply) → AnswersPresentation c p r → IsPlain r × (status_of r ≢ ReadFault)
+stop_plain : (p : Presentation) (e w : ℕ) (r : Reply) → StopsAt p e w r → IsPlain r × (status_of r ≢ ReadFault)
+stop_plain p e w _ (too_many_symbols n h k) = (tt, λ e. cc)
+stop_plain p e w _ (no_fit n h k op a b u) = (tt, λ e. cc)
+
+presentation_plain : (c : Command) (p : Presentation) (r : Reply) → AnswersPresentation c p r → IsPlain r × (status_of r ≢ ReadFault)
 presentation_plain c p _ (view_not_built a) = (tt, λ e. cc)
-presentation_plain c p _ (fractions_not_built a b) = (tt, λ e. cc)
-presentation_plain c p _ (too_many_symbols a b w n h) = (tt, λ e. cc)
-presentation_plain c p _ (table_done a b T h w) = (tt, λ e. cc)
+presentation_plain c p _ (stopped a w l m below r h) = stop_plain p c.entries w r h
+presentation_plain c p _ (table_done a below T h) = (tt, λ e. cc)
 
 text_plain : (c : Command) (bytes : List ℕ) (r : Reply) → AnswersText c bytes r → IsPlain r × (status_of r ≢ ReadFault)
 text_plain c bytes _ (text_too_long l) = (tt, λ e. cc)
@@ -79,6 +85,7 @@ plain_outer (done t) h = (λ e. cc, λ e. cc)
 plain_outer usage h = absurd h
 plain_outer (refused place reason) h = (λ e. cc, λ e. cc)
 plain_outer (limit w n) h = (λ e. cc, λ e. cc)
+plain_outer (overflow w op a b) h = (λ e. cc, λ e. cc)
 plain_outer no_memory h = (λ e. cc, λ e. cc)
 plain_outer read_fault h = (λ e. cc, λ e. cc)
 plain_outer write_fault h = absurd h
@@ -93,6 +100,7 @@ written (done t) = inr (λ e. cc)
 written usage = inr (λ e. cc)
 written (refused place reason) = inr (λ e. cc)
 written (limit weight n) = inr (λ e. cc)
+written (overflow weight op a b) = inr (λ e. cc)
 written no_memory = inr (λ e. cc)
 written read_fault = inr (λ e. cc)
 written write_fault = inl refl

@@ -6,22 +6,22 @@
 --   Answers: the words spell no command; or a command, whose reply is
 --   AnswersCommand: the view isn't built, and nothing is read; the input is too long; it is a checkpoint, which isn't built; or a text, whose reply is
 --   AnswersText: it is too long; it is no presentation; or a presentation, whose reply is
---   AnswersPresentation: the view isn't built; nor are fractions; or, over a prime, the symbols number too many at some weight; or the
---   standard table through the weight limit, as text
-use Rattle.std.specs.Prelude.{ℕ, ◌≡◌, ◌≢◌, ◌≤◌, ◌<◌, ◌⊎◌, List, length, slice_index, codes}
-use Rattle.fpl_numbers.specs.declared.number.Kind.TheVariants.{Rational}
+--   AnswersPresentation: the view isn't built; or the run stops at some weight through the limit, and passes those below; or it passes all,
+--   and the reply is the standard table through the limit, as text
+use Rattle.std.specs.Prelude.{ℕ, suc, ◌≡◌, ◌≢◌, ◌≤◌, ◌<◌, ◌⊎◌, List, length, slice_index, codes}
 use Rattle.fpl_model.specs.declared.presentation.Presentation.{Presentation}
 use Rattle.fpl_reader.specs.declared.fault.Reason.{Reason}
 use Rattle.fpl_reader.specs.declared.fault.Reason.TheVariants.{BadByte, NumberTooLarge, NameTooLong, TooDeep, Syntax, NoField, FieldTwice, BadPrime, NameTwice, BadWeight, TooManyGenerators, UnknownName, ZeroDenominator, MixedWeight, MixedParity}
 use Rattle.fpl_reader.specs.Reading.{HasPresentation, IsRefused}
 use Rattle.fpl_table.specs.Plain.{PlainTable}
-use Rattle.fpl_table.specs.Standard.{IsTableOf, PassesAt, count_through}
+use Rattle.fpl_table.specs.Standard.{IsTableOf}
 use Rattle.fpl_print.specs.TableText.{table_text, names_of}
 use Rattle.fplsa.specs.declared.words.View.{View}
 use Rattle.fplsa.specs.declared.words.View.TheVariants.{Table, Check, Sample}
 use Rattle.fplsa.specs.declared.words.Command.{Command}
 use Rattle.fplsa.specs.Words.{IsCommand, IsNoCommand}
-use Rattle.fplsa.specs.Reply.{Reply, done, usage, refused, limit, not_built}
+use Rattle.fplsa.specs.Reply.{Reply, done, usage, refused, not_built}
+use Rattle.fplsa.specs.Events.{StopsAt, PassesBelow}
 
 abbrev pub most_bytes : ℕ
 most_bytes = 1073741824
@@ -60,10 +60,8 @@ IsCheckpoint bytes = (0 < length bytes) × (slice_index bytes 0 ≡ checkpoint_m
 
 pub data AnswersPresentation (c : Command) (p : Presentation) : Reply → Type 0 where
   view_not_built : c.view ≢ Table → AnswersPresentation c p not_built
-  fractions_not_built : c.view ≡ Table → p.field ≡ Rational → AnswersPresentation c p not_built
-  too_many_symbols : c.view ≡ Table → p.field ≢ Rational → (weight count : ℕ) → PassesAt p c.limit c.entries weight count → AnswersPresentation c p (limit weight count)
-  table_done : c.view ≡ Table → p.field ≢ Rational → (T : PlainTable) → IsTableOf p c.limit T → ((w : ℕ) → w ≤ c.limit → count_through T w ≤ c.entries) →
-      AnswersPresentation c p (done (table_text (names_of p) T))
+  stopped : c.view ≡ Table → (w : ℕ) → 1 ≤ w → w ≤ c.limit → PassesBelow p c.entries w → (reply : Reply) → StopsAt p c.entries w reply → AnswersPresentation c p reply
+  table_done : c.view ≡ Table → PassesBelow p c.entries (suc c.limit) → (T : PlainTable) → IsTableOf p c.limit T → AnswersPresentation c p (done (table_text (names_of p) T))
 
 pub data AnswersText (c : Command) (bytes : List ℕ) : Reply → Type 0 where
   text_too_long : most_text < length bytes → AnswersText c bytes (refused most_text too_long)

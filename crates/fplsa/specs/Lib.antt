@@ -1,6 +1,8 @@
 pub mod Words
 pub mod Status
 pub mod Reply
+pub mod Line
+pub mod Events
 pub mod Answer
 pub mod Outcome
 pub mod Run

@@ -6,7 +6,7 @@ use Rattle.fplsa.specs.declared.outcome.Refusal.{Refusal}
 use Rattle.fplsa.specs.declared.outcome.Refusal.TheVariants.{TooLong, Unread}
 use Rattle.fplsa.specs.declared.outcome.Outcome.{Outcome}
 use Rattle.fplsa.specs.declared.outcome.Outcome.TheVariants as found
-use Rattle.fplsa.specs.Reply.{Reply, done, usage, refused, limit, no_memory, read_fault, write_fault, not_built}
+use Rattle.fplsa.specs.Reply.{Reply, done, usage, refused, limit, overflow, no_memory, read_fault, write_fault, not_built}
 use Rattle.fplsa.specs.Answer.{too_long, reason_text}
 
 abbrev pub refusal_text : Refusal → List ℕ
@@ -18,6 +18,7 @@ reply_of (found.Done text) = done text.items
 reply_of found.Usage = usage
 reply_of (found.Refused place why) = refused place (refusal_text why)
 reply_of (found.Limit weight count) = limit weight count
+reply_of (found.Overflow weight op a b) = overflow weight op a b
 reply_of found.NoMemory = no_memory
 reply_of found.ReadFault = read_fault
 reply_of found.WriteFault = write_fault

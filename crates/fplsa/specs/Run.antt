@@ -3,9 +3,12 @@
 --   ReadsNothing: the words are no command, or one of a view that reads no input yet
 --   Says: a line was appended, or its writing had a fault after a prefix of it
 --   IsReplied: the status is that of the reply to the words and the bytes, whose text was appended to the output and whose line to the error output
---   HasTable: the words ask for the table of a presentation over a prime, which is what the bytes are, and its symbols stay within the entries
+--   HasTable: the words ask for the table of a presentation, which is what the bytes are; its symbols stay within the entries, and over fractions
+--   each weight's operations fit
+--   CostsAtMost d: a number rose by at most the number of origins of the weights from 1 to d, of the presentation that the bytes are; it stayed where
+--   they are none
 --   IsPartOf: the reply to the words and the bytes is a text, and a prefix of it was appended to the output
-use Rattle.std.specs.Prelude.{◌≡◌, ◌≢◌, ℕ, ◌≤◌, ◌⊎◌, List, length}
+use Rattle.std.specs.Prelude.{◌≡◌, ℕ, ◌+◌, ◌≤◌, ◌⊎◌, List, length}
 use Rattle.std.specs.declared.option.Option.{Option}
 use Rattle.fpl_outside.specs.Outside.{Rose, Takes}
 use Rattle.fpl_outside.specs.Whole.{WrotePrefix}
@@ -16,11 +19,13 @@ use Rattle.fpl_model.specs.declared.presentation.Presentation.{Presentation}
 use Rattle.fpl_reader.specs.Reading.{HasPresentation}
 use Rattle.fpl_table.specs.Plain.{PlainTable}
 use Rattle.fpl_table.specs.Standard.{IsTableOf, count_through}
+use Rattle.fpl_completion.specs.Section.{FitsAt}
+use Rattle.fpl_complete.specs.State.{BoundsOrigins, sum_after}
 use Rattle.fplsa.specs.declared.words.View.TheVariants.{Table}
 use Rattle.fplsa.specs.declared.words.Command.{Command}
 use Rattle.fplsa.specs.Words.{IsCommand, IsNoCommand}
 use Rattle.fplsa.specs.Reply.{Reply, no_memory, status_of, text_of, line_of}
-use Rattle.fplsa.specs.Answer.{Answers, IsUnread, IsCheckpoint, most_text}
+use Rattle.fplsa.specs.Answer.{Answers, IsUnread, most_text}
 
 abbrev pub Settles : (Reply → Type 0) → Reply → Type 0
 Settles A reply = (reply ≡ no_memory) ⊎ A reply
@@ -49,10 +54,14 @@ pub record HasTable (words : List (List ℕ)) (bytes : List ℕ) : Type 0 where
   pub spelled : IsCommand words command
   pub view : command.view ≡ Table
   pub short : length bytes ≤ most_text
-  pub unmarked : IsCheckpoint bytes → ⊥
   pub presentation : Presentation
   pub said : HasPresentation bytes presentation
-  pub prime : presentation.field ≢ Rational
   pub table : PlainTable
   pub standard : IsTableOf presentation command.limit table
   pub within : (w : ℕ) → w ≤ command.limit → count_through table w ≤ command.entries
+  pub fits : presentation.field ≡ Rational → (w : ℕ) → 1 ≤ w → w ≤ command.limit → FitsAt presentation w
+
+pub record CostsAtMost (d : ℕ) (bytes : List ℕ) (old new : ℕ) : Type 0 where
+  pub rises : old ≤ new
+  pub most : (p : Presentation) (count : ℕ → ℕ) → HasPresentation bytes p → BoundsOrigins p 0 d count → new ≤ old + sum_after count 0 d
+  pub stays : ((p : Presentation) → HasPresentation bytes p → ⊥) → new ≡ old

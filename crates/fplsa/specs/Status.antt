@@ -1,13 +1,14 @@
 -- The number that the process ends with, for each status.
 use Rattle.std.specs.Prelude.{ℕ}
 use Rattle.fplsa.specs.declared.status.Status.{Status}
-use Rattle.fplsa.specs.declared.status.Status.TheVariants.{Done, Usage, Refused, Limit, NoMemory, ReadFault, WriteFault, NotBuilt}
+use Rattle.fplsa.specs.declared.status.Status.TheVariants.{Done, Usage, Refused, Limit, Overflow, NoMemory, ReadFault, WriteFault, NotBuilt}
 
 abbrev pub number_of : Status → ℕ
 number_of Done = 0
 number_of Usage = 1
 number_of Refused = 2
 number_of Limit = 4
+number_of Overflow = 5
 number_of NoMemory = 6
 number_of ReadFault = 7
 number_of WriteFault = 8

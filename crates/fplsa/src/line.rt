@@ -1,15 +1,28 @@
 //! The line that says why nothing was written. It is put piece by piece and takes no memory.
-ghost use Rattle.std.specs.Prelude.{◌≡◌, ◌≤◌, ◌++◌, OnOk, OnErr};
+ghost use Rattle.std.specs.Prelude.{◌≡◌, ◌≤◌, true, OnOk, OnErr};
 ghost use Rattle.fpl_outside.specs.Outside.{Rose, Takes};
 ghost use Rattle.fpl_outside.specs.Whole.{WrotePrefix};
-ghost use Rattle.fplsa.specs.Reply.{Reply, line_of, refused, limit};
+ghost use Rattle.fpl_print.specs.Combinations.{below_text, magnitude_text, number_text, sign_text, is_below_nought};
+ghost use Rattle.fplsa.specs.Reply.{Reply, line_of, op_text, refused, limit, overflow};
+ghost use Rattle.fplsa.specs.Line.{piece_text, pieces_text};
 ghost use Rattle.fplsa.specs.Outcome.{refusal_text, reply_of};
 
 use crate::outcome::{Outcome, Refusal};
+use fpl_numbers::{Num, Op};
 use fpl_outside::{Sink, WriteFault, write_whole};
 use itoa::{Buffer, Integer};
 
-fn put_number<E: Sink, N: Integer>(err: &mut E, n: N) -> Result<(), WriteFault>
+/// A piece of a line.
+#[derive(Clone, Copy)]
+pub(crate) enum Piece {
+    Text(&'static [u8]),
+    /// In decimal.
+    Count(u64),
+    /// A `-` where it is below 0, its numerator, and `/` and its denominator where that isn't 1.
+    Number(Num),
+}
+
+fn put_decimal<E: Sink, N: Integer>(err: &mut E, n: N) -> Result<(), WriteFault>
     ensures whole { OnOk result (Takes (E.taken err.old) (E.taken err.new) (N.text n)) }
     ensures part { OnErr result (WrotePrefix (E.taken err.old) (E.taken err.new) (N.text n)) }
     ensures fault { OnErr result (Rose (E.faults err.old) (E.faults err.new)) }
@@ -19,13 +32,77 @@ fn put_number<E: Sink, N: Integer>(err: &mut E, n: N) -> Result<(), WriteFault>
     write_whole(err, buffer.format(n).as_bytes())
 }
 
-fn put_reason<E: Sink>(err: &mut E, why: Refusal) -> Result<(), WriteFault>
-    ensures whole { OnOk result (Takes (E.taken err.old) (E.taken err.new) (refusal_text why)) }
-    ensures part { OnErr result (WrotePrefix (E.taken err.old) (E.taken err.new) (refusal_text why)) }
+fn put_below<E: Sink>(err: &mut E, denominator: u128) -> Result<(), WriteFault>
+    ensures whole { OnOk result (Takes (E.taken err.old) (E.taken err.new) (below_text denominator)) }
+    ensures part { OnErr result (WrotePrefix (E.taken err.old) (E.taken err.new) (below_text denominator)) }
     ensures fault { OnErr result (Rose (E.faults err.old) (E.faults err.new)) }
     ensures later { E.faults err.old ≤ E.faults err.new }
 {
-    write_whole(err, why.text())
+    if denominator == 1 {
+        return write_whole(err, b"");
+    }
+    write_whole(err, b"/")?;
+    put_decimal(err, denominator)
+}
+
+fn put_magnitude<E: Sink>(err: &mut E, c: Num) -> Result<(), WriteFault>
+    ensures whole { OnOk result (Takes (E.taken err.old) (E.taken err.new) (magnitude_text c)) }
+    ensures part { OnErr result (WrotePrefix (E.taken err.old) (E.taken err.new) (magnitude_text c)) }
+    ensures fault { OnErr result (Rose (E.faults err.old) (E.faults err.new)) }
+    ensures later { E.faults err.old ≤ E.faults err.new }
+{
+    put_decimal(err, c.numerator.unsigned_abs())?;
+    put_below(err, c.denominator.unsigned_abs())
+}
+
+fn sign_of(c: Num) -> &'static [u8]
+    ensures { result.now ≡ sign_text true (is_below_nought c) }
+{
+    if c.numerator < 0 { b"-" } else { b"" }
+}
+
+fn put_number<E: Sink>(err: &mut E, c: Num) -> Result<(), WriteFault>
+    ensures whole { OnOk result (Takes (E.taken err.old) (E.taken err.new) (number_text c)) }
+    ensures part { OnErr result (WrotePrefix (E.taken err.old) (E.taken err.new) (number_text c)) }
+    ensures fault { OnErr result (Rose (E.faults err.old) (E.faults err.new)) }
+    ensures later { E.faults err.old ≤ E.faults err.new }
+{
+    write_whole(err, sign_of(c))?;
+    put_magnitude(err, c)
+}
+
+fn put_piece<E: Sink>(err: &mut E, piece: &Piece) -> Result<(), WriteFault>
+    ensures whole { OnOk result (Takes (E.taken err.old) (E.taken err.new) (piece_text piece.now)) }
+    ensures part { OnErr result (WrotePrefix (E.taken err.old) (E.taken err.new) (piece_text piece.now)) }
+    ensures fault { OnErr result (Rose (E.faults err.old) (E.faults err.new)) }
+    ensures later { E.faults err.old ≤ E.faults err.new }
+{
+    match piece {
+        Piece::Text(text) => write_whole(err, text),
+        Piece::Count(n) => put_decimal(err, *n),
+        Piece::Number(c) => put_number(err, *c),
+    }
+}
+
+fn put_pieces<E: Sink>(err: &mut E, pieces: &[Piece]) -> Result<(), WriteFault>
+    ensures whole { OnOk result (Takes (E.taken err.old) (E.taken err.new) (pieces_text pieces.now)) }
+    ensures part { OnErr result (WrotePrefix (E.taken err.old) (E.taken err.new) (pieces_text pieces.now)) }
+    ensures fault { OnErr result (Rose (E.faults err.old) (E.faults err.new)) }
+    ensures later { E.faults err.old ≤ E.faults err.new }
+{
+    for piece in pieces {
+        put_piece(err, piece)?;
+    }
+    Ok(())
+}
+
+fn op_text(op: Op) -> &'static [u8]
+    ensures { result.now ≡ op_text op }
+{
+    match op {
+        Op::Add => b" + ",
+        Op::Mul => b" * ",
+    }
 }
 
 fn put_refused<E: Sink>(err: &mut E, place: u64, why: Refusal) -> Result<(), WriteFault>
@@ -34,11 +111,16 @@ fn put_refused<E: Sink>(err: &mut E, place: u64, why: Refusal) -> Result<(), Wri
     ensures fault { OnErr result (Rose (E.faults err.old) (E.faults err.new)) }
     ensures later { E.faults err.old ≤ E.faults err.new }
 {
-    write_whole(err, b"refused at byte ")?;
-    put_number(err, place)?;
-    write_whole(err, b": ")?;
-    put_reason(err, why)?;
-    write_whole(err, b"\n")
+    put_pieces(
+        err,
+        &[
+            Piece::Text(b"refused at byte "),
+            Piece::Count(place),
+            Piece::Text(b": "),
+            Piece::Text(why.text()),
+            Piece::Text(b"\n"),
+        ],
+    )
 }
 
 fn put_limit<E: Sink>(err: &mut E, weight: u32, count: u64) -> Result<(), WriteFault>
@@ -47,11 +129,36 @@ fn put_limit<E: Sink>(err: &mut E, weight: u32, count: u64) -> Result<(), WriteF
     ensures fault { OnErr result (Rose (E.faults err.old) (E.faults err.new)) }
     ensures later { E.faults err.old ≤ E.faults err.new }
 {
-    write_whole(err, b"limit at weight ")?;
-    put_number(err, weight)?;
-    write_whole(err, b": ")?;
-    put_number(err, count)?;
-    write_whole(err, b" symbols\n")
+    put_pieces(
+        err,
+        &[
+            Piece::Text(b"limit at weight "),
+            Piece::Count(u64::from(weight)),
+            Piece::Text(b": "),
+            Piece::Count(count),
+            Piece::Text(b" symbols\n"),
+        ],
+    )
+}
+
+fn put_overflow<E: Sink>(err: &mut E, weight: u32, op: Op, a: Num, b: Num) -> Result<(), WriteFault>
+    ensures whole { OnOk result (Takes (E.taken err.old) (E.taken err.new) (line_of (overflow weight op a b))) }
+    ensures part { OnErr result (WrotePrefix (E.taken err.old) (E.taken err.new) (line_of (overflow weight op a b))) }
+    ensures fault { OnErr result (Rose (E.faults err.old) (E.faults err.new)) }
+    ensures later { E.faults err.old ≤ E.faults err.new }
+{
+    put_pieces(
+        err,
+        &[
+            Piece::Text(b"overflow at weight "),
+            Piece::Count(u64::from(weight)),
+            Piece::Text(b": "),
+            Piece::Number(a),
+            Piece::Text(op_text(op)),
+            Piece::Number(b),
+            Piece::Text(b"\n"),
+        ],
+    )
 }
 
 /// Puts the line of an outcome, and nothing where its text was written.
@@ -66,6 +173,7 @@ pub fn put_line<E: Sink>(err: &mut E, outcome: &Outcome) -> Result<(), WriteFaul
         Outcome::Usage => write_whole(err, b"usage: fplsa VIEW LIMIT [ENTRIES]\n"),
         Outcome::Refused { place, why } => put_refused(err, *place, *why),
         Outcome::Limit { weight, count } => put_limit(err, *weight, *count),
+        Outcome::Overflow { weight, op, a, b } => put_overflow(err, *weight, *op, *a, *b),
         Outcome::NoMemory => write_whole(err, b"no memory\n"),
         Outcome::ReadFault => write_whole(err, b"read fault\n"),
         Outcome::WriteFault => write_whole(err, b"write fault\n"),

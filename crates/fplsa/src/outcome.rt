@@ -5,6 +5,7 @@ ghost use Rattle.fplsa.specs.Outcome.{refusal_text, reply_of};
 ghost use Rattle.fplsa.specs.Reply.{status_of};
 
 use crate::status::Status;
+use fpl_numbers::{Num, Op};
 use fpl_reader::Reason;
 
 /// Why an input is refused.
@@ -21,6 +22,7 @@ pub enum Outcome {
     Usage,
     Refused { place: u64, why: Refusal },
     Limit { weight: u32, count: u64 },
+    Overflow { weight: u32, op: Op, a: Num, b: Num },
     NoMemory,
     ReadFault,
     WriteFault,
@@ -69,6 +71,7 @@ impl Outcome {
             Outcome::Usage => Status::Usage,
             Outcome::Refused { .. } => Status::Refused,
             Outcome::Limit { .. } => Status::Limit,
+            Outcome::Overflow { .. } => Status::Overflow,
             Outcome::NoMemory => Status::NoMemory,
             Outcome::ReadFault => Status::ReadFault,
             Outcome::WriteFault => Status::WriteFault,

@@ -1,15 +1,16 @@
-ghost use Rattle.std.specs.Prelude.{◌≡◌, ◌≢◌, ◌≤◌, ◌<◌, ◌⊎◌, ◌↔◌, List, ℕ, map, string_bytes, length, IfSome, IsTrue};
+ghost use Rattle.std.specs.Prelude.{◌≡◌, ◌≢◌, ◌≤◌, ◌<◌, ◌+◌, ◌⊎◌, ◌↔◌, List, ℕ, map, string_bytes, length, IfSome, IsTrue};
 ghost use Rattle.std.specs.Io.KnownBytes.{IsAtEnd};
 ghost use Rattle.fpl_outside.specs.Outside.{Rose, Takes};
 ghost use Rattle.fpl_outside.specs.Whole.{WrotePrefix};
-ghost use Rattle.fpl_numbers.specs.declared.number.Kind.{Kind};
 ghost use Rattle.fpl_model.specs.Sound.{IsSound};
+ghost use Rattle.fpl_complete.specs.State.{BoundsOrigins, sum_after};
 ghost use Rattle.fplsa.specs.declared.words.View.{View};
-ghost use Rattle.fplsa.specs.Words.{IsNoCommand, IsInRange};
+ghost use Rattle.fplsa.specs.declared.words.Command.{Command};
+ghost use Rattle.fplsa.specs.Words.{IsCommand, IsNoCommand, IsInRange};
 ghost use Rattle.fplsa.specs.Reply.{Reply, read_fault, IsFree, IsPlain, status_of, text_of, line_of};
 ghost use Rattle.fplsa.specs.Answer.{Answers, AnswersCommand, AnswersText, AnswersPresentation, IsUnread, IsCheckpoint};
 ghost use Rattle.fplsa.specs.Outcome.{reply_of};
-ghost use Rattle.fplsa.specs.Run.{Settles, ReadsNothing, Says, IsReplied, HasTable, IsPartOf};
+ghost use Rattle.fplsa.specs.Run.{Settles, ReadsNothing, Says, IsReplied, HasTable, IsPartOf, CostsAtMost};
 
 use crate::line::put_line;
 use crate::outcome::{Outcome, Refusal};
@@ -22,7 +23,7 @@ use fpl_numbers::Kind;
 use fpl_outside::{ReadError, Sink, Source, read_whole, write_whole};
 use fpl_print::table_text;
 use fpl_reader::{ReaderError, read};
-use fpl_scalar::{Field, Residue};
+use fpl_scalar::{Field, Fraction, Residue};
 use fpl_steps::Steps;
 use std::alloc::Global;
 use std::sync::ledger::Ledger;
@@ -57,10 +58,11 @@ fn through_limit<F: Field, L: Ledger>(
 ) -> Outcome
     requires kind { F.kind_of field ≡ p.field }
     requires sound { IsSound p }
-    requires prime { p.field ≢ Kind.Rational }
     requires table { c.view ≡ View.Table }
     requires range { IsInRange c }
-    ensures { Settles (AnswersPresentation c p) (reply_of result) }
+    ensures reply { Settles (AnswersPresentation c p) (reply_of result) }
+    ensures rises { steps.old ≤ steps.new }
+    ensures cost { (count : ℕ → ℕ) → BoundsOrigins p 0 c.limit count → steps.new ≤ steps.old + sum_after count 0 c.limit }
 {
     let Ok(mut state) = State::start(alloc, field, p) else {
         return Outcome::NoMemory;
@@ -71,7 +73,7 @@ fn through_limit<F: Field, L: Ledger>(
             Err(_) => Outcome::NoMemory,
         },
         Err(RaiseFault::Limit { weight, count }) => Outcome::Limit { weight, count },
-        Err(RaiseFault::Overflow { .. }) => Outcome::NotBuilt,
+        Err(RaiseFault::Overflow { weight, op, a, b }) => Outcome::Overflow { weight, op, a, b },
         Err(RaiseFault::NoMemory) => Outcome::NoMemory,
     }
 }
@@ -84,13 +86,15 @@ fn of_presentation<L: Ledger>(
 ) -> Outcome
     requires sound { IsSound p }
     requires range { IsInRange c }
-    ensures { Settles (AnswersPresentation c p) (reply_of result) }
+    ensures reply { Settles (AnswersPresentation c p) (reply_of result) }
+    ensures rises { steps.old ≤ steps.new }
+    ensures cost { (count : ℕ → ℕ) → BoundsOrigins p 0 c.limit count → steps.new ≤ steps.old + sum_after count 0 c.limit }
 {
     let View::Table = c.view else {
         return Outcome::NotBuilt;
     };
     match p.field {
-        Kind::Rational => Outcome::NotBuilt,
+        Kind::Rational => through_limit(alloc, Fraction, c, p, steps),
         Kind::Prime(prime) => match Residue::of(prime) {
             Some(field) => through_limit(alloc, field, c, p, steps),
             None => Outcome::NotBuilt,
@@ -100,7 +104,8 @@ fn of_presentation<L: Ledger>(
 
 fn of_text<L: Ledger>(alloc: Global, c: Command, bytes: &[u8], steps: &mut Steps<L>) -> Outcome
     requires range { IsInRange c }
-    ensures { Settles (AnswersText c bytes.now) (reply_of result) }
+    ensures reply { Settles (AnswersText c bytes.now) (reply_of result) }
+    ensures cost { CostsAtMost c.limit bytes.now steps.old steps.new }
 {
     if bytes.len() > MOST_TEXT {
         return Outcome::Refused {
@@ -122,7 +127,8 @@ fn of_bytes<L: Ledger>(alloc: Global, c: Command, bytes: &[u8], steps: &mut Step
     requires range { IsInRange c }
     requires read { IsUnread c.view → ⊥ }
     requires short { length bytes.now ≤ MOST_BYTES }
-    ensures { Settles (AnswersCommand c bytes.now) (reply_of result) }
+    ensures reply { Settles (AnswersCommand c bytes.now) (reply_of result) }
+    ensures cost { CostsAtMost c.limit bytes.now steps.old steps.new }
 {
     if is_checkpoint(bytes) {
         return Outcome::NotBuilt;
@@ -139,6 +145,7 @@ fn of_command<I: Source, L: Ledger>(
     requires range { IsInRange c }
     ensures reply { IfSome (I.left input.old) (λ bytes. (reply_of result ≡ read_fault) ⊎ Settles (AnswersCommand c bytes) (reply_of result)) }
     ensures plain { IsPlain (reply_of result) }
+    ensures cost { IfSome (I.left input.old) (λ bytes. CostsAtMost c.limit bytes steps.old steps.new) }
     ensures unread { IsUnread c.view → input.new ≡ input.old }
     ensures idle { IsUnread c.view → steps.new ≡ steps.old }
     ensures read { status_of (reply_of result) ≡ Status.ReadFault → Rose (I.faults input.old) (I.faults input.new) }
@@ -169,6 +176,7 @@ fn answer<I: Source, L: Ledger>(
     ensures reply { IfSome (I.left input.old) (λ bytes. (reply_of result ≡ read_fault) ⊎ Settles (Answers (map string_bytes words.now.items) bytes) (reply_of result)) }
     ensures unread { ReadsNothing (map string_bytes words.now.items) → input.new ≡ input.old }
     ensures idle { ReadsNothing (map string_bytes words.now.items) → steps.new ≡ steps.old }
+    ensures cost { IfSome (I.left input.old) (λ bytes. (c : Command) → IsCommand (map string_bytes words.now.items) c → CostsAtMost c.limit bytes steps.old steps.new) }
     ensures read { status_of (reply_of result) ≡ Status.ReadFault → Rose (I.faults input.old) (I.faults input.new) }
     ensures write { status_of (reply_of result) ≢ Status.WriteFault }
     ensures end { status_of (reply_of result) ≡ Status.Done → IsAtEnd (I.left input.new) }
@@ -226,6 +234,9 @@ pub fn run<I: Source, O: Sink, E: Sink, L: Ledger>(
     ensures end { result ≡ Status.Done → IsAtEnd (I.left input.new) }
     ensures unread { ReadsNothing (map string_bytes words.now.items) → input.new ≡ input.old }
     ensures idle { ReadsNothing (map string_bytes words.now.items) → steps.new ≡ steps.old }
+
+    // What a command costs, whatever the answer.
+    ensures cost { IfSome (I.left input.old) (λ bytes. (c : Command) → IsCommand (map string_bytes words.now.items) c → CostsAtMost c.limit bytes steps.old steps.new) }
 {
     let outcome = write_text(out, answer(alloc, words, input, steps));
     let _ = put_line(err, &outcome);

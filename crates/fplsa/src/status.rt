@@ -12,6 +12,8 @@ pub enum Status {
     Refused,
     /// The symbols up to some weight number more than the command allows.
     Limit,
+    /// Over fractions, an operation in computing some weight doesn't fit.
+    Overflow,
     /// There was no memory.
     NoMemory,
     /// A read failed.
@@ -32,6 +34,7 @@ impl Status {
             Status::Usage => 1,
             Status::Refused => 2,
             Status::Limit => 4,
+            Status::Overflow => 5,
             Status::NoMemory => 6,
             Status::ReadFault => 7,
             Status::WriteFault => 8,

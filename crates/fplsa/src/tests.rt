@@ -11,6 +11,8 @@ const HEISENBERG: &str = "field 7; even x, y; relation [x,[x,y]] = 0; relation [
 
 const FREE: &str = "field 11; even x, y;";
 
+const FRACTIONS: &str = "field Q; even x, y; relation [x,[x,y]] = 1/2*[y,[x,y]];";
+
 const PLAIN: &str = "field 7; even x, y;";
 
 const PLAIN_TABLE: &str =
@@ -140,6 +142,26 @@ fn writes_tables(rt: HostRuntime) -> Result<(), Fail> {
             "table 11 through 1\nbasis 0\nimages 1\nx = 0\nbrackets 0\nend\n",
         ),
         (
+            "table 2",
+            "field Q; even x, y, z:2; relation z = [x,y];",
+            "table Q through 2\nbasis 3\nb1 weight 1 even = x\nb2 weight 1 even = y\nb3 weight 2 even = z\nimages 3\nx = b1\ny = b2\nz = b3\nbrackets 1\n[b1,b2] = b3\nend\n",
+        ),
+        (
+            "table 3",
+            FRACTIONS,
+            "table Q through 3\nbasis 4\nb1 weight 1 even = x\nb2 weight 1 even = y\nb3 weight 2 even = [x,y]\nb4 weight 3 even = [x,[x,y]]\nimages 2\nx = b1\ny = b2\nbrackets 3\n[b1,b2] = b3\n[b1,b3] = b4\n[b2,b3] = 2*b4\nend\n",
+        ),
+        (
+            "table 1",
+            "field Q; even x, y, z; relation y = 9223372036854775807*x; relation z = 9223372036854775807*y;",
+            "table Q through 1\nbasis 1\nb1 weight 1 even = x\nimages 3\nx = b1\ny = 9223372036854775807*b1\nz = 85070591730234615847396907784232501249*b1\nbrackets 0\nend\n",
+        ),
+        (
+            "table 1",
+            "field Q; even x, y; relation y = 9223372036854775807*x; relation y = -x;",
+            "table Q through 1\nbasis 0\nimages 2\nx = 0\ny = 0\nbrackets 0\nend\n",
+        ),
+        (
             "table 4 9",
             FREE,
             "table 11 through 4\nbasis 8\nb1 weight 1 even = x\nb2 weight 1 even = y\nb3 weight 2 even = [x,y]\nb4 weight 3 even = [x,[x,y]]\nb5 weight 3 even = [y,[x,y]]\nb6 weight 4 even = [x,[x,[x,y]]]\nb7 weight 4 even = [x,[y,[x,y]]]\nb8 weight 4 even = [y,[y,[x,y]]]\nimages 2\nx = b1\ny = b2\nbrackets 7\n[b1,b2] = b3\n[b1,b3] = b4\n[b2,b3] = b5\n[b1,b4] = b6\n[b1,b5] = b7\n[b2,b4] = b7\n[b2,b5] = b8\nend\n",
@@ -219,7 +241,19 @@ fn says_why_nothing_is_written(rt: HostRuntime) -> Result<(), Fail> {
             "limit at weight 4: 9 symbols\n",
         ),
         ("series 1", PLAIN, Status::NotBuilt, "not built\n"),
-        ("table 1", "field Q;", Status::NotBuilt, "not built\n"),
+        (
+            "table 1",
+            "field Q; even x, y, z; relation y = 170141183460469231731687303715884105727*x; relation z = 170141183460469231731687303715884105727*y;",
+            Status::Overflow,
+            "overflow at weight 1: 170141183460469231731687303715884105727 * -170141183460469231731687303715884105727\n",
+        ),
+        (
+            "table 1",
+            "field Q; even x, y; relation y = 170141183460469231731687303715884105727*x; relation y = -x;",
+            Status::Overflow,
+            "overflow at weight 1: 1 + 170141183460469231731687303715884105727\n",
+        ),
+        ("series 1", "field Q;", Status::NotBuilt, "not built\n"),
         ("sample 3", "", Status::NotBuilt, "not built\n"),
         ("check 3", "field 9;", Status::NotBuilt, "not built\n"),
     ];

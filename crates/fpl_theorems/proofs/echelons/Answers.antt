@@ -1,5 +1,5 @@
 use Rattle.fpl_numbers.specs.Kinds.{field_of}
-use Rattle.fpl_theorems.proofs.LinearLaws.{reduces_to_zero, put_spans_more, closes_reduced, one_reduced, reduced_is_closed}
+use Rattle.fpl_theorems.proofs.LinearLaws.{reduces_to_zero, put_spans_more, closes_reduced, one_reduced, rows_are_closed}
 use Rattle.fpl_theorems.proofs.echelons.Goals as goal
 
 pub returns-clause-zero : goal.returns-clause-zero
@@ -15,4 +15,4 @@ pub returns-clause-one : goal.returns-clause-one
 returns-clause-one c = λ k. one_reduced (field_of k)
 
 pub returns-clause-list : goal.returns-clause-list
-returns-clause-list c = λ k. reduced_is_closed (field_of k)
+returns-clause-list c = λ k. rows_are_closed (field_of k)

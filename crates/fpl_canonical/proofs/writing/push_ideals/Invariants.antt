@@ -1,5 +1,5 @@
 use Rattle.std.proofs.Common.{◌≡◌, ◌++◌, drop}
-use Rattle.fpl_canonical.specs.Canonical.{generator_line, equation_line, ideal_line, lines}
+use Rattle.fpl_canonical.specs.Canonical.{ideal_line, lines}
 use Rattle.fpl_canonical.proofs.writing.push_ideals.Given as goal
 
 -- what is out so far, then what the rest gives, is what all gives

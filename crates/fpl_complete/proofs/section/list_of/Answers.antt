@@ -1,4 +1,4 @@
-use Rattle.std.proofs.Common.{◌≡◌, ◌≤◌, ◌+◌, ◌++◌, ◌∷◌, ◌∙◌, [], List, ap, arith, length}
+use Rattle.std.proofs.Common.{◌≤◌, ◌+◌, ◌++◌, ◌∷◌, ◌∙◌, [], List, ap, arith, length}
 use Rattle.fpl_log.specs.declared.closed.Coefficient.{Coefficient}
 use Rattle.fpl_log.proofs.TermsTaken.{past_end}
 use Rattle.fpl_complete.proofs.Coefficients.{rows_next}

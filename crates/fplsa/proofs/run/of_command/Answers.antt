@@ -10,13 +10,13 @@ returns-then-is_unread-clause-reply g c =
     always _ _ (λ bytes. inr (inr (unread later)))
 
 pub returns-in-Ok-clause-reply : goal.returns-in-Ok-clause-reply
-returns-in-Ok-clause-reply g c = whole_input _ _ _ _ c.in-Ok.ensures.bytes c.in-Ok.ensures.end (inr (rw c.deref.ensures.value at c.of_bytes.ensures))
+returns-in-Ok-clause-reply g c = whole_input _ _ _ _ c.in-Ok.ensures.bytes c.in-Ok.ensures.end (inr (rw c.deref.ensures.value at c.of_bytes.ensures.reply))
 
 pub returns-in-Ok-clause-plain : goal.returns-in-Ok-clause-plain
-returns-in-Ok-clause-plain g c = (settled_plain _ _ _ c.of_bytes.ensures).0
+returns-in-Ok-clause-plain g c = (settled_plain _ _ _ c.of_bytes.ensures.reply).0
 
 pub returns-in-Ok-clause-read : goal.returns-in-Ok-clause-read
-returns-in-Ok-clause-read g c = λ e. absurd ((settled_plain _ _ _ c.of_bytes.ensures).1 e)
+returns-in-Ok-clause-read g c = λ e. absurd ((settled_plain _ _ _ c.of_bytes.ensures.reply).1 e)
 
 pub returns-in-Err-TooLong-clause-reply : goal.returns-in-Err-TooLong-clause-reply
 returns-in-Err-TooLong-clause-reply g c =

@@ -35,6 +35,9 @@ loop-self-preserved g c =
           c.next_weight.new.steps new.table.weight next (subst (λ (p : Presentation). c.next_weight.new.steps ≤ c.loop-self.steps + length (origins_of s.table p)) i.presentation n.most.1);
     }
 
+pub returns-in-Err-clause-table : goal.returns-in-Err-clause-table
+returns-in-Err-clause-table g c = subst (λ (x : PlainState). IsTableOf x.presentation x.table.weight x.table) (sym c.in-Err.ensures.unchanged) c.weight.ensures.standard
+
 pub returns-in-Err-clause-overflow : goal.returns-in-Err-clause-overflow
 returns-in-Err-clause-overflow g c = λ w op a b e.
     let s = c.loop-self.self in

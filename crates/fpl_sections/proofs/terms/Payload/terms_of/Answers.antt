@@ -1,4 +1,3 @@
-use Rattle.std.proofs.Common.{◌≡◌, ◌++◌, ◌∷◌, []}
 use Rattle.std.proofs.lemmas.Result.{err_from_is_err_and}
 use Rattle.fpl_bytes.specs.Reading.{items_at}
 use Rattle.fpl_bytes.proofs.Items.{goes_on, ends, is_done}

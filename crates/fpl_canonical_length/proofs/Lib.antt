@@ -1,0 +1,4 @@
+pub mod Sizes
+pub mod Costs
+pub mod Expressions
+pub mod Texts
