@@ -1,9 +1,7 @@
 -- The canonical text of what is read, line by line.
-use Rattle.std.proofs.Common.{◌≡◌, ℕ, zero, suc, ◌+◌, ◌-◌, ◌*◌, ◌<◌, ◌≤◌, List, [], ◌∷◌, ◌++◌, length, map, Bool, true, false, refl, ap, sym, ◌∙◌, subst, arith, length-append}
-use Rattle.std.specs.Prelude.{None, Some, decimal, codes}
-use Rattle.std.specs.declared.option.Option.{Option}
+use Rattle.std.proofs.Common.{◌≡◌, ℕ, ◌+◌, ◌*◌, ◌≤◌, List, [], ◌∷◌, ◌++◌, length, map, ap, sym, subst, arith, length-append}
+use Rattle.std.specs.Prelude.{None, decimal, codes}
 use Rattle.std.proofs.lemmas.Fmt.{length-decimal-le_wide}
-use Rattle.std.proofs.lemmas.List.{length-map}
 use Rattle.fpl_numbers.specs.declared.number.Kind.{Kind}
 use Rattle.fpl_numbers.specs.declared.number.Kind.TheVariants.{Rational, Prime}
 use Rattle.fpl_numbers.specs.Numbers.{IsField}
@@ -21,21 +19,19 @@ use Rattle.fpl_syntax.specs.declared.symbol.Symbol.TheVariants as mark
 use Rattle.fpl_syntax.specs.declared.parser.Claim.{Claim}
 use Rattle.fpl_syntax.specs.Grammar.{Scope, Sum, Statement, field, declare, relation, equation, ideal, equal, Declaration, plainly, weighted, spell_sum, spell_declaration, spell_declarations, spell_statement, spelling, expression_of, claims_in, claims_of}
 use Rattle.fpl_syntax.proofs.Coefficients.{known_field}
-use Rattle.fpl_reader.specs.declared.survey.Event.{Event}
 use Rattle.fpl_reader.specs.declared.survey.DeclaredName.{DeclaredName}
-use Rattle.fpl_reader.specs.declared.survey.FieldStatement.{FieldStatement}
 use Rattle.fpl_reader.specs.declared.fault.Reason.TheVariants as reason
 use Rattle.fpl_reader.specs.Events.{events_sum, events_statement, events_of, fields_in, declared_in}
 use Rattle.fpl_reader.specs.Symbols.{symbols_of}
-use Rattle.fpl_reader.specs.Reading.{generator_of, kind_of, scope_of, is_relation, is_ideal, is_equal, claimed_as, lefts, with_claims, first_place, unknown_in, bad_weight, presentation_of, late_refusal, HasPresentation}
+use Rattle.fpl_reader.specs.Reading.{generator_of, kind_of, scope_of, is_relation, is_ideal, is_equal, claimed_as, lefts, unknown_in, bad_weight, presentation_of, HasPresentation}
 use Rattle.fpl_reader.proofs.Allowed.{have_weights, few_names, known_kind}
 use Rattle.fpl_reader.proofs.DeclaredNames.{AreNames}
 use Rattle.fpl_reader.proofs.Readings.{unless_none, early_none_rest, text_names_of}
 use Rattle.fpl_reader.proofs.Terms.{first_place-append, or_else-none}
-use Rattle.fpl_canonical.specs.Numerals.{field_text, parity_text}
+use Rattle.fpl_canonical.specs.Numerals.{parity_text}
 use Rattle.fpl_canonical.specs.Canonical.{names_of, side_text, field_line, generator_line, equation_line, ideal_line, lines, canonical_of}
 use Rattle.fpl_round_trip.proofs.Coefficients.{listed_small}
-use Rattle.fpl_canonical_length.proofs.Sizes.{size, sizes, text_sizes}
+use Rattle.fpl_canonical_length.proofs.Sizes.{sizes, text_sizes}
 use Rattle.fpl_canonical_length.proofs.Costs.{alone}
 use Rattle.fpl_canonical_length.proofs.Expressions.{IsKnown, sum_cost}
 
@@ -58,8 +54,16 @@ generator_short : (g : Generator) → length g.name ≤ 32 → g.weight ≤ 1000
 generator_short g l m =
     let P = parity_text g.parity in
     let D = decimal g.weight in
-    omega (arith, parity_short g.parity, length-decimal-le_wide 4 g.weight (omega arith) (omega arith) (omega arith), length-append (P ++ codes " " ++ g.name ++ codes ":" ++ D) (codes ";\n"),
-    length-append (P ++ codes " " ++ g.name ++ codes ":") D, length-append (P ++ codes " " ++ g.name) (codes ":"), length-append (P ++ codes " ") g.name, length-append P (codes " "))
+    omega (
+      arith,
+      parity_short g.parity,
+      length-decimal-le_wide 4 g.weight (omega arith) (omega arith) (omega arith),
+      length-append (P ++ codes " " ++ g.name ++ codes ":" ++ D) (codes ";\n"),
+      length-append (P ++ codes " " ++ g.name ++ codes ":") D,
+      length-append (P ++ codes " " ++ g.name) (codes ":"),
+      length-append (P ++ codes " ") g.name,
+      length-append P (codes " "),
+    )
 
 field_short : (k : Kind) → IsField k → length (field_line k) ≤ 13
 field_short Rational h = omega arith
@@ -107,15 +111,27 @@ module _ (text : List ℕ) (p : Presentation) (known : IsField p.field) where
   statement_cost (equation place a b) cs after h k =
       let q : Equation = record { left = expression_of scope a; right = expression_of scope b } in
       let s = first_place-append (unknown_in scope) (events_sum a) (events_sum b) h in
-      omega (arith, k, length-append (equation_line (codes "relation ") p q) (lines (equation_line (codes "relation ") p) (claimed_as is_relation cs)), equation_long (codes "relation ") p q,
-      side_cost a s.0 (mark.Equals ∷ spell_sum b (mark.Semicolon ∷ after)), side_cost b s.1 (mark.Semicolon ∷ after))
+      omega (
+        arith,
+        k,
+        length-append (equation_line (codes "relation ") p q) (lines (equation_line (codes "relation ") p) (claimed_as is_relation cs)),
+        equation_long (codes "relation ") p q,
+        side_cost a s.0 (mark.Equals ∷ spell_sum b (mark.Semicolon ∷ after)),
+        side_cost b s.1 (mark.Semicolon ∷ after),
+      )
   statement_cost (ideal place a) cs after h k =
       omega (arith, k, length-append (ideal_line p (expression_of scope a)) (lines (ideal_line p) (lefts (claimed_as is_ideal cs))), ideal_long p (expression_of scope a), side_cost a h (mark.Semicolon ∷ after))
   statement_cost (equal place a b) cs after h k =
       let q : Equation = record { left = expression_of scope a; right = expression_of scope b } in
       let s = first_place-append (unknown_in scope) (events_sum a) (events_sum b) h in
-      omega (arith, k, length-append (equation_line (codes "equal ") p q) (lines (equation_line (codes "equal ") p) (claimed_as is_equal cs)), equation_long (codes "equal ") p q,
-      side_cost a s.0 (mark.Equals ∷ spell_sum b (mark.Semicolon ∷ after)), side_cost b s.1 (mark.Semicolon ∷ after))
+      omega (
+        arith,
+        k,
+        length-append (equation_line (codes "equal ") p q) (lines (equation_line (codes "equal ") p) (claimed_as is_equal cs)),
+        equation_long (codes "equal ") p q,
+        side_cost a s.0 (mark.Equals ∷ spell_sum b (mark.Semicolon ∷ after)),
+        side_cost b s.1 (mark.Semicolon ∷ after),
+      )
 
   claims_cost : (ss : List Statement) → IsKnown text p.field p.generators known (events_of ss) → claims_long (claims_of scope ss) ≤ 16 * sizes (spelling ss)
   claims_cost [] h = omega arith
