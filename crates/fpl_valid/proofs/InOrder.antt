@@ -74,19 +74,19 @@ close_within P ((Close of ts) ∷ done) (x ∷ xs) zero d all l e = all_head P x
 close_within P ((Insert o ts k) ∷ done) (x ∷ xs) (suc i) d all l e = close_within P done xs i d all (omega (arith, l)) e
 close_within P ((Close of ts) ∷ done) (x ∷ xs) (suc i) d all l e = close_within P done xs i d (all_tail P x (close_rows done xs) all) (omega (arith, l)) e
 
-step_before : (done ss : List Step) (i : ℕ) → i < length done → slice_get (done ++ ss) i ≡ slice_get done i
+pub step_before : (done ss : List Step) (i : ℕ) → i < length done → slice_get (done ++ ss) i ≡ slice_get done i
 step_before [] ss i l = absurd (omega (arith, l))
 step_before (s ∷ done) ss zero l = refl
 step_before (s ∷ done) ss (suc i) l = step_before done ss i (omega (arith, l))
 
-more_one : {X : Type 0} (xs : List X) (x : X) → length (xs ++ x ∷ []) ≡ length xs + 1
+pub more_one : {X : Type 0} (xs : List X) (x : X) → length (xs ++ x ∷ []) ≡ length xs + 1
 more_one xs x = length-append xs (x ∷ [])
 
 -- numbers of steps before
-number_before : (numbers : List (Option ℕ)) (o : Option ℕ) (m : ℕ) → 1 ≤ m → m ≤ length numbers → new_number (numbers ++ o ∷ []) m ≡ new_number numbers m
+pub number_before : (numbers : List (Option ℕ)) (o : Option ℕ) (m : ℕ) → 1 ≤ m → m ≤ length numbers → new_number (numbers ++ o ∷ []) m ≡ new_number numbers m
 number_before numbers o m one most = get_or_append_left numbers (o ∷ []) None (m - 1) (omega (arith, one, most))
 
-number_last : (numbers : List (Option ℕ)) (o : Option ℕ) (m : ℕ) → m ≡ length numbers + 1 → new_number (numbers ++ o ∷ []) m ≡ o
+pub number_last : (numbers : List (Option ℕ)) (o : Option ℕ) (m : ℕ) → m ≡ length numbers + 1 → new_number (numbers ++ o ∷ []) m ≡ o
 number_last numbers o m e =
     let at : m - 1 ≡ length numbers + 0 = omega (arith, e) in
     ap (λ i. get_or (numbers ++ o ∷ []) i None) at ∙ get_or-append-add numbers (o ∷ []) 0 None

@@ -10,4 +10,4 @@ use Rattle.fpl_check_tests.proofs.tests.closed_row.Goals as goal
 pub loop-i-preserved : goal.loop-i-preserved
 loop-i-preserved c =
     subst (λ (xs : List Coefficient). AreCoefficientsOf (Prime c.args.prime) xs) (sym c.in_ok-push.ensures.ok)
-    (all_more (λ (x : Coefficient). IsElement (Prime c.args.prime) x.number) c.loop-i.coefficients (record { symbol = c.symbol; number = c.number-number.result }) c.loop-i.invariant c.number-number.ensures)
+    (all_more (λ (x : Coefficient). IsElement (Prime c.args.prime) x.number) c.loop-i.coefficients _ c.loop-i.invariant c.number-number.ensures)

@@ -17,6 +17,6 @@ pub returns-in_ok-push_weight-in-Ok-clause-holds : goal.returns-in_ok-push_weigh
 returns-in_ok-push_weight-in-Ok-clause-holds c =
     let T = c.args.table.now in
     let few : length (symbols_in T) ≤ 2000000 =
-        few_symbols T (c.weight-weight.result + 1) c.symbol_count.result (ap (λ w. w + 1) c.weight-weight.ensures.value) c.symbol_count.ensures c.if-symbol_count-gt2000000.false in
+    few_symbols T (c.weight-weight.result + 1) c.symbol_count.result (ap (λ w. w + 1) c.weight-weight.ensures.value) c.symbol_count.ensures c.if-symbol_count-gt2000000.false in
     let below : T.weight < 1000 = (let h = c.requires.below in omega (arith, h)) in
     subst (λ (S : PlainTable). Holds c.args.p.now S) (sym c.in_ok-push_weight-in-Ok.ensures.value) (push_holds c.args.p.now T c.in-Ok.rows c.requires.holds below few c.in-Ok.ensures.closed c.in-Ok.ensures.spans)
