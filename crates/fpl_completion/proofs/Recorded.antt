@@ -22,14 +22,14 @@ use Rattle.fpl_completion.proofs.InOrder.{Recorded, insert_recorded, close_order
 
 module _ (T : PlainTable) (p : Presentation) (n : ℕ) where
   -- one origin and its parts
-  record Put (o : Origin) (h : Held) (e : Elimination) : Type 0 where
-    row : List Num
-    inserted : Inserted
-    reads : row_of_origin T p o ≡ Ok row
-    inserts : insert_of (record { kind = T.kind; size = n; held = h }) row o ≡ Ok inserted
-    is : e ≡ record { kind = T.kind; size = n; held = inserted.held }
+  pub record Put (o : Origin) (h : Held) (e : Elimination) : Type 0 where
+    pub row : List Num
+    pub inserted : Inserted
+    pub reads : row_of_origin T p o ≡ Ok row
+    pub inserts : insert_of (record { kind = T.kind; size = n; held = h }) row o ≡ Ok inserted
+    pub is : e ≡ record { kind = T.kind; size = n; held = inserted.held }
 
-  put_parts : (o : Origin) (h : Held) (e : Elimination) → put_of T p o (record { kind = T.kind; size = n; held = h }) ≡ Ok e → Put o h e
+  pub put_parts : (o : Origin) (h : Held) (e : Elimination) → put_of T p o (record { kind = T.kind; size = n; held = h }) ≡ Ok e → Put o h e
   put_parts o h e eq =
       let f = first_fits {T = List Num} (λ row. map_ok (λ x. with_held (record { kind = T.kind; size = n; held = h }) x.held) (insert_of (record { kind = T.kind; size = n; held = h }) row o)) (row_of_origin T p o) e eq in
       let g = part_fits {T = Inserted} (λ x. with_held (record { kind = T.kind; size = n; held = h }) x.held) (insert_of (record { kind = T.kind; size = n; held = h }) f.0 o) e f.1.1 in
@@ -67,12 +67,12 @@ nothing_recorded = record { order = tt; steps = λ i d l. absurd (omega (arith, 
 
 module _ (T : PlainTable) (p : Presentation) where
   -- the parts of a weight's run
-  record Run (h : Held) : Type 0 where
-    gathered : Elimination
-    gathers : gather T p (origins_of T p) (begun T) ≡ Ok gathered
-    closes : close_of gathered ≡ Ok h
+  pub record Run (h : Held) : Type 0 where
+    pub gathered : Elimination
+    pub gathers : gather T p (origins_of T p) (begun T) ≡ Ok gathered
+    pub closes : close_of gathered ≡ Ok h
 
-  run_parts : (h : Held) → close_weight T p ≡ Ok h → Run h
+  pub run_parts : (h : Held) → close_weight T p ≡ Ok h → Run h
   run_parts h eq =
       let f = first_fits {T = Elimination} _ (gather T p (origins_of T p) (begun T)) h eq in
       let g = first_fits {T = Held} (λ g. again T p (rows_of g.pivots) (origins_of T p) g) (close_of f.0) h f.1.1 in
