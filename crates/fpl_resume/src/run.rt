@@ -1,10 +1,9 @@
 ghost use Rattle.std.specs.Prelude.{◌≡◌, ◌⊎◌, ◌≤◌, ◌<◌, ◌+◌, length, Ok, IfOk, OnOk, OnErr, IfErr, true};
 ghost use Rattle.fpl_model.specs.Sound.{IsSound};
 ghost use Rattle.fpl_table.specs.Standard.{count_through};
-ghost use Rattle.fpl_rewrite.specs.Origins.{origins_of};
 ghost use Rattle.fpl_sections.specs.declared.frame.Frame.TheVariants.{Whole};
 ghost use Rattle.fpl_sections.specs.Frames.{frame_of};
-ghost use Rattle.fpl_resume.specs.Walk.{begun, step_of, step_cost, computed, framed, next_weight};
+ghost use Rattle.fpl_resume.specs.Walk.{begun, step_of, step_cost, computing_cost, computed, framed, next_weight};
 ghost use Rattle.fpl_resume.specs.Stops.{IsStop, stop_for, stop_from, stored_in};
 
 use crate::Stop;
@@ -157,7 +156,7 @@ impl<F: Field> Run<F> {
         ensures step { OnOk result (computed computes self.old.presentation self.old.stage ≡ Ok self.new.stage) }
         ensures stop { IfErr result (λ stop. IsStop stop (computed computes self.old.presentation self.old.stage)) }
         ensures unchanged { OnErr result (self.new ≡ self.old) }
-        ensures most { (steps.old ≤ steps.new) × (steps.new ≤ steps.old + length (origins_of self.old.stage.table self.old.presentation)) }
+        ensures most { (steps.old ≤ steps.new) × (steps.new ≤ steps.old + computing_cost computes self.old.presentation self.old.stage) }
     {
         if !computes {
             return Err(Stop::Ended);
