@@ -1,9 +1,7 @@
 -- How long the text of an expression is, by the symbols that it was read from: each symbol carries 16 bytes for each of its own.
-use Rattle.std.proofs.Common.{◌≡◌, ℕ, zero, suc, ◌+◌, ◌-◌, ◌*◌, ◌/◌, ◌%◌, ◌^◌, ◌<◌, ◌≤◌, List, [], ◌∷◌, ◌++◌, length, map, get_or, Bool, true, false, ◌&&◌, ◌==◌, nat_le, nat_eq, IsTrue, if◌then◌else◌, refl, ap, sym, ◌∙◌, subst, arith, length-append}
-use Rattle.std.specs.Prelude.{ℤ, pos, negsuc, unsigned_abs, neg_ℤ, ◌*ℤ◌, None, Some, decimal, codes, slice_range}
-use Rattle.std.specs.declared.option.Option.{Option}
-use Rattle.std.specs.Str.{bytes_eq}
-use Rattle.std.proofs.lemmas.Bool.{leb-true, eqb-true}
+use Rattle.std.proofs.Common.{◌≡◌, ℕ, zero, suc, ◌+◌, ◌*◌, ◌/◌, ◌<◌, ◌≤◌, List, [], ◌∷◌, ◌++◌, length, Bool, true, false, ◌&&◌, nat_le, nat_eq, if◌then◌else◌, refl, ap, sym, ◌∙◌, subst, arith, length-append}
+use Rattle.std.specs.Prelude.{ℤ, pos, negsuc, unsigned_abs, neg_ℤ, ◌*ℤ◌, None, Some, decimal, codes}
+use Rattle.std.proofs.lemmas.Bool.{leb-true}
 use Rattle.std.proofs.lemmas.List.{append-nil}
 use Rattle.std.proofs.lemmas.Fmt.{decimal_is_IsNumeral_wide, length-decimal-le_wide}
 use Rattle.std.proofs.Math.Nat.{div-le_self}
@@ -17,11 +15,11 @@ use Rattle.fpl_numbers.specs.Quotients.{whole, quotient_of}
 use Rattle.fpl_numbers.proofs.KindReads.{listed_prime}
 use Rattle.fpl_round_trip.proofs.Coefficients.{listed_small, times-one}
 use Rattle.fpl_round_trip.proofs.Written.{zero_text}
-use Rattle.fpl_algebra.specs.Tree.{Tree, Trees, gen, none, sum_of, multiple, bracket_of, end as last, more, trees}
+use Rattle.fpl_algebra.specs.Tree.{Tree, Trees, gen, none, sum_of, multiple, bracket_of, more}
 use Rattle.fpl_syntax.specs.Grammar.{signed, or_nought, coefficient_of}
 use Rattle.fpl_canonical.specs.declared.expression.Stand.TheVariants.{Alone, Member, Factor as Behind}
 use Rattle.fpl_canonical.specs.Numerals.{is_below_nought, below_text, magnitude_text, sign_text}
-use Rattle.fpl_canonical.specs.Canonical.{begins_below, opening, closing, in_parentheses, expression_text, sum_text}
+use Rattle.fpl_canonical.specs.Canonical.{begins_below, in_parentheses, expression_text, sum_text}
 
 -- texts of expressions
 

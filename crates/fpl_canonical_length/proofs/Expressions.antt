@@ -1,14 +1,13 @@
 -- The text of an expression that is read is at most 16 times as long as the symbols that spelled it.
-use Rattle.std.proofs.Common.{◌≡◌, ℕ, zero, suc, ◌+◌, ◌-◌, ◌*◌, ◌<◌, ◌≤◌, List, [], ◌∷◌, ◌++◌, length, map, get_or, take, drop, Bool, true, false, ◌&&◌, ◌==◌, nat_le, if◌then◌else◌, refl, ap, sym, ◌∙◌, subst, arith, length-take}
-use Rattle.std.specs.Prelude.{None, Some, decimal, codes, slice_range}
-use Rattle.std.specs.declared.option.Option.{Option}
+use Rattle.std.proofs.Common.{◌≡◌, ℕ, zero, suc, ◌+◌, ◌-◌, ◌*◌, ◌≤◌, List, [], ◌∷◌, ◌++◌, length, map, get_or, drop, Bool, true, false, ◌&&◌, ◌==◌, nat_le, if◌then◌else◌, refl, ap, sym, ◌∙◌, subst, arith, length-take}
+use Rattle.std.specs.Prelude.{None, Some, slice_range}
 use Rattle.std.specs.Str.{bytes_eq}
 use Rattle.std.proofs.lemmas.Fmt.{decimal_digit}
 use Rattle.std.proofs.lemmas.Slice.Eq.{bytes_eq-Decides}
 use Rattle.fpl_numbers.specs.declared.number.Num.{Num}
 use Rattle.fpl_numbers.specs.declared.number.Kind.{Kind}
 use Rattle.fpl_numbers.specs.Numbers.{IsField}
-use Rattle.fpl_algebra.specs.Tree.{Tree, Trees, gen, none, sum_of, multiple, bracket_of, end as last, more, trees}
+use Rattle.fpl_algebra.specs.Tree.{Tree, multiple, trees}
 use Rattle.fpl_model.specs.declared.expr.Expr.{Expr}
 use Rattle.fpl_model.specs.declared.expr.Expr as expr
 use Rattle.fpl_model.specs.declared.presentation.Generator.{Generator}
@@ -30,7 +29,7 @@ use Rattle.fpl_canonical.specs.Numerals.{magnitude_text, sign_text}
 use Rattle.fpl_canonical.specs.Canonical.{begins_below, sum_text}
 use Rattle.fpl_round_trip.proofs.NameSymbols.{names}
 use Rattle.fpl_round_trip.proofs.Written.{zero_text, term_whole, term_quotient}
-use Rattle.fpl_canonical_length.proofs.Sizes.{size, sizes}
+use Rattle.fpl_canonical_length.proofs.Sizes.{sizes}
 use Rattle.fpl_canonical_length.proofs.Costs.{alone, member, behind, member_multiple, alone_multiple, alone_behind, behind_alone, member_behind, bracket_long, sum_long, more_long, sign_later, digits, coefficient_long}
 
 -- names

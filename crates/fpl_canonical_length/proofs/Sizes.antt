@@ -1,5 +1,5 @@
 -- The symbols of a text have sizes that the text has room for.
-use Rattle.std.proofs.Common.{◌≡◌, ℕ, zero, suc, ◌+◌, ◌-◌, ◌*◌, ◌/◌, ◌%◌, ◌^◌, ◌<◌, ◌≤◌, List, [], ◌∷◌, ◌++◌, length, Bool, true, false, ◌&&◌, ◌==◌, nat_le, nat_lt, IsTrue, Result, if◌then◌else◌, refl, ap, sym, ◌∙◌, subst, arith, length-append}
+use Rattle.std.proofs.Common.{◌≡◌, ℕ, suc, ◌+◌, ◌-◌, ◌*◌, ◌/◌, ◌%◌, ◌^◌, ◌<◌, ◌≤◌, List, [], ◌∷◌, ◌++◌, length, Bool, true, false, ◌&&◌, ◌==◌, nat_le, nat_lt, IsTrue, Result, if◌then◌else◌, refl, ap, sym, ◌∙◌, subst, arith, length-append}
 use Rattle.std.specs.Prelude.{Ok, Err, decimal, codes}
 use Rattle.std.specs.List.{list_all}
 use Rattle.std.proofs.Math.Nat.{mul-le-mul_right}
@@ -9,7 +9,6 @@ use Rattle.std.proofs.lemmas.Bool.{leb-true, false≢true, ltb-false}
 use Rattle.std.proofs.lemmas.Fmt.{decimal_by_steps_wide, decimal_is_IsNumeral_wide, length-decimal-le_wide}
 use Rattle.fpl_text.specs.Bytes.{is_digit}
 use Rattle.fpl_lex.specs.declared.token.Token.{Token}
-use Rattle.fpl_lex.specs.declared.token.TokenKind.{TokenKind}
 use Rattle.fpl_lex.specs.declared.token.TokenKind.TheVariants as kinds
 use Rattle.fpl_lex.specs.declared.fault.LexError.{LexError}
 use Rattle.fpl_lex.specs.declared.fault.LexError.TheVariants.{NameTooLong, NumberTooLarge}
@@ -17,7 +16,7 @@ use Rattle.fpl_lex.specs.Cut.{W, Form, blank, comment, word, number, mark, other
 use Rattle.fpl_syntax.specs.declared.symbol.Symbol.{Symbol}
 use Rattle.fpl_syntax.specs.declared.symbol.Symbol.TheVariants as symbol
 use Rattle.fpl_syntax.specs.Sight.{word_of}
-use Rattle.fpl_reader.specs.Symbols.{word_symbol, mark_symbol, kind_symbol, symbol_of, symbols_of}
+use Rattle.fpl_reader.specs.Symbols.{word_symbol, mark_symbol, symbol_of, symbols_of}
 
 -- the least number of bytes that a symbol takes
 abbrev pub size : Symbol → ℕ

@@ -1,9 +1,7 @@
 -- The canonical text of what is read, line by line.
-use Rattle.std.proofs.Common.{◌≡◌, ℕ, zero, suc, ◌+◌, ◌-◌, ◌*◌, ◌<◌, ◌≤◌, List, [], ◌∷◌, ◌++◌, length, map, Bool, true, false, refl, ap, sym, ◌∙◌, subst, arith, length-append}
-use Rattle.std.specs.Prelude.{None, Some, decimal, codes}
-use Rattle.std.specs.declared.option.Option.{Option}
+use Rattle.std.proofs.Common.{◌≡◌, ℕ, ◌+◌, ◌*◌, ◌≤◌, List, [], ◌∷◌, ◌++◌, length, map, ap, sym, subst, arith, length-append}
+use Rattle.std.specs.Prelude.{None, decimal, codes}
 use Rattle.std.proofs.lemmas.Fmt.{length-decimal-le_wide}
-use Rattle.std.proofs.lemmas.List.{length-map}
 use Rattle.fpl_numbers.specs.declared.number.Kind.{Kind}
 use Rattle.fpl_numbers.specs.declared.number.Kind.TheVariants.{Rational, Prime}
 use Rattle.fpl_numbers.specs.Numbers.{IsField}
@@ -21,21 +19,19 @@ use Rattle.fpl_syntax.specs.declared.symbol.Symbol.TheVariants as mark
 use Rattle.fpl_syntax.specs.declared.parser.Claim.{Claim}
 use Rattle.fpl_syntax.specs.Grammar.{Scope, Sum, Statement, field, declare, relation, equation, ideal, equal, Declaration, plainly, weighted, spell_sum, spell_declaration, spell_declarations, spell_statement, spelling, expression_of, claims_in, claims_of}
 use Rattle.fpl_syntax.proofs.Coefficients.{known_field}
-use Rattle.fpl_reader.specs.declared.survey.Event.{Event}
 use Rattle.fpl_reader.specs.declared.survey.DeclaredName.{DeclaredName}
-use Rattle.fpl_reader.specs.declared.survey.FieldStatement.{FieldStatement}
 use Rattle.fpl_reader.specs.declared.fault.Reason.TheVariants as reason
 use Rattle.fpl_reader.specs.Events.{events_sum, events_statement, events_of, fields_in, declared_in}
 use Rattle.fpl_reader.specs.Symbols.{symbols_of}
-use Rattle.fpl_reader.specs.Reading.{generator_of, kind_of, scope_of, is_relation, is_ideal, is_equal, claimed_as, lefts, with_claims, first_place, unknown_in, bad_weight, presentation_of, late_refusal, HasPresentation}
+use Rattle.fpl_reader.specs.Reading.{generator_of, kind_of, scope_of, is_relation, is_ideal, is_equal, claimed_as, lefts, unknown_in, bad_weight, presentation_of, HasPresentation}
 use Rattle.fpl_reader.proofs.Allowed.{have_weights, few_names, known_kind}
 use Rattle.fpl_reader.proofs.DeclaredNames.{AreNames}
 use Rattle.fpl_reader.proofs.Readings.{unless_none, early_none_rest, text_names_of}
 use Rattle.fpl_reader.proofs.Terms.{first_place-append, or_else-none}
-use Rattle.fpl_canonical.specs.Numerals.{field_text, parity_text}
+use Rattle.fpl_canonical.specs.Numerals.{parity_text}
 use Rattle.fpl_canonical.specs.Canonical.{names_of, side_text, field_line, generator_line, equation_line, ideal_line, lines, canonical_of}
 use Rattle.fpl_round_trip.proofs.Coefficients.{listed_small}
-use Rattle.fpl_canonical_length.proofs.Sizes.{size, sizes, text_sizes}
+use Rattle.fpl_canonical_length.proofs.Sizes.{sizes, text_sizes}
 use Rattle.fpl_canonical_length.proofs.Costs.{alone}
 use Rattle.fpl_canonical_length.proofs.Expressions.{IsKnown, sum_cost}
 

@@ -92,8 +92,8 @@ mod tests {
     {
         let mut coefficients = ClosedRow::new(alloc);
         for i in 0..row.len() {
-            let (symbol, number_there) = row[i];
-            let number = number(prime, number_there);
+            let number = number(prime, row[i].1);
+            let symbol = row[i].0;
             coefficients.push(Coefficient { symbol, number })?;
         }
         Ok(coefficients)

@@ -36,9 +36,13 @@ use Rattle.fpl_completion.specs.Section.{section_of}
 use Rattle.fpl_completion.proofs.Fitting.{close_weight_fits}
 use Rattle.fpl_completion.proofs.Completed.{next_holds, next_raised}
 use Rattle.fpl_completion.proofs.Counts.{counts_pushed}
-use Rattle.fpl_complete.specs.State.{section_at, no_section, AreOfWeights, PlainState, IsState, PlainWeighed, weighed_as}
+use Rattle.fpl_sections.specs.Stored.{IsWritable}
+use Rattle.fpl_check.specs.Premises.{IsSectionFor}
+use Rattle.fpl_complete.specs.State.{section_at, no_section, AreOfWeights, PlainState, IsStorable, IsState, slimmed, PlainWeighed, weighed_as}
 use Rattle.fpl_complete.proofs.Closing.{symbols_counted}
 use Rattle.fpl_complete.proofs.Weighing.{weighed}
+use Rattle.fpl_complete.proofs.Writable.{section_writable, slimmed_writable}
+use Rattle.fpl_rows.proofs.Fits.{all_more}
 
 pub no_sections : AreOfWeights 0 []
 no_sections = record { count = refl; weights = λ w one end. absurd (omega arith) }
@@ -98,25 +102,29 @@ pub few_counted : (T : PlainTable) (m : ℕ) → m ≡ count_through T (T.weight
 few_counted T m whole few = subst (λ (w : ℕ). count_of T w ≤ 2000000) (let s : suc T.weight ≡ T.weight + 1 = omega arith in s) (few_symbols_of T m whole few)
 
 module _ (T : PlainTable) (p : Presentation) (n m : ℕ) (sections : List Section) (rows : List (List Num)) (section : Section) (state : IsState p T n sections) (whole : m ≡ count_through T (T.weight + 1)) (few : m ≤ 2000000) where
-  pub state_more : section.weight ≡ suc T.weight → Holds p (push_of T rows) → IsRaised p (push_of T rows) → IsState p (push_of T rows) m (sections ++ section ∷ [])
-  state_more weight holds raised = record {
+  pub state_more : section.weight ≡ suc T.weight → IsWritable p.field section → Holds p (push_of T rows) → IsRaised p (push_of T rows) → IsState p (push_of T rows) m (sections ++ section ∷ [])
+  state_more weight writable holds raised = record {
     holds = holds;
     raised = raised;
     number = counts_pushed T state.holds.shape rows (suc T.weight) (omega arith) ∙ ap (count_through T) (let s : suc T.weight ≡ T.weight + 1 = omega arith in s) ∙ sym whole;
     few = few;
     sections_are = weights_more T.weight sections section state.sections_are weight;
+    writable = all_more (IsWritable p.field) sections section state.writable writable;
   }
 
   pub state_weighed : T.weight < 1000 → Weighs T p rows section → IsState p (push_of T rows) m (sections ++ section ∷ [])
   state_weighed below c =
       state_more (ap (λ (x : Section). x.weight) c.section_is)
+      (subst (IsWritable p.field) (sym c.section_is) (section_writable p T state.holds (few_symbols T m whole few) c.held c.run))
       (subst (λ (rows : List (List Num)). Holds p (push_of T rows)) (sym c.rows_are) (next_holds p T state.holds c.held c.run below (few_symbols T m whole few)))
       (subst (λ (rows : List (List Num)). IsRaised p (push_of T rows)) (sym c.rows_are) (next_raised p T state.holds c.held c.run state.raised))
 
-  pub state_adopted : T.weight < 1000 → section.weight ≡ suc T.weight → IsClosedList T.kind (length (symbols_in T)) rows →
+  pub state_adopted : T.weight < 1000 → (x : Section) → IsSectionFor T x → IsStorable T.kind x → section ≡ slimmed T p x → IsClosedList T.kind (length (symbols_in T)) rows →
       SpansKind (field_of p.field) (IsSource (field_of p.field) (presentation_in p) (table_in p.field T)) (length rows) (row_in p.field rows) → IsState p (push_of T rows) m (sections ++ section ∷ [])
-  state_adopted below weight closed spans =
-      state_more weight (push_holds p T rows state.holds below (few_symbols T m whole few) closed spans) (pushed T rows state.raised closed spans)
+  state_adopted below x is storable same closed spans =
+      state_more (ap (λ (x : Section). x.weight) same ∙ is.weight)
+      (subst (λ k. IsWritable k section) state.holds.kind (subst (IsWritable T.kind) (sym same) (slimmed_writable T.kind T p x storable is.few)))
+      (push_holds p T rows state.holds below (few_symbols T m whole few) closed spans) (pushed T rows state.raised closed spans)
 
 -- what a weight's run gives, and a state keeps
 abbrev pub Keeps : PlainState → PlainTable → List Section → Type 0

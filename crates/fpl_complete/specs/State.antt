@@ -3,19 +3,25 @@
 --   PlainState                  a presentation, a table and the sections of its weights, as contracts see a state
 --   section_at sections w       the section of weight w, where there is one
 --   AreOfWeights d sections     one section for each weight from 1 to d, in their order
---   IsState p T n sections      T is raised for p, n is how many symbols there are of the weights from 1 to its own, and each of these has a section
+--   IsStorable kind s           the parts of a section are as bytes can hold them; steps with scale 0 may be among them
+--   IsState p T n sections      T is raised for p, n is how many symbols there are of the weights from 1 to its own, and each of these has a section that has bytes
 --   PassesAfter p from d e w c  w is the least weight above `from` and up to d at which the symbols of weights 1 to w number more than e, and c is their number
 --   unfit_of op a b             an operation with its operands
 --   sum_after count from n      the sum of count v over the n weights v that follow `from`
 --   BoundsOrigins p from d count   each weight v of p above `from` and up to d has at most count v origins
 --   slimmed T p s               a section of the weight after T's, without the steps of dependent origins, and with the number of origins
 --   weighed_as rows section     the closed rows of a weight, and its section
-use Rattle.std.specs.Prelude.{ℕ, zero, suc, ◌≡◌, ◌≤◌, ◌<◌, ◌+◌, ◌-◌, List, [], length, Some, None, slice_index_or}
+use Rattle.std.specs.Prelude.{ℕ, zero, suc, ◌≡◌, ◌≤◌, ◌<◌, ◌+◌, ◌-◌, List, [], length, All, Some, None, slice_index_or}
 use Rattle.fpl_numbers.specs.declared.number.Num.{Num}
 use Rattle.fpl_numbers.specs.declared.number.Op.{Op}
 use Rattle.fpl_numbers.specs.declared.number.Unfit.{Unfit}
+use Rattle.fpl_numbers.specs.declared.number.Kind.{Kind}
+use Rattle.fpl_numbers.specs.Numbers.{IsElement}
+use Rattle.fpl_log.specs.declared.step.Step.{Step}
+use Rattle.fpl_log.specs.declared.step.Step.TheVariants.{Insert, Close}
 use Rattle.fpl_log.specs.declared.section.Section.{Section}
 use Rattle.fpl_log.specs.Slim.{slim_steps}
+use Rattle.fpl_sections.specs.Stored.{IsWritableOrigin, AreWritableTerms, IsWritableRow, IsWritable}
 use Rattle.fpl_model.specs.declared.presentation.Presentation.{Presentation}
 use Rattle.fpl_table.specs.Plain.{PlainTable}
 use Rattle.fpl_table.specs.Standard.{IsTableOf, count_through}
@@ -38,12 +44,21 @@ pub record AreOfWeights (d : ℕ) (sections : List Section) : Type 0 where
   pub count : length sections ≡ d
   pub weights : (w : ℕ) → 1 ≤ w → w ≤ d → (section_at sections w).weight ≡ w
 
+abbrev pub IsStorableStep : Kind → Step → Type 0
+IsStorableStep kind (Insert origin terms scale) = IsWritableOrigin origin × IsElement kind scale × AreWritableTerms kind terms
+IsStorableStep kind (Close of terms) = AreWritableTerms kind terms
+
+pub record IsStorable (kind : Kind) (s : Section) : Type 0 where
+  pub steps : All (IsStorableStep kind) s.steps
+  pub closed : All (IsWritableRow kind) s.closed
+
 pub record IsState (p : Presentation) (T : PlainTable) (n : ℕ) (sections : List Section) : Type 0 where
   pub holds : Holds p T
   pub raised : IsRaised p T
   pub number : count_through T T.weight ≡ n
   pub few : n ≤ 2000000
   pub sections_are : AreOfWeights T.weight sections
+  pub writable : All (IsWritable p.field) sections
 
 pub record PassesAfter (p : Presentation) (from d entries w count : ℕ) : Type 0 where
   pub above : from < w

@@ -1,4 +1,4 @@
-ghost use Rattle.std.specs.Prelude.{◌≡◌, ◌≤◌, ◌<◌, ◌+◌, ◌-◌, ◌++◌, ◌∷◌, [], ◌↔◌, ℕ, List, max, take, length, Ok, Err, IfOk, OnOk, OnErr, IsErrOf};
+ghost use Rattle.std.specs.Prelude.{◌≡◌, ◌≤◌, ◌<◌, ◌+◌, ◌-◌, ◌++◌, ◌∷◌, [], ◌↔◌, ℕ, List, max, take, length, All, Ok, Err, IfOk, OnOk, OnErr, IsErrOf};
 ghost use Rattle.fpl_numbers.specs.declared.number.Num.{Num};
 ghost use Rattle.fpl_numbers.specs.declared.number.Op.{Op};
 ghost use Rattle.fpl_numbers.specs.declared.number.Kind.{Kind};
@@ -15,7 +15,8 @@ ghost use Rattle.fpl_check.specs.declared.fault.Why.{Why};
 ghost use Rattle.fpl_check.specs.Refusal.{bad, unfit};
 ghost use Rattle.fpl_check.specs.Premises.{IsSectionFor};
 ghost use Rattle.fpl_check.specs.Check.{check_of, Accepts};
-ghost use Rattle.fpl_complete.specs.State.{AreOfWeights, BoundsOrigins, PassesAfter, section_at, slimmed, sum_after, unfit_of};
+ghost use Rattle.fpl_sections.specs.Stored.{IsWritable};
+ghost use Rattle.fpl_complete.specs.State.{AreOfWeights, BoundsOrigins, IsStorable, PassesAfter, section_at, slimmed, sum_after, unfit_of};
 
 use crate::accepting::accept;
 use crate::weight::complete_weight;
@@ -91,6 +92,7 @@ impl<F: Field> State<F> {
     pub fn sections(&self) -> &Sections
         ensures same { result.now ≡ self.now.sections }
         ensures weights { AreOfWeights self.now.table.weight self.now.sections }
+        ensures writable { All (IsWritable self.now.presentation.field) self.now.sections }
     {
         &self.sections
     }
@@ -179,6 +181,7 @@ impl<F: Field> State<F> {
         requires weight { self.old.table.weight < 1000 }
         requires entries { entries ≤ 2000000 }
         requires section { IsSectionFor self.old.table section }
+        requires storable { IsStorable self.old.table.kind section }
         ensures presentation { self.new.presentation ≡ self.old.presentation }
         ensures adopted { OnOk result ((rows : List (List Num)) × Accepts self.old.table self.old.presentation section rows × (self.new.table ≡ push_of self.old.table rows)) }
         ensures sections { OnOk result (self.new.sections ≡ self.old.sections ++ slimmed self.old.table self.old.presentation section ∷ []) }

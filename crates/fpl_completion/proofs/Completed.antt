@@ -29,6 +29,7 @@ use Rattle.fpl_faithful.specs.TableLaws.{vector_of_origin}
 use Rattle.fpl_faithful.proofs.Laws.{rows_of_shape, weights_of_built, rows_stand, origins_are_sources, sources_are_origins}
 use Rattle.fpl_completion.specs.Weight.{close_weight}
 use Rattle.fpl_completion.proofs.Closed.{close_weight_closes}
+use Rattle.fpl_completion.proofs.Gathered.{ReadsRows}
 use Rattle.fpl_completion.proofs.Recorded.{steps_in_order}
 
 module _ (p : Presentation) (T : PlainTable) where
@@ -69,6 +70,18 @@ module _ (p : Presentation) (T : PlainTable) where
     unfolding vector
     stand = rows_stand p T holds.kind holds.generators holds.sound rows weights
 
+    -- what follows from rows that stand for vectors
+    pub with_rows : (Q : Type 0) → ((is_field : IsField T.kind) (vector : Origin → Vector (field_of T.kind)) → ReadsRows T is_field p (length (symbols_in T)) vector (origins_of T p) → Q) → Q
+    with_rows Q follows =
+        subst (λ k. (vector : Origin → Vector (field_of k)) → RowsStand k vector → Q) holds.kind
+        (λ vector stand. follows is_field vector
+        (record {
+          elements = λ o c row f. (stand o c row f).elements;
+          long = λ o c row f. (stand o c row f).long;
+          stands = λ o c row f. (stand o c row f).vector;
+        }))
+        vector stand
+
     -- the rows are closed
     pub weighed_closed : (h : Held) → close_weight T p ≡ Ok h → IsClosedList T.kind (length (symbols_in T)) (rows_of h.pivots)
     weighed_closed h run =
@@ -108,13 +121,4 @@ module _ (p : Presentation) (T : PlainTable) where
     next_raised h run raised = pushed T (rows_of h.pivots) raised (weighed_closed h run) (weighed_spans h run)
 
     pub weighed_in_order : (h : Held) → close_weight T p ≡ Ok h → AreInOrder [] 0 h.steps
-    weighed_in_order h run =
-        subst (λ k. (vector : Origin → Vector (field_of k)) → RowsStand k vector → AreInOrder [] 0 h.steps) holds.kind
-        (λ vector stand.
-        steps_in_order T p is_field vector
-        (record {
-          elements = λ o c row f. (stand o c row f).elements;
-          long = λ o c row f. (stand o c row f).long;
-          stands = λ o c row f. (stand o c row f).vector;
-        }) h run)
-        vector stand
+    weighed_in_order h run = with_rows (AreInOrder [] 0 h.steps) (λ is_field vector reads. steps_in_order T p is_field vector reads h run)

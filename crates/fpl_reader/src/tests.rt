@@ -87,6 +87,31 @@ fn refusals_have_the_first_reason(rt: HostRuntime) -> Result<(), AllocError> {
         ),
         ("field Q even x;", 8, "syntax"),
         ("1a b2", 0, "syntax"),
+        (
+            "field Q; even a0,a1,a2,a3,a4,a5,a6,a7,a8,a9,a10,a11,a12,a13,a14,a15,a16,a17,a18,a19,a20,a21,a22,a23,a24,a25,a26,a27,a28,a29,a30,a31,a32,a33,a34,a35,a36,a37,a38,a39,a40,a41,a42,a43,a44,a45,a46,a47,a48,a49,a50,a51,a52,a53,a54,a55,a56,a57,a58,a59,a60,a61,a62,a63,a64;",
+            260,
+            "more than 64 generators",
+        ),
+        ("field Q; even x:0, x;", 19, "name twice"),
+        ("field 9; even x, x;", 6, "prime not in the list"),
+        (
+            "field Q; even x; relation 1/0*x; relation y;",
+            42,
+            "unknown name",
+        ),
+        (
+            "field Q; even x, y:2; odd u; relation x + u; relation x + y;",
+            45,
+            "mixed weight",
+        ),
+        ("field Q; relation x + ; even 1a @", 32, "bad byte"),
+        ("# no field", 10, "no field"),
+        ("field Q; odd field;", 13, "syntax"),
+        (
+            "field 7; even x, y; relation [x,[x,[x,[x,[x,[x,[x,[x,[x,[x,[x,[x,[x,[x,[x,[x,[x,[x,[x,[x,[x,[x,[x,[x,[x,[x,[x,[x,[x,[x,[x,[x,[x,[x,[x,[x,[x,[x,[x,[x,[x,[x,[x,[x,[x,[x,[x,[x,[x,[x,[x,[x,[x,[x,[x,[x,[x,[x,[x,[x,[x,[x,[x,[x,[x,y]]]]]]]]]]]]]]]]]]]]]]]]]]]]]]]]]]]]]]]]]]]]]]]]]]]]]]]]]]]]]]]]];",
+            221,
+            "nesting too deep",
+        ),
     ];
     for (text, want, why) in cases {
         match read_short(rt.alloc(), text) {
@@ -113,6 +138,7 @@ fn texts_of_the_grammar_are_read(rt: HostRuntime) {
         "field Q; even aaaaaaaaaaaaaaaaaaaaaaaaaaaaaaaa;",
         "field Q; even x; relation ((((((((((((((((((((((((((((((((((((((((((((((((((((((((((((((((x))))))))))))))))))))))))))))))))))))))))))))))))))))))))))))))));",
         "field 0007; even x; relation 0001*x = 8*x;",
+        "field 7; even x, y; relation [x,[x,[x,[x,[x,[x,[x,[x,[x,[x,[x,[x,[x,[x,[x,[x,[x,[x,[x,[x,[x,[x,[x,[x,[x,[x,[x,[x,[x,[x,[x,[x,[x,[x,[x,[x,[x,[x,[x,[x,[x,[x,[x,[x,[x,[x,[x,[x,[x,[x,[x,[x,[x,[x,[x,[x,[x,[x,[x,[x,[x,[x,[x,[x,y]]]]]]]]]]]]]]]]]]]]]]]]]]]]]]]]]]]]]]]]]]]]]]]]]]]]]]]]]]]]]]]];",
     ];
     for text in cases {
         assert!(rt; read_short(rt.alloc(), text).is_ok(), "{text}");

@@ -13,7 +13,7 @@
 --                          computing, where the run computes
 --   Walked                 a stage, and why the run stopped there, if it did
 --   walk_of .. n stage     n weights, or as many as come before a stop
---   step_cost ..           how many origins a weight has, where it is computed
+--   computing_cost, step_cost   how many origins a weight has, where it is computed
 --   cost_of .. n stage     those of n weights, or of as many as come before a stop, and the one that it stops at
 use Rattle.std.specs.Prelude.{ℕ, zero, suc, List, [], ◌∷◌, ◌++◌, length, ◌+◌, Bool, true, false, ◌&&◌, nat_lt, slice_range, Option, Some, None, Result, Ok, Err, if◌then◌else◌}
 use Rattle.fpl_numbers.specs.declared.number.Num.{Num}
@@ -124,9 +124,11 @@ is_whole (Ok (Whole from to)) = true
 is_whole (Ok Tail) = false
 is_whole (Err b) = false
 
+abbrev pub computing_cost : (computes : Bool) → Presentation → Stage → ℕ
+computing_cost computes p stage = if computes then length (origins_of stage.table p) else 0
+
 abbrev pub step_cost : (computes : Bool) → Presentation → Stored → Stage → ℕ
-step_cost computes p at stage =
-    if stage.stored && is_whole (frame_of at.bytes stage.place (next_weight stage)) then 0 else if computes then length (origins_of stage.table p) else 0
+step_cost computes p at stage = if stage.stored && is_whole (frame_of at.bytes stage.place (next_weight stage)) then 0 else computing_cost computes p stage
 
 abbrev pub cost_on : (Stage → ℕ) → Result Stage Stop → ℕ
 cost_on further (Ok next) = further next

@@ -1,12 +1,10 @@
-ghost use Rattle.std.specs.Prelude.{◌≡◌, ◌⊎◌, ◌≤◌, ◌<◌, ◌+◌, length, Ok, IfOk, OnOk, OnErr, IfErr, Some, List, ℕ};
+ghost use Rattle.std.specs.Prelude.{◌≡◌, ◌⊎◌, ◌≤◌, ◌<◌, ◌+◌, length, Ok, IfOk, OnOk, OnErr, IfErr, true};
 ghost use Rattle.fpl_model.specs.Sound.{IsSound};
-ghost use Rattle.fpl_table.specs.Standard.{IsTableOf, count_through};
-ghost use Rattle.fpl_rewrite.specs.Origins.{origins_of};
-ghost use Rattle.fpl_next.specs.Raised.{IsRaised};
+ghost use Rattle.fpl_table.specs.Standard.{count_through};
 ghost use Rattle.fpl_sections.specs.declared.frame.Frame.TheVariants.{Whole};
 ghost use Rattle.fpl_sections.specs.Frames.{frame_of};
-ghost use Rattle.fpl_resume.specs.Walk.{begun, step_of, step_cost, computed, framed, next_weight};
-ghost use Rattle.fpl_resume.specs.Stops.{IsStop, stored_in};
+ghost use Rattle.fpl_resume.specs.Walk.{begun, step_of, step_cost, computing_cost, computed, framed, next_weight};
+ghost use Rattle.fpl_resume.specs.Stops.{IsStop, stop_for, stop_from, stored_in};
 
 use crate::Stop;
 use fpl_bytes::ScanError;
@@ -43,11 +41,22 @@ impl<F: Field> Model for Run<F> {
     ghost view = { λ r. record { presentation = r.state.presentation; version = r.version; stage = record { table = r.state.table; sections = r.state.sections; place = r.place; stored = r.stored } } };
 }
 
-fn stop_of(fault: RaiseFault) -> Stop {
+fn stop_for(fault: RaiseFault) -> Stop
+    ensures { result ≡ stop_for fault }
+{
     match fault {
         RaiseFault::Limit { weight, count } => Stop::TooMany { weight, count },
         RaiseFault::Overflow { weight, op, a, b } => Stop::Overflow { weight, op, a, b },
         RaiseFault::NoMemory => Stop::NoMemory,
+    }
+}
+
+fn stop_from(fault: AdoptFault) -> Stop
+    ensures { result ≡ stop_from fault }
+{
+    match fault {
+        AdoptFault::Raise(fault) => stop_for(fault),
+        AdoptFault::Bad { weight, spot, why } => Stop::BadSection { weight, spot, why },
     }
 }
 
@@ -80,7 +89,6 @@ impl<F: Field> Run<F> {
         ensures presentation { result.now.presentation ≡ self.now.presentation }
         ensures table { result.now.table ≡ self.now.stage.table }
         ensures sections { result.now.sections ≡ self.now.stage.sections }
-        ensures standard { IsTableOf self.now.presentation self.now.stage.table.weight self.now.stage.table }
     {
         &self.state
     }
@@ -148,7 +156,7 @@ impl<F: Field> Run<F> {
         ensures step { OnOk result (computed computes self.old.presentation self.old.stage ≡ Ok self.new.stage) }
         ensures stop { IfErr result (λ stop. IsStop stop (computed computes self.old.presentation self.old.stage)) }
         ensures unchanged { OnErr result (self.new ≡ self.old) }
-        ensures most { (steps.old ≤ steps.new) × (steps.new ≤ steps.old + length (origins_of self.old.stage.table self.old.presentation)) }
+        ensures most { (steps.old ≤ steps.new) × (steps.new ≤ steps.old + computing_cost computes self.old.presentation self.old.stage) }
     {
         if !computes {
             return Err(Stop::Ended);
@@ -158,7 +166,7 @@ impl<F: Field> Run<F> {
                 self.stored = false;
                 Ok(())
             }
-            Err(fault) => Err(stop_of(fault)),
+            Err(fault) => Err(stop_for(fault)),
         }
     }
 
@@ -184,10 +192,7 @@ impl<F: Field> Run<F> {
                     self.stored = true;
                     Ok(())
                 }
-                Err(AdoptFault::Raise(fault)) => Err(stop_of(fault)),
-                Err(AdoptFault::Bad { weight, spot, why }) => {
-                    Err(Stop::BadSection { weight, spot, why })
-                }
+                Err(fault) => Err(stop_from(fault)),
             },
             Err(ScanError::Bad(bad)) => Err(Stop::BadBytes(bad)),
             Err(ScanError::NoMemory) => Err(Stop::NoMemory),

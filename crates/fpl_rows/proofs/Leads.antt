@@ -1,6 +1,6 @@
 -- The lead of a row: not 0 there, and 0 above.
 use Rattle.std.proofs.Common.{◌≡◌, ℕ, zero, suc, ◌-◌, ◌<◌, ◌≤◌, List, length, get_or, refl, sym, ap, subst, arith, sub-one, true, false, Bool}
-use Rattle.std.specs.Prelude.{Some, None, if◌then◌else◌}
+use Rattle.std.specs.Prelude.{Option, Some, None, if◌then◌else◌}
 use native.Mathlib.Decide.{ℕ_discrete}
 use Rattle.fpl_numbers.specs.declared.number.Num.{Num}
 use Rattle.fpl_numbers.specs.Numbers.{is_nought, residue}
@@ -56,3 +56,15 @@ lead_down xs s (suc n) one end z above = go (ℕ_discrete s (suc n)) (λ l. lead
 
 pub lead_found : (xs : List Num) (s : ℕ) → 1 ≤ s → s ≤ length xs → is_nought (get_or xs (s - 1) (residue 0)) ≡ false → ((t : ℕ) → s ≤ t → t < length xs → is_nought (get_or xs t (residue 0)) ≡ true) → lead_of xs ≡ Some s
 lead_found xs s one end z above = lead_down xs s (length xs) one end z above
+
+none_below : (xs : List Num) (n : ℕ) → ((t : ℕ) → t < n → is_nought (get_or xs t (residue 0)) ≡ true) → lead_below xs n ≡ None
+none_below xs zero h = refl
+none_below xs (suc n) h = (let z : is_nought (get_or xs n (residue 0)) ≡ true = h n (omega arith) in rw z (none_below xs n (λ t l. h t (omega arith))))
+
+-- the lead is found from any place on that is not below it
+pub lead_from : (xs : List Num) (most : ℕ) → most ≤ length xs → ((s : ℕ) → lead_of xs ≡ Some s → s ≤ most) → lead_below xs most ≡ lead_of xs
+lead_from xs most l h = go (lead_of xs) refl
+  where
+    go : (o : Option ℕ) → lead_of xs ≡ o → lead_below xs most ≡ o
+    go None e = none_below xs most (λ t m. lead_none xs (length xs) e t (omega arith))
+    go (Some s) e = let k = lead_is xs (length xs) s e in lead_down xs s most k.from_one (h s e) k.leads (λ t m n. k.above t m (omega arith))

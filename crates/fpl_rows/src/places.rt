@@ -2,7 +2,7 @@ ghost use Rattle.std.specs.Prelude.{◌≡◌, ◌≤◌, ◌<◌, ◌+◌, ◌-
 ghost use Rattle.fpl_numbers.specs.Numbers.{IsElement};
 ghost use Rattle.fpl_numbers.specs.Results.{Answers};
 ghost use Rattle.fpl_scalar.specs.Vectors.{AreElements, axpy_of, scale_of};
-ghost use Rattle.fpl_rows.specs.Positions.{lead_of, next_of, added_at};
+ghost use Rattle.fpl_rows.specs.Positions.{lead_below, lead_of, next_of, added_at};
 
 use fpl_scalar::{Field, Unfit};
 
@@ -11,7 +11,16 @@ pub fn lead<F: Field>(field: &F, row: &[F::Elem]) -> Option<usize>
     ensures value { result ≡ lead_of (map F.number row.now) }
     ensures within { IfSome result (λ s. s ≤ length row.now) }
 {
-    let mut s = row.len();
+    lead_within(field, row, row.len())
+}
+
+/// The greatest position of at most `most` whose number is not 0, counted from 1.
+pub fn lead_within<F: Field>(field: &F, row: &[F::Elem], most: usize) -> Option<usize>
+    requires { most ≤ length row.now }
+    ensures value { result ≡ lead_below (map F.number row.now) most }
+    ensures within { IfSome result (λ s. s ≤ most) }
+{
+    let mut s = most;
     while s > 0 {
         if !field.is_zero(row[s - 1]) {
             return Some(s);

@@ -2,7 +2,7 @@ ghost use Rattle.std.specs.Prelude.{◌≡◌, ◌≤◌, ◌<◌, ◌+◌, ◌-
 ghost use Rattle.fpl_numbers.specs.Numbers.{IsElement, residue};
 ghost use Rattle.fpl_numbers.specs.Results.{Gives};
 ghost use Rattle.fpl_scalar.specs.Vectors.{AreElements, axpy_of, scale_of};
-ghost use Rattle.fpl_rows.specs.Positions.{lead_of, next_of, added_at};
+ghost use Rattle.fpl_rows.specs.Positions.{lead_below, lead_of, next_of, added_at};
 
 use crate::places;
 use fpl_scalar::{Fault, Field};
@@ -88,6 +88,17 @@ impl<F: Field> Row<F> {
         ensures { result ≡ lead_of self.now }
     {
         match places::lead(&self.field, &self.numbers) {
+            Some(s) => Some(s as u32),
+            None => None,
+        }
+    }
+
+    /// The greatest position of at most `most` whose number is not 0.
+    pub fn lead_within(&self, most: u32) -> Option<u32>
+        requires { most ≤ length self.now }
+        ensures { result ≡ lead_below self.now most }
+    {
+        match places::lead_within(&self.field, &self.numbers, most as usize) {
             Some(s) => Some(s as u32),
             None => None,
         }

@@ -1,10 +1,9 @@
 -- Closed rows pass the tests of closed rows.
-use Rattle.std.specs.Prelude.{◌≡◌, ◌≢◌, ℕ, zero, suc, ◌+◌, ◌-◌, ◌<◌, ◌≤◌, ◌⊎◌, List, [], ◌∷◌, length, get_or, Option, Some, None, Ok, Bool, true, false, not, ◌&&◌, ◌||◌, nat_eq, nat_lt, unwrap_or, All}
+use Rattle.std.specs.Prelude.{◌≡◌, ℕ, suc, ◌+◌, ◌-◌, ◌<◌, ◌⊎◌, List, [], ◌∷◌, length, get_or, Option, Some, None, Ok, Bool, true, false, not, ◌||◌, nat_eq, nat_lt, unwrap_or, All}
 use mathlib.Core.Logic.{inl, inr}
-use mathlib.Core.Path.{refl, sym, ap, ap₂, ◌∙◌, subst}
+use mathlib.Core.Path.{refl, sym, ap, ◌∙◌, subst}
 use native.Mathlib.Omega.{arith}
 use native.Mathlib.Decide.{ℕ_discrete}
-use Rattle.std.proofs.lemmas.Bool.Decides.{nat_tests}
 use Rattle.fpl_numbers.specs.declared.number.Num.{Num}
 use Rattle.fpl_numbers.specs.declared.number.Kind.{Kind}
 use Rattle.fpl_numbers.specs.Numbers.{IsField, is_nought, residue}
@@ -22,7 +21,9 @@ use Rattle.fpl_check.specs.declared.fault.Spot.TheVariants.{Closed as AtClosed}
 use Rattle.fpl_check.specs.declared.fault.Why.TheVariants.{NotClosed, Differs}
 use Rattle.fpl_check.specs.Refusal.{passing, demand}
 use Rattle.fpl_check.specs.ClosedRows.{same_num, test_same, test_conclusions, test_lead_at, lead_or_none, test_leads, is_lead, test_crossing, test_apart}
-use Rattle.fpl_check.proofs.Loops.{same_is}
+use Rattle.fpl_check.proofs.Loops.{same_is, and_true, below_true}
+use Rattle.fpl_check.proofs.PassedTests.{same_count}
+use Rattle.fpl_valid.proofs.Tests.{same_true}
 
 -- rows are the same as themselves
 same_self : (k s : ℕ) (row : List Num) → test_same k s row row ≡ Ok tt
@@ -32,12 +33,6 @@ same_self k s (x ∷ xs) = ap (λ b. passing (demand b (AtClosed k) (Differs s x
 pub conclusions_self : (k : ℕ) (rows : List (List Num)) → test_conclusions k rows rows ≡ Ok tt
 conclusions_self k [] = refl
 conclusions_self k (row ∷ rows) = ap (λ t. passing t (test_conclusions (k + 1) rows rows)) (same_self k 1 row) ∙ conclusions_self (k + 1) rows
-
-both : (a b : Bool) → a ≡ true → b ≡ true → (a && b) ≡ true
-both a b e f = ap₂ (λ a b. a && b) e f
-
-below : (a b : ℕ) → a < b → nat_lt a b ≡ true
-below a b l = grind (arith, nat_tests)
 
 -- a pivot row has its lead
 pivot_lead : (kind : Kind) (n : ℕ) (q : PivotRow) → IsPivotRow kind n q → lead_of q.row ≡ Some q.lead
@@ -49,7 +44,7 @@ leads_pass kind n k before (q ∷ ps) all up =
     let h = all_head (IsPivotRow kind n) q ps all in
     let lead = pivot_lead kind n q h in
     let here : test_lead_at k before q.row (lead_of q.row) ≡ Ok tt =
-    ap (test_lead_at k before q.row) lead ∙ ap (λ b. demand b (AtClosed k) (NotClosed q.lead)) (both (same_num (get_or q.row (q.lead - 1) (residue 0)) (residue 1)) (nat_lt before q.lead) (same_is _ _ h.leads) (below before q.lead up.0)) in
+    ap (test_lead_at k before q.row) lead ∙ ap (λ b. demand b (AtClosed k) (NotClosed q.lead)) (and_true (same_num (get_or q.row (q.lead - 1) (residue 0)) (residue 1)) (nat_lt before q.lead) (same_is _ _ h.leads) (below_true before q.lead up.0)) in
     ap (λ t. passing t (test_leads (k + 1) (lead_or_none q.row) (rows_of ps))) here
     ∙ ap (λ s. test_leads (k + 1) s (rows_of ps)) (ap (λ o. unwrap_or o 0) lead) ∙ leads_pass kind n (k + 1) q.lead ps (all_tail (IsPivotRow kind n) q ps all) up.1
 
@@ -59,11 +54,8 @@ MayStand leads lead s c = (is_nought c ≡ true) ⊎ ((s ≡ lead) ⊎ (leads s 
 
 may_pass : (leads : ℕ → Bool) (lead s : ℕ) (c : Num) → MayStand leads lead s c → (is_nought c || nat_eq s lead || not (leads s)) ≡ true
 may_pass leads lead s c (inl z) = rw z refl
-may_pass leads lead s c (inr (inl e)) = second (is_nought c) (nat_eq s lead) (not (leads s)) (same s lead e)
+may_pass leads lead s c (inr (inl e)) = second (is_nought c) (nat_eq s lead) (not (leads s)) (same_true s lead e)
   where
-    same : (a b : ℕ) → a ≡ b → nat_eq a b ≡ true
-    same a b e = grind (arith, nat_tests)
-
     second : (a b d : Bool) → b ≡ true → (a || b || d) ≡ true
     second true b d e = refl
     second false b d e = rw e refl
@@ -91,12 +83,9 @@ lead_of_one : (rows : List (List Num)) (s : ℕ) → is_lead rows s ≡ true →
 lead_of_one [] s e = absurd (let k : ⊥ = cc in k)
 lead_of_one (row ∷ rows) s e = go (nat_eq (lead_or_none row) s) refl e (λ f. lead_of_one rows s f)
   where
-    same : (a b : ℕ) → nat_eq a b ≡ true → a ≡ b
-    same a b e = grind (arith, nat_tests)
-
     go : (b : Bool) → nat_eq (lead_or_none row) s ≡ b → (b || is_lead rows s) ≡ true → (is_lead rows s ≡ true → (j : ℕ) × ((j < length rows) × (lead_or_none (get_or rows j []) ≡ s))) →
         (j : ℕ) × ((j < length (row ∷ rows)) × (lead_or_none (get_or (row ∷ rows) j []) ≡ s))
-    go true f g later = (0, (omega arith, same _ _ f))
+    go true f g later = (0, (omega arith, same_count _ _ f))
     go false f g later = let h = later g in (suc h.0, ((let l = h.1.0 in omega (arith, l)), h.1.1))
 
 module _ (kind : Kind) (listed : IsField kind) (n : ℕ) (rows : List (List Num)) (closed : IsClosedList kind n rows) where

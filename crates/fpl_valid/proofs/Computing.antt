@@ -1,20 +1,19 @@
 -- The steps that a run of a weight records pass the check: each concludes the row that the run had.
-use Rattle.std.specs.Prelude.{◌≡◌, ℕ, zero, suc, ◌+◌, ◌-◌, ◌<◌, ◌≤◌, List, [], ◌∷◌, ◌++◌, length, get_or, map, Option, Some, None, Ok, Bool, true, false, cond, All, Contains, if◌then◌else◌}
+use Rattle.std.specs.Prelude.{◌≡◌, ℕ, zero, suc, ◌+◌, ◌-◌, List, [], ◌∷◌, ◌++◌, length, get_or, Option, Some, None, Ok, Bool, true, false, cond, All, Contains, if◌then◌else◌}
 use Rattle.std.specs.List.{find}
-use mathlib.Core.Path.{refl, sym, ap, ap₂, ◌∙◌, subst}
+use mathlib.Core.Path.{refl, sym, ap, ◌∙◌, subst}
 use native.Mathlib.Omega.{arith}
 use Rattle.std.proofs.lemmas.List.{append_assoc, append-nil, map-append}
 use Rattle.fpl_linear.specs.Vector.{vzero}
 use Rattle.fpl_numbers.specs.declared.number.Num.{Num}
 use Rattle.fpl_numbers.specs.declared.number.Kind.{Kind}
-use Rattle.fpl_numbers.specs.Numbers.{IsField, IsElement, is_nought, residue, negative_of, inverse_of}
+use Rattle.fpl_numbers.specs.Numbers.{IsField, is_nought, residue, negative_of, inverse_of}
 use Rattle.fpl_numbers.specs.Kinds.{field_of, number_of}
 use Rattle.fpl_numbers.specs.Results.{and_then, map_ok}
 use Rattle.fpl_numbers.proofs.KindReads.{kind_reads}
 use Rattle.fpl_scalar.specs.Vectors.{AreElements, axpy_of, scale_of}
 use Rattle.fpl_rows.specs.Positions.{lead_of}
-use Rattle.fpl_rows.specs.Meaning.{IsRowOf, AreRows}
-use Rattle.fpl_rows.proofs.Fits.{ok_same, some_same, none_some, first_fits, part_fits, all_found, all_more, all_cons, all_head, all_tail}
+use Rattle.fpl_rows.proofs.Fits.{ok_same, first_fits, part_fits, all_found, all_more, all_cons, all_head, all_tail}
 use Rattle.fpl_rows.proofs.Leads.{lead_is}
 use Rattle.fpl_model.specs.declared.presentation.Presentation.{Presentation}
 use Rattle.fpl_log.specs.declared.terms.Term.{Term}
@@ -22,7 +21,7 @@ use Rattle.fpl_log.specs.declared.step.Origin.{Origin}
 use Rattle.fpl_log.specs.declared.step.Step.{Step}
 use Rattle.fpl_log.specs.declared.step.Step.TheVariants.{Insert, Close}
 use Rattle.fpl_log.specs.Plain.{terms_off, scaled_by, conclude_of}
-use Rattle.fpl_elimination.specs.Plain.{PivotRow, IsPivotRow, stands_at, Swept, taken_off, sweep_by, sweep_at, sweep_of, Held, Elimination, Inserted, keep_of, insert_of, close_by, close_to, close_of, rows_of}
+use Rattle.fpl_elimination.specs.Plain.{PivotRow, IsPivotRow, stands_at, Swept, taken_off, sweep_by, sweep_at, sweep_of, Held, Elimination, Inserted, keep_of, insert_of, close_by, close_to, rows_of}
 use Rattle.fpl_elimination.proofs.Sweeping.{sweep_reads}
 use Rattle.fpl_elimination.proofs.Found.{insert_pivots}
 use Rattle.fpl_table.specs.Plain.{PlainTable, symbols_in}
@@ -30,7 +29,7 @@ use Rattle.fpl_rewrite.specs.Origins.{origins_of}
 use Rattle.fpl_rewrite.specs.Rows.{row_of_origin}
 use Rattle.fpl_completion.specs.Weight.{begun, put_of, gather, close_weight}
 use Rattle.fpl_completion.proofs.InOrder.{scale_stays}
-use Rattle.fpl_completion.proofs.Recorded.{Put, put_parts, Run, run_parts}
+use Rattle.fpl_completion.proofs.Recorded.{put_parts, run_parts}
 use Rattle.fpl_check.specs.declared.cites.Cited.{Cited}
 use Rattle.fpl_check.specs.declared.cites.Cited.TheVariants.{Inserts, Closes}
 use Rattle.fpl_check.specs.declared.fault.Spot.TheVariants.{Step as AtStep}

@@ -1,9 +1,8 @@
 -- The laws, at a held table.
-use Rattle.std.specs.Prelude.{◌≡◌, ℕ, suc, ◌+◌, ◌^◌, ◌<◌, ◌≤◌, List, [], ◌∷◌, length, map, Option, Some, Ok, Bool, nat_eq, true, false, All, Contains, if◌then◌else◌}
+use Rattle.std.specs.Prelude.{◌≡◌, ℕ, ◌+◌, ◌≤◌, List, [], ◌∷◌, length, Option, Some, Ok, Bool, true, false, All, if◌then◌else◌}
 use mathlib.Core.Logic.{inl, inr}
 use mathlib.Core.Path.{sym, refl, ap, ◌∙◌, subst}
 use native.Mathlib.Omega.{arith}
-use Rattle.std.proofs.lemmas.Bool.Decides.{nat_tests}
 use Rattle.std.proofs.lemmas.List.{length-map}
 use Rattle.fpl_numbers.specs.declared.number.Num.{Num}
 use Rattle.fpl_numbers.specs.declared.number.Kind.{Kind}
@@ -13,17 +12,14 @@ use Rattle.fpl_scalar.specs.Vectors.{AreElements}
 use Rattle.fpl_rows.specs.Meaning.{IsRowOf, AreRows}
 use Rattle.fpl_rows.proofs.Fits.{part_fits, all_cons, all_head, all_tail}
 use Rattle.fpl_model.specs.declared.presentation.Presentation.{Presentation}
-use Rattle.fpl_log.specs.declared.step.Origin.{Origin}
 use Rattle.fpl_log.specs.declared.closed.Coefficient.{Coefficient}
 use Rattle.fpl_log.specs.declared.section.Section.{Section}
-use Rattle.fpl_log.specs.Slim.{slim_steps, AreInOrder}
 use Rattle.fpl_elimination.specs.Plain.{PivotRow, Held, rows_of}
 use Rattle.fpl_elimination.proofs.Ascending.{AscendsFrom}
 use Rattle.fpl_table.specs.Plain.{PlainTable, symbols_in}
 use Rattle.fpl_table.specs.Push.{push_of}
 use Rattle.fpl_next.specs.Holds.{Holds}
 use Rattle.fpl_rewrite.specs.Origins.{origins_of}
-use Rattle.fpl_rewrite.specs.Rows.{row_of_origin}
 use Rattle.fpl_faithful.specs.Premises.{HasRows, HasWeights}
 use Rattle.fpl_faithful.proofs.Laws.{rows_of_shape, weights_of_built, rows_stand}
 use Rattle.fpl_completion.specs.Weight.{close_weight}
@@ -33,15 +29,21 @@ use Rattle.fpl_check.specs.declared.fault.Spot.TheVariants.{Whole}
 use Rattle.fpl_check.specs.declared.fault.Why.TheVariants.{OriginCount}
 use Rattle.fpl_check.specs.Refusal.{demand}
 use Rattle.fpl_check.specs.Premises.{AreCoefficientsOf, IsSectionFor}
-use Rattle.fpl_check.specs.Check.{test_count, rows_stored, Accepts}
-use Rattle.fpl_valid.specs.Valid.{slimmed, whole_section, TellsOrigins, AcceptedInOrder, SlimIsAccepted, SlimIsFor, SlimIsSlim, WholeIsAccepted, SectionIsAccepted, SectionIsFor, SectionIsSlim}
+use Rattle.fpl_check.specs.Check.{test_count, Accepts}
+use Rattle.fpl_valid.specs.Valid.{slimmed, whole_section, TellsOrigins, AcceptedInOrder, SlimIsAccepted, SlimIsFor, SlimIsSlim, WholeIsAccepted, SectionIsAccepted, SectionIsFor, SectionIsSlim, OneStepEach}
 use Rattle.fpl_valid.proofs.Conclusions.{HaveRows}
 use Rattle.fpl_valid.proofs.Accepted.{accepted_parts, accepts_whole}
 use Rattle.fpl_valid.proofs.InOrder.{accepted_in_order}
+use Rattle.fpl_valid.proofs.Tests.{same_true}
 use Rattle.fpl_valid.proofs.Slimmed.{slim_parts}
 use Rattle.fpl_valid.proofs.SlimAgain.{slim_again, slim_numbers}
 use Rattle.fpl_valid.proofs.Whole.{rows_closed, ascending, whole_parts, whole_accepted}
 use Rattle.fpl_valid.proofs.Numbered.{run_numbers}
+use Rattle.fpl_valid.proofs.Counted.{inserts_counted}
+use Rattle.fpl_check.specs.ClosedRows.{close_count}
+use Rattle.fpl_check.proofs.ListedOrigins.{demanded}
+use Rattle.fpl_check.proofs.PassedTests.{same_count}
+use Rattle.fpl_valid.specs.Valid.{insert_count}
 
 module _ (p : Presentation) (T : PlainTable) (holds : Holds p T) where
   is_field : IsField T.kind
@@ -70,10 +72,7 @@ module _ (p : Presentation) (T : PlainTable) (holds : Holds p T) where
 
 count_passes : (n : ℕ) (origins : Option ℕ) → TellsOrigins n origins → test_count origins n ≡ Ok tt
 count_passes n origins (inl e) = ap (λ o. test_count o n) e
-count_passes n origins (inr e) = ap (λ o. test_count o n) e ∙ ap (λ b. demand b Whole (OriginCount n n)) (same n)
-  where
-    same : (n : ℕ) → nat_eq n n ≡ true
-    same n = grind (arith, nat_tests)
+count_passes n origins (inr e) = ap (λ o. test_count o n) e ∙ ap (λ b. demand b Whole (OriginCount n n)) (same_true n n refl)
 
 pub held_in_order : AcceptedInOrder
 held_in_order p T s rows holds is e = accepted_in_order T p (is_field p T holds) (have_rows p T holds) s rows is e
@@ -144,3 +143,13 @@ pub section_is_slim : SectionIsSlim
 section_is_slim p T s holds e =
     let c = computed p T holds s e in
     subst (λ s. slimmed T p s ≡ s) (sym c.is) (slim_is_slim p T (whole_section T (Some (length (origins_of T p))) c.held) (weighed_in_order p T holds c.held c.run))
+
+pub one_step_each : OneStepEach
+one_step_each p T s holds e =
+    let c = computed p T holds s e in
+    let rows = rows_of c.held.pivots in
+    let inserts = inserts_counted T p (is_field p T holds) (have_rows p T holds) c.held c.run in
+    let long : length (closed_list rows) ≡ length c.held.pivots = length-map rows (coefficients_from 1) ∙ length-map c.held.pivots (λ q. q.row) in
+    let accepted = section_is_accepted p T s holds e in
+    let h = accepted_parts T p s accepted.0 accepted.1 in
+    (subst (λ s. insert_count s.steps ≡ length s.closed) (sym c.is) (inserts ∙ sym long), same_count (close_count s.steps) (length s.closed) (demanded _ _ _ h.0.closes))

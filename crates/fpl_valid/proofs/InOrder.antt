@@ -8,13 +8,13 @@ use Rattle.fpl_fields.specs.Field.{Field}
 use Rattle.fpl_linear.specs.Vector.{Vector, vzero, vplus, scale}
 use Rattle.fpl_linear.proofs.Numbers.{times-nought}
 use Rattle.fpl_numbers.specs.declared.number.Num.{Num}
-use Rattle.fpl_numbers.specs.Numbers.{IsField, IsElement, is_nought}
+use Rattle.fpl_numbers.specs.Numbers.{IsField, is_nought}
 use Rattle.fpl_numbers.specs.Reads.{Reads}
 use Rattle.fpl_numbers.specs.Kinds.{field_of, number_of}
 use Rattle.fpl_numbers.proofs.KindReads.{kind_reads}
 use Rattle.fpl_rows.specs.Positions.{lead_of}
-use Rattle.fpl_rows.specs.Meaning.{vector_in, row_in, pivot_in, AreRows, IsRowOf, IsClosedList}
-use Rattle.fpl_rows.proofs.Fits.{none_some, all_head, all_tail, all_cons}
+use Rattle.fpl_rows.specs.Meaning.{vector_in, pivot_in, AreRows, IsRowOf, IsClosedList}
+use Rattle.fpl_rows.proofs.Fits.{none_some, all_head, all_tail}
 use Rattle.fpl_rows.proofs.Readings.{all_nought}
 use Rattle.fpl_model.specs.declared.presentation.Presentation.{Presentation}
 use Rattle.fpl_log.specs.declared.terms.Term.{Term}
@@ -28,29 +28,22 @@ use Rattle.fpl_log.proofs.TermsTaken.{conclusion_means}
 use Rattle.fpl_table.specs.Plain.{PlainTable, symbols_in}
 use Rattle.fpl_check.specs.declared.cites.Cited.{Cited}
 use Rattle.fpl_check.specs.declared.cites.Cited.TheVariants.{Inserts, Closes}
-use Rattle.fpl_check.specs.declared.fault.Spot.{Spot}
 use Rattle.fpl_check.specs.declared.fault.Spot.TheVariants.{Step as AtStep}
 use Rattle.fpl_check.specs.Cited.{named}
 use Rattle.fpl_check.specs.Premises.{AreFactorsOf, HasNumbersOf, IsSectionFor}
-use Rattle.fpl_check.specs.Steps.{is_close, names_close, test_cites, test_zero, remainder_at, test_dependent}
+use Rattle.fpl_check.specs.Steps.{is_close, names_close, test_cites, test_zero, test_dependent}
 use Rattle.fpl_check.specs.ClosedRows.{close_rows}
 use Rattle.fpl_check.specs.Check.{Accepts, rows_stored}
 use Rattle.fpl_check.proofs.Loops.{both_true}
 use Rattle.fpl_check.proofs.ListedOrigins.{named_within, terms_pass}
-use Rattle.fpl_valid.proofs.StepParts.{all_cited, InsertParts, CloseParts, StepParts}
-use Rattle.fpl_valid.proofs.Conclusions.{Concludes, HaveRows, step_row, rows_more}
-use Rattle.fpl_valid.proofs.Accepted.{AcceptedParts, accepted_parts, stored_are_concluded, stored_are_closed}
+use Rattle.fpl_check.proofs.PassedTests.{zero_is}
+use Rattle.fpl_valid.proofs.StepParts.{all_cited, CloseParts}
+use Rattle.fpl_valid.proofs.Conclusions.{Concludes, HaveRows, rows_more}
+use Rattle.fpl_valid.proofs.Accepted.{accepted_parts, stored_are_concluded, stored_are_closed}
 
 -- an Insert step with scale 0 concludes zero
-none_left : (spot : Spot) (row : List Num) → test_zero spot row ≡ Ok tt → lead_of row ≡ None
-none_left spot row e = go (lead_of row) e
-  where
-    go : (o : Option ℕ) → remainder_at spot row o ≡ Ok tt → o ≡ None
-    go None e = refl
-    go (Some s) e = absurd (let k : ⊥ = cc in k)
-
 pub dependent_zero : (n : ℕ) (scale : Num) (row : List Num) → test_dependent n scale row ≡ Ok tt → is_nought scale ≡ true → lead_of row ≡ None
-dependent_zero n scale row e z = none_left (AtStep n) row (subst (λ b. (if b then test_zero (AtStep n) row else Ok tt) ≡ Ok tt) z e)
+dependent_zero n scale row e z = zero_is (AtStep n) row (subst (λ b. (if b then test_zero (AtStep n) row else Ok tt) ≡ Ok tt) z e)
 
 -- where a list goes on with x, x stands there
 pub record IsThere {X : Type 0} (xs : List X) (k : ℕ) (x d : X) (rest : List X) : Type 0 where

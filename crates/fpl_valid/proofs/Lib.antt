@@ -1,3 +1,4 @@
+pub mod Tests
 pub mod StepParts
 pub mod Conclusions
 pub mod Accepted
@@ -12,4 +13,5 @@ pub mod Slimming
 pub mod Slimmed
 pub mod Numbered
 pub mod SlimAgain
+pub mod Counted
 pub mod Held

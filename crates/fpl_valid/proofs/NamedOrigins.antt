@@ -1,28 +1,22 @@
 -- The origins of a weight's list pass their test.
-use Rattle.std.specs.Prelude.{◌≡◌, ℕ, suc, ◌+◌, ◌-◌, ◌<◌, ◌≤◌, List, length, slice_get, get_or, Option, Some, None, Bool, true, ◌&&◌, nat_le, nat_eq, Contains}
-use mathlib.Core.Path.{refl, sym, ap, ap₂, ◌∙◌, subst}
+use Rattle.std.specs.Prelude.{◌≡◌, ℕ, suc, ◌+◌, ◌-◌, ◌<◌, length, slice_get, get_or, Option, Some, None, true, nat_le, Contains}
+use mathlib.Core.Path.{sym, ap, ◌∙◌, subst}
 use native.Mathlib.Omega.{arith}
 use Rattle.std.proofs.lemmas.Bool.Decides.{nat_tests}
 use Rattle.std.proofs.lemmas.Option.{get_or_from_slice_get}
-use Rattle.fpl_numbers.specs.declared.number.Kind.{Kind}
 use Rattle.fpl_algebra.specs.Degrees.{exact}
 use Rattle.fpl_algebra.specs.Symbols.{is_odd}
 use Rattle.fpl_model.specs.declared.presentation.Equation.{Equation}
 use Rattle.fpl_model.specs.declared.presentation.Presentation.{Presentation}
 use Rattle.fpl_log.specs.declared.step.Origin.{Origin}
-use Rattle.fpl_log.specs.declared.step.Origin.TheVariants.{Relation, Jacobi, Cube}
 use Rattle.fpl_log.proofs.TermsTaken.{past_end}
 use Rattle.fpl_table.specs.Plain.{PlainTable}
 use Rattle.fpl_rewrite.specs.Origins.{relation_weight, is_exactly, is_triple, is_cube, is_three, origins_of}
 use Rattle.fpl_faithful.proofs.Pairs.{parity}
 use Rattle.fpl_faithful.proofs.Listed.{IsTriple, IsCube, IsListed, listed_relation, listed_triple, listed_cube, listed}
+use Rattle.fpl_check.proofs.Loops.{and_true}
+use Rattle.fpl_valid.proofs.Tests.{most_true}
 use Rattle.fpl_check.specs.Steps.{weighs_next, is_origin}
-
-both : (a b : Bool) → a ≡ true → b ≡ true → (a && b) ≡ true
-both a b e f = ap₂ (λ a b. a && b) e f
-
-most : (a b : ℕ) → a ≤ b → nat_le a b ≡ true
-most a b l = grind (arith, nat_tests)
 
 module _ (T : PlainTable) where
   exactly_next : is_exactly (T.weight + 1) (exact (suc T.weight)) ≡ true
@@ -43,16 +37,16 @@ module _ (T : PlainTable) where
 
   listed_named : (p : Presentation) (o : Origin) → IsListed T p o → is_origin T p o ≡ true
   listed_named p _ (listed_relation k l h) =
-      both (nat_le 1 (1 + k)) (weighs_next T (slice_get p.relations (1 + k - 1))) (most 1 (1 + k) (omega arith))
+      and_true (nat_le 1 (1 + k)) (weighs_next T (slice_get p.relations (1 + k - 1))) (most_true 1 (1 + k) (omega arith))
       (weighs p k l h (slice_get p.relations (1 + k - 1)) (ap (slice_get p.relations) (let e : k ≡ 1 + k - 1 = omega arith in e)))
   listed_named p _ (listed_triple i j k h) =
       let a = h.first in
       let b = h.second in
       let c = h.third in
-      both _ _ (both _ _ (both _ _ (both _ _ (most 1 (i + 1) (omega arith)) (most (i + 1) (j + 1) (omega (arith, a)))) (most (j + 1) (k + 1) (omega (arith, b)))) (most (k + 1) (length T.basis) (omega (arith, c))))
+      and_true _ _ (and_true _ _ (and_true _ _ (and_true _ _ (most_true 1 (i + 1) (omega arith)) (most_true (i + 1) (j + 1) (omega (arith, a)))) (most_true (j + 1) (k + 1) (omega (arith, b)))) (most_true (k + 1) (length T.basis) (omega (arith, c))))
       (subst (λ w. is_triple T (i + 1 - 1) (j + 1 - 1) w ≡ true) (back k) (subst (λ w. is_triple T (i + 1 - 1) w k ≡ true) (back j) (subst (λ w. is_triple T w j k ≡ true) (back i) (triple_named i j k h))))
   listed_named p _ (listed_cube i h) =
-      both _ _ (both _ _ (both _ _ (ap is_three h.three) (most 1 (i + 1) (omega arith))) (most (i + 1) (length T.basis) (let l = h.below in omega (arith, l)))) (subst (λ w. is_cube T w ≡ true) (back i) (cube_named i h))
+      and_true _ _ (and_true _ _ (and_true _ _ (ap is_three h.three) (most_true 1 (i + 1) (omega arith))) (most_true (i + 1) (length T.basis) (let l = h.below in omega (arith, l)))) (subst (λ w. is_cube T w ≡ true) (back i) (cube_named i h))
 
   pub origin_named : (p : Presentation) (o : Origin) → Contains (origins_of T p) o → is_origin T p o ≡ true
   origin_named p o c = listed_named p o (listed T p o c)

@@ -1,7 +1,7 @@
 -- The steps that a run of a weight records are of numbers of the field.
-use Rattle.std.specs.Prelude.{◌≡◌, ℕ, zero, suc, ◌+◌, ◌-◌, ◌<◌, ◌≤◌, List, [], ◌∷◌, ◌++◌, length, get_or, Option, Some, None, Ok, Bool, true, false, cond, All, Contains}
+use Rattle.std.specs.Prelude.{◌≡◌, ℕ, zero, suc, ◌+◌, ◌-◌, ◌≤◌, List, [], ◌∷◌, length, get_or, Option, Some, None, Ok, Bool, true, false, cond, All, Contains}
 use Rattle.std.specs.List.{find}
-use mathlib.Core.Path.{refl, sym, ap, ◌∙◌, subst}
+use mathlib.Core.Path.{refl, sym, subst}
 use native.Mathlib.Omega.{arith}
 use Rattle.fpl_linear.specs.Vector.{vzero}
 use Rattle.fpl_numbers.specs.declared.number.Num.{Num}

@@ -1,6 +1,6 @@
 -- Steps without those left out are themselves without any; and their numbers are numbers of the field.
 use Rattle.std.specs.Prelude.{◌≡◌, ◌≢◌, ℕ, zero, suc, ◌+◌, ◌-◌, ◌<◌, ◌≤◌, List, [], ◌∷◌, ◌++◌, length, get_or, Option, Some, None, unwrap_or, Bool, true, false, All}
-use mathlib.Core.Path.{refl, sym, ap, ap₂, ◌∙◌, subst}
+use mathlib.Core.Path.{refl, sym, ap, ap₂, ◌∙◌}
 use native.Mathlib.Omega.{arith}
 use native.Mathlib.Decide.{ℕ_discrete, dec_lt}
 use Rattle.std.proofs.lemmas.List.{length-append, get_or_append_left, get_or_push}

@@ -1,6 +1,6 @@
 -- Steps that are left out, because they conclude zero, change no conclusion of the others, operation by operation.
-use Rattle.std.specs.Prelude.{◌≡◌, ◌≢◌, ℕ, zero, suc, ◌+◌, ◌-◌, ◌<◌, ◌≤◌, List, [], ◌∷◌, ◌++◌, length, drop, get_or, slice_get, Option, Some, None, unwrap_or, Ok, Bool, true, false, All, if◌then◌else◌}
-use mathlib.Core.Path.{refl, sym, ap, ap₂, ◌∙◌, subst}
+use Rattle.std.specs.Prelude.{◌≡◌, ◌≢◌, ℕ, ◌+◌, ◌-◌, ◌<◌, ◌≤◌, List, [], ◌∷◌, ◌++◌, length, drop, get_or, slice_get, Option, Some, None, unwrap_or, Ok, Bool, true, false, All, if◌then◌else◌}
+use mathlib.Core.Path.{refl, sym, ap, ◌∙◌, subst}
 use native.Mathlib.Omega.{arith}
 use native.Mathlib.Decide.{ℕ_discrete}
 use Rattle.std.proofs.lemmas.List.{length-append, get_or_append_left, get_or_push}
@@ -16,7 +16,7 @@ use Rattle.fpl_numbers.proofs.KindReads.{kind_reads}
 use Rattle.fpl_scalar.specs.Vectors.{axpy_of}
 use Rattle.fpl_rows.specs.Positions.{lead_of}
 use Rattle.fpl_rows.specs.Meaning.{IsRowOf, AreRows}
-use Rattle.fpl_rows.proofs.Fits.{none_some, some_same, first_fits, all_head, all_tail, all_cons}
+use Rattle.fpl_rows.proofs.Fits.{first_fits, all_head, all_tail, all_cons}
 use Rattle.fpl_rows.proofs.Readings.{axpy_reads, all_nought, vectors_same}
 use Rattle.fpl_model.specs.declared.presentation.Presentation.{Presentation}
 use Rattle.fpl_log.specs.declared.terms.Term.{Term}
@@ -24,14 +24,14 @@ use Rattle.fpl_log.specs.declared.step.Origin.{Origin}
 use Rattle.fpl_log.specs.declared.step.Step.{Step}
 use Rattle.fpl_log.specs.declared.step.Step.TheVariants.{Insert, Close}
 use Rattle.fpl_log.specs.Plain.{IsTermOf, term_row, terms_off, scaled_by}
-use Rattle.fpl_log.specs.Slim.{is_left_out, new_number, next_number, next_count, slim_term, slim_terms, slim_step, kept_if, slim_steps, AreInOrder, IsEarlier}
+use Rattle.fpl_log.specs.Slim.{new_number, next_number, next_count, slim_term, slim_terms, slim_step, kept_if, slim_steps, AreInOrder}
 use Rattle.fpl_table.specs.Plain.{PlainTable}
 use Rattle.fpl_check.specs.declared.cites.Cited.{Cited}
 use Rattle.fpl_check.specs.declared.cites.Cited.TheVariants.{Inserts, Closes}
 use Rattle.fpl_check.specs.declared.fault.Spot.TheVariants.{Step as AtStep}
 use Rattle.fpl_check.specs.Cited.{named}
 use Rattle.fpl_check.specs.Premises.{AreFactorsOf, HasNumbersOf}
-use Rattle.fpl_check.specs.Steps.{names_insert, names_close, test_cites, test_zero, scale_if}
+use Rattle.fpl_check.specs.Steps.{names_insert, names_close, test_zero, scale_if}
 use Rattle.fpl_check.specs.ClosedRows.{close_rows}
 use Rattle.fpl_check.proofs.ListedOrigins.{origin_listed, named_within, terms_pass}
 use Rattle.fpl_valid.proofs.StepParts.{all_cited, InsertParts, CloseParts, StepParts}

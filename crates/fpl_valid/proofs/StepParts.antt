@@ -1,11 +1,11 @@
 -- What a step that passes its tests consists of, and back.
-use Rattle.std.specs.Prelude.{◌≡◌, ℕ, ◌+◌, ◌-◌, List, [], ◌∷◌, length, get_or, None, Result, Ok, Err, Bool, true, false, All}
-use mathlib.Core.Path.{refl, sym, ap, ◌∙◌, subst}
+use Rattle.std.specs.Prelude.{◌≡◌, ℕ, ◌+◌, ◌-◌, List, [], ◌∷◌, length, get_or, None, Result, Ok, Bool, true, All}
+use mathlib.Core.Path.{ap, ◌∙◌, subst}
 use native.Mathlib.Omega.{arith}
 use Rattle.fpl_numbers.specs.declared.number.Num.{Num}
 use Rattle.fpl_numbers.specs.declared.number.Unfit.{Unfit}
 use Rattle.fpl_numbers.specs.Results.{and_then}
-use Rattle.fpl_rows.proofs.Fits.{ok_same, all_cons}
+use Rattle.fpl_rows.proofs.Fits.{ok_same, first_fits, all_cons}
 use Rattle.fpl_model.specs.declared.presentation.Presentation.{Presentation}
 use Rattle.fpl_log.specs.declared.terms.Term.{Term}
 use Rattle.fpl_log.specs.declared.step.Origin.{Origin}
@@ -19,14 +19,7 @@ use Rattle.fpl_check.specs.declared.fault.Why.TheVariants.{BadOrigin, BadCite}
 use Rattle.fpl_check.specs.Refusal.{Refusal, exactly, passing, demand}
 use Rattle.fpl_check.specs.Steps.{is_origin, names_insert, names_close, test_cites, scale_if, test_dependent, insert_of_step, close_of_step, conclusion_of_step}
 use Rattle.fpl_check.proofs.ListedOrigins.{demanded, passing_first}
-
-pub first_ok : {T U E : Type 0} (f : T → Result U E) (r : Result T E) (z : U) → and_then f r ≡ Ok z → (x : T) × ((r ≡ Ok x) × (f x ≡ Ok z))
-first_ok f (Ok x) z e = (x, (refl, e))
-first_ok f (Err u) z e = absurd (let k : ⊥ = cc in k)
-
-pub exactly_ok : {X : Type 0} (r : Result X Unfit) (x : X) → exactly r ≡ Ok x → r ≡ Ok x
-exactly_ok (Ok y) x e = ap Ok (ok_same e)
-exactly_ok (Err u) x e = absurd (let k : ⊥ = cc in k)
+use Rattle.fpl_check.proofs.PassedTests.{then_first, exact_first}
 
 -- each term cites a step of those named
 pub all_cited : (named : ℕ → Bool) (n : ℕ) (ts : List Term) → test_cites named n ts ≡ Ok tt → All (λ t. named t.step ≡ true) ts
@@ -60,16 +53,16 @@ module _ (T : PlainTable) (p : Presentation) (steps : List Step) (earlier : List
   insert_parts origin terms scale row e =
       let a = passing_first (demand (is_origin T p origin) (AtStep n) BadOrigin) _ row e in
       let b = passing_first (test_cites (names_insert steps n) n terms) _ row a.1 in
-      let c = first_ok (λ (r : List Num). passing (test_dependent n scale r) (Ok r)) (exactly (and_then (λ r. conclude_of T.kind earlier r terms (scale_if scale)) (row_of_origin T p origin))) row b.1 in
+      let c = then_first (λ (r : List Num). passing (test_dependent n scale r) (Ok r)) (exactly (and_then (λ r. conclude_of T.kind earlier r terms (scale_if scale)) (row_of_origin T p origin))) row b.1 in
       let d = passing_first (test_dependent n scale c.0) (Ok c.0) row c.1.1 in
-      let f = first_ok (λ r. conclude_of T.kind earlier r terms (scale_if scale)) (row_of_origin T p origin) c.0 (exactly_ok _ c.0 c.1.0) in
+      let f = first_fits (λ r. conclude_of T.kind earlier r terms (scale_if scale)) (row_of_origin T p origin) c.0 (exact_first _ c.0 c.1.0) in
       subst (InsertParts origin terms scale) (ok_same d.1) (record { origin_is = demanded _ _ _ a.0; cites = b.0; source = f.0; reads = f.1.0; concludes = f.1.1; dependent = d.0 })
 
   close_parts : (of : ℕ) (terms : List Term) (row : List Num) → close_of_step T steps earlier of terms ≡ Ok row → CloseParts of terms row
   close_parts of terms row e =
       let a = passing_first (demand (names_insert steps n of) (AtStep n) (BadCite of)) _ row e in
       let b = passing_first (test_cites (names_close steps n) n terms) _ row a.1 in
-      record { of_named = demanded _ _ _ a.0; cites = b.0; concludes = exactly_ok _ row b.1 }
+      record { of_named = demanded _ _ _ a.0; cites = b.0; concludes = exact_first _ row b.1 }
 
   pub step_parts : (s : Step) (row : List Num) → conclusion_of_step T p steps earlier s ≡ Ok row → StepParts s row
   step_parts (Insert origin terms scale) row e = insert_parts origin terms scale row e

@@ -1,11 +1,10 @@
 -- One step more: what stood before stands on, and its conclusion comes last.
-use Rattle.std.specs.Prelude.{◌≡◌, ℕ, zero, suc, ◌+◌, ◌-◌, ◌<◌, ◌≤◌, List, [], ◌∷◌, ◌++◌, length, get_or, slice_get, Option, Some, None, Ok, Bool, true, false, ◌&&◌, nat_le, nat_lt, All}
-use mathlib.Core.Path.{refl, sym, ap, ap₂, ◌∙◌, subst}
+use Rattle.std.specs.Prelude.{◌≡◌, ℕ, zero, suc, ◌+◌, ◌-◌, ◌<◌, ◌≤◌, List, [], ◌∷◌, ◌++◌, length, get_or, slice_get, Option, Some, None, Ok, Bool, true, ◌&&◌, nat_le, nat_lt, All}
+use mathlib.Core.Path.{refl, sym, ap, ◌∙◌, subst}
 use native.Mathlib.Omega.{arith}
 use Rattle.std.proofs.lemmas.List.{append_assoc, append-nil, length-append, get_or_append_left, get_or_push}
-use Rattle.std.proofs.lemmas.Bool.Decides.{nat_tests}
 use Rattle.fpl_numbers.specs.declared.number.Num.{Num}
-use Rattle.fpl_rows.proofs.Fits.{none_some, some_same, all_head, all_tail}
+use Rattle.fpl_rows.proofs.Fits.{none_some, all_head, all_tail}
 use Rattle.fpl_model.specs.declared.presentation.Presentation.{Presentation}
 use Rattle.fpl_log.specs.declared.terms.Term.{Term}
 use Rattle.fpl_log.specs.declared.step.Step.{Step}
@@ -20,8 +19,9 @@ use Rattle.fpl_check.specs.Refusal.{passing, demand}
 use Rattle.fpl_check.specs.Cited.{named}
 use Rattle.fpl_check.specs.Steps.{is_insert, is_close, test_cites}
 use Rattle.fpl_check.specs.ClosedRows.{close_rows}
-use Rattle.fpl_check.proofs.Loops.{both_true}
-use Rattle.fpl_valid.proofs.StepParts.{all_cited, InsertParts, CloseParts, StepParts}
+use Rattle.fpl_check.proofs.Loops.{both_true, and_true, below_true}
+use Rattle.fpl_valid.proofs.Tests.{most_true}
+use Rattle.fpl_valid.proofs.StepParts.{all_cited, StepParts}
 use Rattle.fpl_valid.proofs.Conclusions.{Concludes}
 
 -- a step of the sort
@@ -53,11 +53,8 @@ split_named : (sort : Cited) (steps : List Step) (n m : ℕ) → named sort step
 split_named Inserts steps n m = refl
 split_named Closes steps n m = refl
 
-and_true : (a b : Bool) → a ≡ true → b ≡ true → (a && b) ≡ true
-and_true a b e f = ap₂ (λ a b. a && b) e f
-
 within_true : (n m : ℕ) → 1 ≤ m → m < n → (nat_le 1 m && nat_lt m n) ≡ true
-within_true n m a b = and_true (nat_le 1 m) (nat_lt m n) (grind (arith, nat_tests)) (grind (arith, nat_tests))
+within_true n m a b = and_true (nat_le 1 m) (nat_lt m n) (most_true 1 m a) (below_true m n b)
 
 pub named_is : (sort : Cited) (steps : List Step) (n m : ℕ) → 1 ≤ m → m < n → is_sort sort (slice_get steps (m - 1)) ≡ true → named sort steps n m ≡ true
 named_is sort steps n m a b e = split_named sort steps n m ∙ and_true (nat_le 1 m && nat_lt m n) (is_sort sort (slice_get steps (m - 1))) (within_true n m a b) e

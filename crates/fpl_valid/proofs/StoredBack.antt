@@ -1,8 +1,7 @@
 -- The coefficients of a row tell the row, and are well formed.
-use Rattle.std.specs.Prelude.{◌≡◌, ℕ, suc, ◌+◌, ◌-◌, ◌<◌, ◌≤◌, List, [], ◌∷◌, ◌++◌, length, map, replicate, slice_set, Ok, Bool, true, false, not, ◌&&◌, nat_le, nat_lt, All, if◌then◌else◌}
-use mathlib.Core.Path.{refl, sym, ap, ap₂, ◌∙◌, subst}
+use Rattle.std.specs.Prelude.{◌≡◌, ℕ, ◌+◌, ◌-◌, ◌<◌, ◌≤◌, List, [], ◌∷◌, ◌++◌, length, map, replicate, slice_set, Ok, Bool, true, false, not, nat_le, nat_lt, All, if◌then◌else◌}
+use mathlib.Core.Path.{refl, sym, ap, ap₂, ◌∙◌}
 use native.Mathlib.Omega.{arith}
-use Rattle.std.proofs.lemmas.Bool.Decides.{nat_tests}
 use Rattle.std.proofs.lemmas.List.{append_assoc, length-append}
 use Rattle.fpl_numbers.specs.declared.number.Num.{Num}
 use Rattle.fpl_numbers.specs.declared.number.Kind.{Kind}
@@ -19,6 +18,8 @@ use Rattle.fpl_completion.specs.Section.{coefficients_from, closed_list}
 use Rattle.fpl_check.specs.declared.fault.Spot.TheVariants.{Closed as AtClosed}
 use Rattle.fpl_check.specs.declared.fault.Why.TheVariants.{RowForm}
 use Rattle.fpl_check.specs.Refusal.{passing, demand}
+use Rattle.fpl_check.proofs.Loops.{and_true, below_true}
+use Rattle.fpl_valid.proofs.Tests.{most_true}
 use Rattle.fpl_check.specs.ClosedRows.{is_formed, test_forms, stored_in, stored_row}
 
 abbrev coefficient : ℕ → Num → Coefficient
@@ -28,15 +29,6 @@ set_there : (xs ys : List Num) (z c : Num) → slice_set (xs ++ z ∷ ys) (lengt
 set_there [] ys z c = refl
 set_there (x ∷ xs) ys z c = ap (λ zs. x ∷ zs) (set_there xs ys z c)
 
-both : (a b : Bool) → a ≡ true → b ≡ true → (a && b) ≡ true
-both a b e f = ap₂ (λ a b. a && b) e f
-
-most : (a b : ℕ) → a ≤ b → nat_le a b ≡ true
-most a b l = grind (arith, nat_tests)
-
-below : (a b : ℕ) → a < b → nat_lt a b ≡ true
-below a b l = grind (arith, nat_tests)
-
 formed_from : (n s after : ℕ) (row : List Num) → after < s → s + length row ≤ n + 1 → is_formed n after (coefficients_from s row) ≡ true
 formed_from n s after [] l m = refl
 formed_from n s after (c ∷ cs) l m =
@@ -45,7 +37,7 @@ formed_from n s after (c ∷ cs) l m =
     go : (b : Bool) → is_nought c ≡ b → is_formed n after (coefficients_from (s + 1) cs) ≡ true → is_formed n s (coefficients_from (s + 1) cs) ≡ true →
         is_formed n after (if b then coefficients_from (s + 1) cs else coefficient s c ∷ coefficients_from (s + 1) cs) ≡ true
     go true e on next = on
-    go false e on next = both _ _ (both _ _ (both (nat_lt after s) (nat_le s n) (below after s l) (most s n (omega (arith, m)))) (ap not e)) next
+    go false e on next = and_true _ _ (and_true _ _ (and_true (nat_lt after s) (nat_le s n) (below_true after s l) (most_true s n (omega (arith, m)))) (ap not e)) next
 
 pub forms_pass : (n k : ℕ) (rows : List (List Num)) → All (λ row. length row ≡ n) rows → test_forms n k (closed_list rows) ≡ Ok tt
 forms_pass n k [] all = refl

@@ -1,11 +1,9 @@
 -- The whole section of a computed weight is accepted, with the rows that were computed.
-use Rattle.std.specs.Prelude.{◌≡◌, ℕ, zero, suc, ◌+◌, ◌<◌, ◌≤◌, ◌↔◌, List, [], ◌∷◌, length, map, Option, Some, None, Result, Ok, Err, Bool, true, nat_eq, All, Contains, get_or}
+use Rattle.std.specs.Prelude.{◌≡◌, ℕ, suc, List, [], ◌∷◌, length, Option, None, Result, Ok, Err, All, Contains}
 use mathlib.Core.Path.{refl, sym, ap, ap₂, ◌∙◌, subst}
 use native.Mathlib.Omega.{arith}
-use Rattle.std.proofs.lemmas.Bool.Decides.{nat_tests}
 use Rattle.std.proofs.lemmas.List.{length-map}
 use Rattle.fpl_linear.specs.Vector.{Vector, vzero}
-use Rattle.fpl_linear.specs.Span.{Spanned}
 use Rattle.fpl_linear.proofs.Span.{spanned_one}
 use Rattle.fpl_numbers.specs.declared.number.Num.{Num}
 use Rattle.fpl_numbers.specs.declared.number.Unfit.{Unfit}
@@ -13,12 +11,11 @@ use Rattle.fpl_numbers.specs.Numbers.{IsField}
 use Rattle.fpl_numbers.specs.Kinds.{field_of}
 use Rattle.fpl_numbers.specs.Results.{and_then}
 use Rattle.fpl_rows.specs.Positions.{lead_of}
-use Rattle.fpl_rows.specs.Meaning.{vector_in, IsRowOf, AreRows, IsClosedList, InSpanOf}
+use Rattle.fpl_rows.specs.Meaning.{vector_in, IsClosedList, InSpanOf}
 use Rattle.fpl_rows.proofs.Fits.{first_fits}
 use Rattle.fpl_model.specs.declared.presentation.Presentation.{Presentation}
 use Rattle.fpl_log.specs.declared.step.Origin.{Origin}
-use Rattle.fpl_log.specs.declared.section.Section.{Section}
-use Rattle.fpl_elimination.specs.Plain.{PivotRow, IsPivotRow, Held, Elimination, close_to, close_of, rows_of, sweep_rows}
+use Rattle.fpl_elimination.specs.Plain.{IsPivotRow, Held, Elimination, close_to, close_of, rows_of, sweep_rows}
 use Rattle.fpl_elimination.proofs.Ascending.{AscendsFrom, close_ascends}
 use Rattle.fpl_elimination.proofs.Found.{close_pivots}
 use Rattle.fpl_elimination.proofs.Remainders.{sweep_means}
@@ -27,22 +24,24 @@ use Rattle.fpl_rewrite.specs.Origins.{origins_of}
 use Rattle.fpl_rewrite.specs.Rows.{row_of_origin}
 use Rattle.fpl_completion.specs.Weight.{begun, gather, again, close_weight}
 use Rattle.fpl_completion.specs.Section.{coefficients_from, closed_list}
-use Rattle.fpl_completion.proofs.Gathered.{ReadsRows, IsAmong, again_same, gather_spans}
+use Rattle.fpl_completion.proofs.Gathered.{ReadsRows, IsAmong, again_same}
 use Rattle.fpl_completion.proofs.Closed.{close_weight_closes}
 use Rattle.fpl_completion.proofs.Recorded.{run_parts}
 use Rattle.fpl_check.specs.declared.fault.Spot.TheVariants.{Whole, Origin as AtOrigin}
 use Rattle.fpl_check.specs.declared.fault.Why.TheVariants.{Count}
 use Rattle.fpl_check.specs.Refusal.{exactly, passing, demand}
-use Rattle.fpl_check.specs.Steps.{is_origin, test_zero, remainder_at}
-use Rattle.fpl_check.specs.ClosedRows.{close_count, close_rows, stored_row, test_conclusions, test_leads, test_apart}
+use Rattle.fpl_check.specs.Steps.{test_zero, remainder_at}
+use Rattle.fpl_check.specs.ClosedRows.{close_count, test_conclusions, test_leads, test_apart}
 use Rattle.fpl_check.specs.Check.{test_origin, test_origins, test_count, rows_stored, Accepts}
 use Rattle.fpl_valid.specs.Valid.{whole_section}
 use Rattle.fpl_valid.proofs.Conclusions.{HaveRows}
-use Rattle.fpl_valid.proofs.Accepted.{AcceptedParts, accepts_whole, close_rows_long}
+use Rattle.fpl_valid.proofs.Accepted.{AcceptedParts, accepts_whole}
+use Rattle.fpl_check.proofs.PassedTests.{close_length}
+use Rattle.fpl_valid.proofs.Tests.{same_true}
 use Rattle.fpl_valid.proofs.NamedOrigins.{origin_named}
 use Rattle.fpl_valid.proofs.StoredBack.{forms_pass, all_stored_back}
 use Rattle.fpl_valid.proofs.ClosedBack.{conclusions_self, leads_pass, apart_passes}
-use Rattle.fpl_valid.proofs.Computing.{IsRun, run_is, Gathered, gathered_all}
+use Rattle.fpl_valid.proofs.Computing.{run_is, gathered_all}
 
 module _ (T : PlainTable) (p : Presentation) where
   -- the sweep of each origin, where all are swept again
@@ -117,9 +116,6 @@ module _ (T : PlainTable) (p : Presentation) (listed : IsField T.kind) (sources 
         up = close_ascends T.kind r.gathered.held.pivots n (record { pivots = []; steps = r.gathered.held.steps }) h refl closes;
       }
 
-  same_count : (a b : ℕ) → a ≡ b → nat_eq a b ≡ true
-  same_count a b e = grind (arith, nat_tests)
-
   pub whole_parts : (origins : Option ℕ) (h : Held) → test_count origins (length (origins_of T p)) ≡ Ok tt → close_weight T p ≡ Ok h →
       AcceptedParts T p (whole_section T origins h) × (rows_stored T (whole_section T origins h) ≡ rows_of h.pivots)
   whole_parts origins h count run =
@@ -129,11 +125,11 @@ module _ (T : PlainTable) (p : Presentation) (listed : IsField T.kind) (sources 
       let up = ascending h run in
       let r = run_is T p listed n sources (origin_named T p) refl h run in
       let back : rows_stored T s ≡ rows = all_stored_back T.kind listed n rows closed.are_rows in
-      let closes : close_count h.steps ≡ length (closed_list rows) = sym (close_rows_long h.steps r.rest r.told.long) ∙ ap length r.rows ∙ sym (length-map rows (coefficients_from 1)) in (
+      let closes : close_count h.steps ≡ length (closed_list rows) = sym (close_length h.steps r.rest r.told.long) ∙ ap length r.rows ∙ sym (length-map rows (coefficients_from 1)) in (
         record {
           conclusions = r.rest;
           conclude = r.told.conclude;
-          closes = ap (λ b. demand b Whole (Count (close_count h.steps) (length (closed_list rows)))) (same_count (close_count h.steps) (length (closed_list rows)) closes);
+          closes = ap (λ b. demand b Whole (Count (close_count h.steps) (length (closed_list rows)))) (same_true (close_count h.steps) (length (closed_list rows)) closes);
           forms = forms_pass n 1 rows (λ i d l. (closed.are_rows i d l).length_is);
           same = ap₂ (λ (a b : List (List Num)). test_conclusions 1 a b) back r.rows ∙ conclusions_self 1 rows;
           leads = subst (λ w. test_leads 1 0 w ≡ Ok tt) (sym back) (leads_pass T.kind n 1 0 h.pivots up.rows up.up);

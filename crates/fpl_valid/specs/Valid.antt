@@ -12,8 +12,12 @@
 --   SectionIsAccepted     and so it is as it is kept, with the rows of the table's next weight
 --   SectionIsFor          it is a section of the weight in numbers of the field
 --   SectionIsSlim         and is kept as it is
-use Rattle.std.specs.Prelude.{ℕ, suc, ◌≡◌, ◌≤◌, List, [], length, Option, None, Some, Ok, ◌⊎◌}
+--   insert_count steps    the number of Insert steps
+--   OneStepEach           it has one Insert step and one Close step for each closed row
+use Rattle.std.specs.Prelude.{ℕ, suc, ◌+◌, ◌≡◌, ◌≤◌, List, [], ◌∷◌, length, Option, None, Some, Ok, ◌⊎◌}
 use Rattle.fpl_numbers.specs.declared.number.Num.{Num}
+use Rattle.fpl_log.specs.declared.step.Step.{Step}
+use Rattle.fpl_log.specs.declared.step.Step.TheVariants.{Insert, Close}
 use Rattle.fpl_log.specs.declared.section.Section.{Section}
 use Rattle.fpl_log.specs.Slim.{slim_steps, AreInOrder}
 use Rattle.fpl_elimination.specs.Plain.{Held, rows_of}
@@ -24,6 +28,7 @@ use Rattle.fpl_next.specs.Holds.{Holds}
 use Rattle.fpl_rewrite.specs.Origins.{origins_of}
 use Rattle.fpl_completion.specs.Weight.{close_weight, next_of}
 use Rattle.fpl_completion.specs.Section.{closed_list, section_after}
+use Rattle.fpl_check.specs.ClosedRows.{close_count}
 use Rattle.fpl_check.specs.Check.{Accepts}
 use Rattle.fpl_check.specs.Premises.{IsSectionFor}
 
@@ -65,3 +70,12 @@ SectionIsFor = (p : Presentation) (T : PlainTable) (s : Section) → Holds p T �
 
 abbrev pub SectionIsSlim : Type 0
 SectionIsSlim = (p : Presentation) (T : PlainTable) (s : Section) → Holds p T → section_after T p ≡ Ok s → slimmed T p s ≡ s
+
+abbrev pub insert_count : List Step → ℕ
+insert_count [] = 0
+insert_count ((Insert origin terms scale) ∷ ss) = 1 + insert_count ss
+insert_count ((Close of terms) ∷ ss) = insert_count ss
+
+abbrev pub OneStepEach : Type 0
+OneStepEach =
+    (p : Presentation) (T : PlainTable) (s : Section) → Holds p T → section_after T p ≡ Ok s → (insert_count s.steps ≡ length s.closed) × (close_count s.steps ≡ length s.closed)

@@ -1,4 +1,4 @@
-use Rattle.fpl_valid.proofs.Held.{whole_is_accepted, section_is_accepted, section_is_for, section_is_slim}
+use Rattle.fpl_valid.proofs.Held.{whole_is_accepted, section_is_accepted, section_is_for, section_is_slim, one_step_each}
 use Rattle.fpl_valid.proofs.computed_sections.Goals as goal
 
 pub returns-clause-whole : goal.returns-clause-whole
@@ -12,3 +12,6 @@ returns-clause-numbers c = section_is_for
 
 pub returns-clause-again : goal.returns-clause-again
 returns-clause-again c = section_is_slim
+
+pub returns-clause-steps : goal.returns-clause-steps
+returns-clause-steps c = one_step_each

@@ -3,7 +3,8 @@ use Rattle.fpl_log.specs.declared.section.Section.{Section}
 use Rattle.fpl_rows.specs.Meaning.{AreRows}
 use Rattle.fpl_table.specs.Plain.{PlainTable}
 use Rattle.fpl_table.specs.Standard.{count_of, count_through}
-use Rattle.fpl_complete.specs.State.{PlainState, IsState}
+use Rattle.fpl_check.specs.Premises.{IsSectionFor}
+use Rattle.fpl_complete.specs.State.{PlainState, IsStorable, IsState}
 use Rattle.fpl_complete.proofs.Closing.{symbols_counted}
 use Rattle.fpl_complete.proofs.Raising.{state_adopted, few_symbols, counts_more, whole_within}
 use Rattle.fpl_complete.proofs.state.State.adopt.Goals as goal
@@ -29,8 +30,9 @@ invariant_of-self g c =
     (subst (λ (T : PlainTable). IsState p T m (c.self.inside.sections ++ c.in-Ok.weighed.section ∷ [])) (sym c.in-Ok-keep.ensures.table)
     (state_adopted T p c.self.inside.count m c.self.inside.sections c.in-Ok.weighed.rows c.in-Ok.weighed.section c.self.invariant
     (subst (λ (s : PlainState). m ≡ count_through s.table (s.table.weight + 1)) (sym c.self.view_is) c.next_count-count.ensures)
-    (omega (arith, c.requires.entries, c.if-count-entries.false)) below
-    (ap (λ (x : Section). x.weight) c.in-Ok.ensures.section ∙ subst (λ (s : PlainState). c.args.section.weight ≡ suc s.table.weight) (sym c.self.view_is) c.requires.section.weight)
+    (omega (arith, c.requires.entries, c.if-count-entries.false)) below c.args.section
+    (subst (λ (s : PlainState). IsSectionFor s.table c.args.section) (sym c.self.view_is) c.requires.section)
+    (subst (λ (s : PlainState). IsStorable s.table.kind c.args.section) (sym c.self.view_is) c.requires.storable) c.in-Ok.ensures.section
     c.in-Ok.ensures.closed c.in-Ok.ensures.spans))
 
 pub returns-in-Ok-keep-clause-within : goal.returns-in-Ok-keep-clause-within
