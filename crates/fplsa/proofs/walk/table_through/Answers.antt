@@ -19,8 +19,8 @@ returns-in-Ok-table_text-clause-reply g c =
     let held = c.state-in-Ok-walk.result.now in
     let kept = c.state-in-Ok-walk.ensures in
     let table : IsTableOf b.presentation c.args.c.limit new.stage.table =
-        subst (λ q. IsTableOf q c.args.c.limit new.stage.table) (kept.presentation ∙ same)
-        (subst (λ d. IsTableOf held.presentation d new.stage.table) c.in-Ok-walk.ensures.weight (subst (λ (T : PlainTable). IsTableOf held.presentation T.weight T) kept.table c.table.ensures.standard)) in
+    subst (λ q. IsTableOf q c.args.c.limit new.stage.table) (kept.presentation ∙ same)
+    (subst (λ d. IsTableOf held.presentation d new.stage.table) c.in-Ok-walk.ensures.weight (subst (λ (T : PlainTable). IsTableOf held.presentation T.weight T) kept.table c.table.ensures.standard)) in
     table_written c.args.c (start_in b bytes) new.stage c.requires.view whole table c.in-Ok-table_text.text.items
     (c.in-Ok-table_text.ensures ∙ ap₂ (λ q T. table_text (names_of q) T) (c.presentation.ensures.same ∙ c.state.ensures.presentation ∙ same) (c.table.ensures.same ∙ c.state-in-Ok-walk.ensures.table))
 
