@@ -129,7 +129,7 @@ fn refuse_sentence(alloc: Global, text: &[u8], place: usize, reason: Reason) -> 
         kind: Kind::Rational,
         text,
         generators: &[],
-        minus_one,
+        minus_one: &minus_one,
     };
     match parse_text(alloc, &scope) {
         Ok(_) => refused(place, reason),
@@ -168,11 +168,12 @@ fn read_sentence(alloc: Global, text: &[u8], p: Presentation) -> Result<Presenta
     requires bare { p ≡ bare_of text.now }
     ensures { Read text.now result }
 {
+    let minus_one = minus_one(alloc, p.field)?;
     let scope = Scope {
         kind: p.field,
         text,
         generators: p.generators.as_slice(),
-        minus_one: minus_one(alloc, p.field)?,
+        minus_one: &minus_one,
     };
     let claims = parse_text(alloc, &scope)?;
     if let Some((place, reason)) = late_refusal(&scope, &p, claims.as_slice()) {

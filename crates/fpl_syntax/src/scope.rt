@@ -13,8 +13,8 @@ pub struct Scope<'a> {
     pub text: &'a [u8],
     pub generators: &'a [Generator],
     /// The number of a term that has a `-` and no number, made once for all of them.
-    pub minus_one: Scalar,
+    pub minus_one: &'a Scalar,
     ghost few: { length generators.now ≤ 64 },
     ghost known: { IsTrue (is_field kind) },
-    ghost minus: { minus_one ≡ coefficient_of kind true 1 1 },
+    ghost minus: { minus_one.now ≡ coefficient_of kind true 1 1 },
 }
