@@ -62,7 +62,7 @@ fn begins_below(e: &Expr) -> bool
     ensures { result ≡ begins_below (plain e.now) }
 {
     match e {
-        Expr::Times(c, _) => is_below_nought(*c),
+        Expr::Times(c, _) => is_below_nought(c.number()),
         Expr::Gen(_) | Expr::Zero | Expr::Sum(_) | Expr::Br(_, _) => false,
     }
 }
@@ -101,13 +101,13 @@ pub(crate) fn push_expression(
         Expr::Zero => out.extend_from_slice(b"0"),
         Expr::Sum(members) => {
             open_if(out, encloses_sum(stand))?;
-            push_sum(out, generators, members)?;
+            push_sum(out, generators, members.get())?;
             close_if(out, encloses_sum(stand))
         }
         Expr::Times(c, e) => {
             open_if(out, encloses_multiple(stand))?;
-            push_own_sign(out, stand, *c)?;
-            push_magnitude(out, *c)?;
+            push_own_sign(out, stand, c.number())?;
+            push_magnitude(out, c.number())?;
             out.extend_from_slice(b"*")?;
             push_expression(out, generators, Stand::Factor, e.get())?;
             close_if(out, encloses_multiple(stand))

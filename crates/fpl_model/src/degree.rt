@@ -105,7 +105,7 @@ impl Presentation {
                 Degree::Exact(u64::from(self.generators.as_slice()[at].weight))
             }
             Expr::Zero => Degree::Any,
-            Expr::Sum(members) => self.weight_of_all(members),
+            Expr::Sum(members) => self.weight_of_all(members.get()),
             Expr::Times(_, e) => self.weight_of(e.get()),
             Expr::Br(a, b) => {
                 let left = self.weight_of(a.get());
@@ -143,7 +143,7 @@ impl Presentation {
                 ParityOf::Exact(self.generators.as_slice()[at].parity)
             }
             Expr::Zero => ParityOf::Any,
-            Expr::Sum(members) => self.parity_of_all(members),
+            Expr::Sum(members) => self.parity_of_all(members.get()),
             Expr::Times(_, e) => self.parity_of(e.get()),
             Expr::Br(a, b) => {
                 let left = self.parity_of(a.get());

@@ -1,6 +1,6 @@
 ghost use Rattle.std.specs.Prelude.{◌≡◌, IfOk};
 
-use fpl_numbers::Num;
+use crate::{Members, Scalar};
 use sqlite_items::{Boxed, Items};
 use std::alloc::{AllocError, Global};
 
@@ -8,18 +8,22 @@ use std::alloc::{AllocError, Global};
 pub type Exprs = Items<Expr>;
 
 /// A bracket expression over the generators of a presentation.
+///
+/// Each variant takes two words at most, so that a long sum takes little more memory than its text.
 #[derive(Drop)]
 pub enum Expr {
     /// A generator, by its number in order of declaration, from 1.
     Gen(u32),
     Zero,
     /// The sum of its members; of none it is zero.
-    Sum(Items<Expr>),
+    Sum(Boxed<Items<Expr>>),
     /// A multiple.
-    Times(Num, Boxed<Expr>),
+    Times(Scalar, Boxed<Expr>),
     /// The bracket of two expressions.
     Br(Boxed<Expr>, Boxed<Expr>),
 }
+
+const _: () = prove!(size_of::<Expr>() == 24);
 
 impl Expr {
     /// An equal expression.
@@ -30,8 +34,11 @@ impl Expr {
         match self {
             Expr::Gen(g) => Ok(Expr::Gen(*g)),
             Expr::Zero => Ok(Expr::Zero),
-            Expr::Sum(members) => Ok(Expr::Sum(copy_all(alloc, members)?)),
-            Expr::Times(c, e) => Ok(Expr::Times(*c, Boxed::new(alloc, e.get().copy(alloc)?)?)),
+            Expr::Sum(members) => copy_all(alloc, members.get())?.sum(alloc),
+            Expr::Times(c, e) => Ok(Expr::Times(
+                c.share()?,
+                Boxed::new(alloc, e.get().copy(alloc)?)?,
+            )),
             Expr::Br(a, b) => Ok(Expr::Br(
                 Boxed::new(alloc, a.get().copy(alloc)?)?,
                 Boxed::new(alloc, b.get().copy(alloc)?)?,
@@ -41,10 +48,10 @@ impl Expr {
 }
 
 #[cycle(copying)]
-fn copy_all(alloc: Global, members: &Items<Expr>) -> Result<Items<Expr>, AllocError>
+fn copy_all(alloc: Global, members: &Exprs) -> Result<Members, AllocError>
     ensures { IfOk result (λ all. all ≡ members.now) }
 {
-    let mut all = Items::new(alloc);
+    let mut all = Members::new(alloc);
     for e in members.as_slice() {
         all.push(e.copy(alloc)?)?;
     }

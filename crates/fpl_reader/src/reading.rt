@@ -25,7 +25,7 @@ use crate::{ReaderError, Reason};
 use fpl_lex::LexError;
 use fpl_model::{Generator, Generators, Name, Presentation};
 use fpl_numbers::{Kind, PRIMES};
-use fpl_syntax::{Claim, Numeral, Scope};
+use fpl_syntax::{Claim, Numeral, Scope, minus_one};
 use sqlite_items::Items;
 use std::alloc::{AllocError, Global};
 
@@ -122,10 +122,14 @@ fn refuse_sentence(alloc: Global, text: &[u8], place: usize, reason: Reason) -> 
     requires early { early_refusal text.now (fields_in (text_events text.now)) (declared_in (text_events text.now)) None ≡ Some (place, reason) }
     ensures { IsRefusal text.now result }
 {
+    let Ok(minus_one) = minus_one(alloc, Kind::Rational) else {
+        return ReaderError::NoMemory;
+    };
     let scope = Scope {
         kind: Kind::Rational,
         text,
         generators: &[],
+        minus_one: &minus_one,
     };
     match parse_text(alloc, &scope) {
         Ok(_) => refused(place, reason),
@@ -164,10 +168,12 @@ fn read_sentence(alloc: Global, text: &[u8], p: Presentation) -> Result<Presenta
     requires bare { p ≡ bare_of text.now }
     ensures { Read text.now result }
 {
+    let minus_one = minus_one(alloc, p.field)?;
     let scope = Scope {
         kind: p.field,
         text,
         generators: p.generators.as_slice(),
+        minus_one: &minus_one,
     };
     let claims = parse_text(alloc, &scope)?;
     if let Some((place, reason)) = late_refusal(&scope, &p, claims.as_slice()) {

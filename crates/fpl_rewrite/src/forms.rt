@@ -228,13 +228,13 @@ fn form<F: Field>(
     match e {
         Expr::Gen(g) => unit(alloc, table, symbols, *g),
         Expr::Zero => zero_row(alloc, table, symbols),
-        Expr::Sum(members) => form_all(alloc, table, p, symbols, members),
+        Expr::Sum(members) => form_all(alloc, table, p, symbols, members.get()),
         Expr::Times(c, factor) => {
             if !is_of_some_weight(table, p, factor.get()) {
                 return zero_row(alloc, table, symbols);
             }
             let row = form(alloc, table, p, symbols, factor.get())?;
-            multiple(table, c, row)
+            multiple(table, &c.number(), row)
         }
         Expr::Br(a, b) => {
             if !is_of_some_weight(table, p, e) {

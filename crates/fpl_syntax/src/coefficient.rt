@@ -1,11 +1,13 @@
-ghost use Rattle.std.specs.Prelude.{◌≡◌, ◌≤◌, pos, IsTrue};
+ghost use Rattle.std.specs.Prelude.{◌≡◌, ◌≤◌, pos, true, IfOk, IsTrue};
 ghost use Rattle.fpl_numbers.specs.Numbers.{bound};
 ghost use Rattle.fpl_numbers.specs.Quotients.{quotient_of};
 ghost use Rattle.fpl_syntax.specs.Grammar.{coefficient_of, signed, or_nought};
 ghost use Rattle.fpl_syntax.specs.Kinds.{is_field};
 
+use fpl_model::Scalar;
 use fpl_numbers::{Kind, Num};
 use fpl_scalar::quotient;
+use std::alloc::{AllocError, Global};
 
 /// The greatest number that a text may write.
 const MOST: u128 = 170141183460469231731687303715884105727;
@@ -46,4 +48,12 @@ pub fn coefficient(kind: Kind, negative: bool, a: u128, b: u128) -> Num
         return NOUGHT;
     }
     quotient_or_nought(kind, negative, a, b)
+}
+
+/// The number of a term that has a `-` and no number.
+pub fn minus_one(alloc: Global, kind: Kind) -> Result<Scalar, AllocError>
+    requires { IsTrue (is_field kind) }
+    ensures { IfOk result (λ c. c ≡ coefficient_of kind true 1 1) }
+{
+    Scalar::new(alloc, coefficient(kind, true, 1, 1))
 }

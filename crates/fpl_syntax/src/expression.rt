@@ -6,7 +6,7 @@ ghost use Rattle.fpl_syntax.specs.Machine.{Moves, Takes, fresh, summed, settled,
 use crate::coefficient::coefficient;
 use crate::naming::number_of;
 use crate::{Numeral, Scope, Symbol};
-use fpl_model::{Expr, Exprs};
+use fpl_model::{Expr, Members, Scalar};
 use sqlite_items::{Boxed, Items};
 use std::alloc::{AllocError, Global};
 
@@ -52,7 +52,7 @@ pub enum Opener {
 #[derive(Drop)]
 pub struct Frame {
     pub opener: Opener,
-    pub terms: Exprs,
+    pub terms: Members,
     pub negative: bool,
     pub scale: Scale,
 }
@@ -61,7 +61,7 @@ pub struct Frame {
 #[derive(Drop)]
 pub struct Partial {
     pub enclosing: Items<Frame>,
-    pub terms: Exprs,
+    pub terms: Members,
     pub negative: bool,
 }
 
@@ -71,7 +71,7 @@ impl Partial {
     {
         Partial {
             enclosing: Items::new(alloc),
-            terms: Items::new(alloc),
+            terms: Members::new(alloc),
             negative: false,
         }
     }
@@ -91,16 +91,19 @@ fn term(
             if !negative {
                 return Ok(e);
             }
-            coefficient(scope.kind, negative, 1, 1)
+            scope.minus_one.share()?
         }
-        Scale::Whole(n) => coefficient(scope.kind, negative, n.value, 1),
-        Scale::Quotient(n, d) => coefficient(scope.kind, negative, n.value, d.value),
+        Scale::Whole(n) => Scalar::new(alloc, coefficient(scope.kind, negative, n.value, 1))?,
+        Scale::Quotient(n, d) => Scalar::new(
+            alloc,
+            coefficient(scope.kind, negative, n.value, d.value),
+        )?,
     };
     Ok(Expr::Times(c, Boxed::new(alloc, e)?))
 }
 
 // The sum of the terms of a level and a last one.
-fn sum_up(terms: Exprs, last: Expr) -> Result<Expr, AllocError>
+fn sum_up(alloc: Global, terms: Members, last: Expr) -> Result<Expr, AllocError>
     ensures { IfOk result (λ e. e ≡ summed terms last) }
 {
     if terms.is_empty() {
@@ -108,7 +111,7 @@ fn sum_up(terms: Exprs, last: Expr) -> Result<Expr, AllocError>
     }
     let mut terms = terms;
     terms.push(last)?;
-    Ok(Expr::Sum(terms))
+    terms.sum(alloc)
 }
 
 // A factor is read.
@@ -133,7 +136,7 @@ fn open(
 ) -> Result<Option<Wait>, AllocError>
     ensures { IfOk result (λ next. Moves partial.new next (opened partial.old opener scale)) }
 {
-    let terms = std::mem::replace(&mut partial.terms, Items::new(alloc));
+    let terms = std::mem::replace(&mut partial.terms, Members::new(alloc));
     let negative = std::mem::replace(&mut partial.negative, false);
     partial.enclosing.push(Frame {
         opener,
@@ -211,26 +214,11 @@ fn begin_sum(
     }
 }
 
-// Most sums have two terms, so room is taken for two at first.
-fn push_term(alloc: Global, terms: &mut Exprs, t: Expr) -> Result<(), AllocError>
-    ensures { OnOk result (terms.new ≡ terms.old ++ t ∷ []) }
-{
-    if terms.is_empty() {
-        *terms = Items::from_vec(Vec::with_capacity(alloc, 2)?);
-    }
-    terms.push(t)
-}
-
 // A further term, after its sign.
-fn go_on(
-    alloc: Global,
-    partial: &mut Partial,
-    t: Expr,
-    negative: bool,
-) -> Result<Option<Wait>, AllocError>
+fn go_on(partial: &mut Partial, t: Expr, negative: bool) -> Result<Option<Wait>, AllocError>
     ensures { IfOk result (λ next. Moves partial.new next (signed (record partial.old { terms = partial.old.terms ++ t ∷ [] }) negative)) }
 {
-    push_term(alloc, &mut partial.terms, t)?;
+    partial.terms.push(t)?;
     Ok(sign(partial, negative))
 }
 
@@ -238,8 +226,8 @@ fn go_on(
 fn take_sum(alloc: Global, partial: &mut Partial, t: Expr) -> Result<Expr, AllocError>
     ensures { IfOk result (λ e. (e ≡ summed partial.old.terms t) × (partial.new ≡ record partial.old { terms = [] })) }
 {
-    let terms = std::mem::replace(&mut partial.terms, Items::new(alloc));
-    sum_up(terms, t)
+    let terms = std::mem::replace(&mut partial.terms, Members::new(alloc));
+    sum_up(alloc, terms, t)
 }
 
 // A factor in brackets or parentheses is read, which stands in this sum with this sign and number.
@@ -247,7 +235,7 @@ fn resume(
     alloc: Global,
     scope: &Scope,
     partial: &mut Partial,
-    terms: Exprs,
+    terms: Members,
     negative: bool,
     scale: Scale,
     e: Expr,
@@ -316,8 +304,8 @@ fn after_term(
     ensures { IfOk result (λ next. Moves partial.new next (after_term (sight scope.now) partial.old t symbol)) }
 {
     match symbol {
-        Symbol::Plus => go_on(alloc, partial, t, false),
-        Symbol::Minus => go_on(alloc, partial, t, true),
+        Symbol::Plus => go_on(partial, t, false),
+        Symbol::Minus => go_on(partial, t, true),
         _ => {
             let e = take_sum(alloc, partial, t)?;
             match take_frame(partial) {
@@ -418,5 +406,5 @@ pub fn finish(
     if !enclosing.is_empty() {
         return Ok(None);
     }
-    Ok(Some(sum_up(terms, t)?))
+    Ok(Some(sum_up(alloc, terms, t)?))
 }

@@ -8,6 +8,7 @@ mod parser;
 mod scope;
 mod symbol;
 
+pub use coefficient::minus_one;
 pub use naming::number_of;
 pub use parser::{Claim, ParseError, State, one_outcome, parse, step_state};
 pub use scope::Scope;

@@ -115,10 +115,10 @@ impl<F: Field> Table<F> {
         match e {
             Expr::Gen(g) => self.padded(alloc, self.image(*g)),
             Expr::Zero => self.zero_row(alloc),
-            Expr::Sum(members) => self.sum_of(alloc, p, members),
+            Expr::Sum(members) => self.sum_of(alloc, p, members.get()),
             Expr::Times(c, factor) => {
                 let row = self.value(alloc, p, factor.get())?;
-                self.multiple(c, row)
+                self.multiple(&c.number(), row)
             }
             Expr::Br(a, b) => {
                 let left = self.value(alloc, p, a.get())?;

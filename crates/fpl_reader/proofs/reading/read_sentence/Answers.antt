@@ -3,8 +3,11 @@ use Rattle.fpl_reader.specs.Reading.{scope_of}
 use Rattle.fpl_reader.proofs.Readings.{read_err, sight_is, late_refused, presented, refused_syntax, bare_known, bare_few, bare_weights, parsed_terms}
 use Rattle.fpl_reader.proofs.reading.read_sentence.Goals as goal
 
-pub invariant_of-scope : goal.invariant_of-scope
-invariant_of-scope c = record { few = rw c.as_slice.ensures (bare_few c.args.text.now c.args.p c.requires.bare c.requires.early); known = bare_known c.args.text.now c.args.p c.requires.bare c.requires.early }
+pub invariant_of-scope-clause-few : goal.invariant_of-scope-clause-few
+invariant_of-scope-clause-few c = rw c.as_slice.ensures (bare_few c.args.text.now c.args.p c.requires.bare c.requires.early)
+
+pub invariant_of-scope-clause-known : goal.invariant_of-scope-clause-known
+invariant_of-scope-clause-known c = bare_known c.args.text.now c.args.p c.requires.bare c.requires.early
 
 pub late_refusal-requires-clause-weights : goal.late_refusal-requires-clause-weights
 late_refusal-requires-clause-weights c = bare_weights c.args.text.now c.args.p c.requires.bare c.requires.early
@@ -16,7 +19,7 @@ late_refusal-requires-clause-terms c = λ unknown.
 
 pub returns-in_err-claims : goal.returns-in_err-claims
 returns-in_err-claims c =
-    let p = err_from_is_err_and c.from_residual.result c.from_residual.ensures.1 in
+    let p = err_from_is_err_and c.from_residual-in_err-claims.result c.from_residual-in_err-claims.ensures.1 in
     let scope = scope_of c.args.text.now c.args.p.field c.as_slice.result.now in
     rw (p.1, p.2) (read_err c.args.text.now _ (refused_syntax c.args.text.now scope _ c.requires.lexable c.requires.shallow c.in_err-claims.ensures.fault))
 
