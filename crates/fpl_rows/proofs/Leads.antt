@@ -46,7 +46,7 @@ pub lead_leads : (xs : List Num) (s : ℕ) → Some s ≡ lead_of xs → is_noug
 lead_leads xs s e = (lead_is xs (length xs) s (sym e)).leads
 
 -- the lead, from what stands there and above
-lead_down : (xs : List Num) (s n : ℕ) → 1 ≤ s → s ≤ n → is_nought (get_or xs (s - 1) (residue 0)) ≡ false → ((t : ℕ) → s ≤ t → t < n → is_nought (get_or xs t (residue 0)) ≡ true) → lead_below xs n ≡ Some s
+pub lead_down : (xs : List Num) (s n : ℕ) → 1 ≤ s → s ≤ n → is_nought (get_or xs (s - 1) (residue 0)) ≡ false → ((t : ℕ) → s ≤ t → t < n → is_nought (get_or xs t (residue 0)) ≡ true) → lead_below xs n ≡ Some s
 lead_down xs s zero one end z above = absurd (omega arith)
 lead_down xs s (suc n) one end z above = go (ℕ_discrete s (suc n)) (λ l. lead_down xs s n one l z (λ t m k. above t m (omega arith)))
   where
@@ -57,7 +57,7 @@ lead_down xs s (suc n) one end z above = go (ℕ_discrete s (suc n)) (λ l. lead
 pub lead_found : (xs : List Num) (s : ℕ) → 1 ≤ s → s ≤ length xs → is_nought (get_or xs (s - 1) (residue 0)) ≡ false → ((t : ℕ) → s ≤ t → t < length xs → is_nought (get_or xs t (residue 0)) ≡ true) → lead_of xs ≡ Some s
 lead_found xs s one end z above = lead_down xs s (length xs) one end z above
 
-none_below : (xs : List Num) (n : ℕ) → ((t : ℕ) → t < n → is_nought (get_or xs t (residue 0)) ≡ true) → lead_below xs n ≡ None
+pub none_below : (xs : List Num) (n : ℕ) → ((t : ℕ) → t < n → is_nought (get_or xs t (residue 0)) ≡ true) → lead_below xs n ≡ None
 none_below xs zero h = refl
 none_below xs (suc n) h = (let z : is_nought (get_or xs n (residue 0)) ≡ true = h n (omega arith) in rw z (none_below xs n (λ t l. h t (omega arith))))
 

@@ -1,5 +1,12 @@
 pub mod AtPositions
+pub mod Fillings
+pub mod Firsts
 pub mod Fits
 pub mod Leads
+pub mod Noughts
 pub mod Ones
+pub mod Packings
 pub mod Readings
+pub mod SpreadLeads
+pub mod SpreadSums
+pub mod Spreads

@@ -1,2 +1,4 @@
 pub mod Positions
+pub mod Packing
+pub mod Forms
 pub mod Meaning

@@ -1,6 +1,8 @@
 //! Rows of numbers over any field, and lists of rows.
 #![tactic(auto)]
 
+mod form;
+mod packed;
 mod places;
 mod row;
 mod rows;

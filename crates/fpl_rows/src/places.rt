@@ -2,17 +2,9 @@ ghost use Rattle.std.specs.Prelude.{◌≡◌, ◌≤◌, ◌<◌, ◌+◌, ◌-
 ghost use Rattle.fpl_numbers.specs.Numbers.{IsElement};
 ghost use Rattle.fpl_numbers.specs.Results.{Answers};
 ghost use Rattle.fpl_scalar.specs.Vectors.{AreElements, axpy_of, scale_of};
-ghost use Rattle.fpl_rows.specs.Positions.{lead_below, lead_of, next_of, added_at};
+ghost use Rattle.fpl_rows.specs.Positions.{lead_below, next_of, added_at};
 
 use fpl_scalar::{Field, Unfit};
-
-/// The greatest position whose number is not 0, counted from 1.
-pub fn lead<F: Field>(field: &F, row: &[F::Elem]) -> Option<usize>
-    ensures value { result ≡ lead_of (map F.number row.now) }
-    ensures within { IfSome result (λ s. s ≤ length row.now) }
-{
-    lead_within(field, row, row.len())
-}
 
 /// The greatest position of at most `most` whose number is not 0, counted from 1.
 pub fn lead_within<F: Field>(field: &F, row: &[F::Elem], most: usize) -> Option<usize>
@@ -28,6 +20,17 @@ pub fn lead_within<F: Field>(field: &F, row: &[F::Elem], most: usize) -> Option<
         s -= 1;
     }
     None
+}
+
+/// How many numbers are not 0.
+pub fn count_filled<F: Field>(field: &F, row: &[F::Elem]) -> usize {
+    let mut count = 0;
+    for i in 0..row.len() {
+        if !field.is_zero(row[i]) {
+            count += 1;
+        }
+    }
+    count
 }
 
 /// The least position above `after` whose number is not 0, counted from 1.

@@ -1,9 +1,11 @@
-ghost use Rattle.std.specs.Prelude.{◌≡◌, ◌≤◌, ◌<◌, ◌+◌, ◌-◌, ◌^◌, List, length, IfOk, IfErr, OnOk, IsTrue, ◌↔◌, None, slice_index_or, replicate, map, vec_len};
+ghost use Rattle.std.specs.Prelude.{◌≡◌, ◌≤◌, ◌<◌, ◌+◌, ◌-◌, ◌^◌, List, length, IfOk, IfErr, OnOk, OnErr, IsTrue, ◌↔◌, None, slice_index_or, replicate, map, vec_len};
 ghost use Rattle.fpl_numbers.specs.Numbers.{IsElement, residue};
 ghost use Rattle.fpl_numbers.specs.Results.{Gives};
 ghost use Rattle.fpl_scalar.specs.Vectors.{AreElements, axpy_of, scale_of};
 ghost use Rattle.fpl_rows.specs.Positions.{lead_below, lead_of, next_of, added_at};
 
+use crate::form::Form;
+use crate::packed::zeros;
 use crate::places;
 use fpl_scalar::{Fault, Field};
 use std::alloc::{AllocError, Global};
@@ -16,18 +18,19 @@ use std::marker::Model;
 pub struct Row<F: Field> {
     // tells which element is 0
     field: F,
-    numbers: Vec<F::Elem>,
+    form: Form<F>,
 }
 
 impl<F: Field> Model for Row<F> {
-    ghost use Rattle.std.specs.Prelude.{List, map, vec_len, ◌<◌, ◌^◌};
+    ghost use Rattle.std.specs.Prelude.{List, length, ◌<◌, ◌^◌};
     ghost use Rattle.fpl_numbers.specs.declared.number.Num.{Num};
+    ghost use Rattle.fpl_rows.specs.Forms.{numbers_in};
 
     ghost Value = { List Num };
 
-    ghost view = { λ r. map F.number r.numbers.items };
+    ghost view = { λ r. numbers_in F.number r.form };
 
-    ghost invariant = { λ r. vec_len r.numbers < 2 ^ 32 };
+    ghost invariant = { λ r. length (numbers_in F.number r.form) < 2 ^ 32 };
 }
 
 impl<F: Field> Row<F> {
@@ -36,14 +39,8 @@ impl<F: Field> Row<F> {
         ensures value { IfOk result (λ r. r ≡ replicate n (residue 0)) }
         ensures elements { IfOk result (λ r. AreElements (F.kind_of field.now) r) }
     {
-        let mut numbers = Vec::with_capacity(alloc, n as usize)?;
-        for _ in 0..n {
-            numbers.push(field.zero())?;
-        }
-        Ok(Row {
-            field: *field,
-            numbers,
-        })
+        let numbers = zeros(alloc, field, n)?;
+        Ok(Row::from_vec(field, numbers))
     }
 
     /// The row with these numbers, the first at position 1.
@@ -53,26 +50,42 @@ impl<F: Field> Row<F> {
     {
         Row {
             field: *field,
-            numbers,
+            form: Form::Dense(numbers),
         }
     }
 
     pub fn copy(&self, alloc: Global) -> Result<Row<F>, AllocError>
         ensures { IfOk result (λ r. r ≡ self.now) }
     {
-        let mut numbers = Vec::new(alloc);
-        numbers.extend_from_slice(&self.numbers)?;
-        Ok(Row {
-            field: self.field,
-            numbers,
-        })
+        let numbers = match &self.form {
+            Form::Dense(numbers) => Vec::from_slice(alloc, numbers)?,
+            Form::Sparse(packed) => packed.unpacked(&self.field)?,
+        };
+        Ok(Row::from_vec(&self.field, numbers))
     }
 
     pub fn len(&self) -> u32
         ensures value { result ≡ length self.now }
         ensures range { length self.now < 2 ^ 32 }
     {
-        self.numbers.len() as u32
+        match &self.form {
+            Form::Dense(numbers) => numbers.len() as u32,
+            Form::Sparse(packed) => packed.len(),
+        }
+    }
+
+    /// The same row, in the form that takes less memory: as it is where its numbers are seldom
+    /// 0, or where memory is wanting. A row that is done with is best packed; one that is added
+    /// to is unpacked first.
+    pub fn pack(self, alloc: Global, field: &F) -> Row<F>
+        requires { AreElements (F.kind_of field.now) self }
+        ensures { result ≡ self }
+    {
+        let Row { field: own, form } = self;
+        Row {
+            field: own,
+            form: form.packed(alloc, field),
+        }
     }
 
     /// The number at position `s`.
@@ -80,17 +93,17 @@ impl<F: Field> Row<F> {
         requires { (1 ≤ s) × (s ≤ length self.now) }
         ensures { F.number result ≡ slice_index_or self.now (s - 1) (residue 0) }
     {
-        self.numbers[s as usize - 1]
+        match &self.form {
+            Form::Dense(numbers) => numbers[s as usize - 1],
+            Form::Sparse(packed) => packed.at(&self.field, s - 1),
+        }
     }
 
     /// The greatest position whose number is not 0.
     pub fn lead(&self) -> Option<u32>
         ensures { result ≡ lead_of self.now }
     {
-        match places::lead(&self.field, &self.numbers) {
-            Some(s) => Some(s as u32),
-            None => None,
-        }
+        self.lead_within(self.len())
     }
 
     /// The greatest position of at most `most` whose number is not 0.
@@ -98,9 +111,14 @@ impl<F: Field> Row<F> {
         requires { most ≤ length self.now }
         ensures { result ≡ lead_below self.now most }
     {
-        match places::lead_within(&self.field, &self.numbers, most as usize) {
-            Some(s) => Some(s as u32),
-            None => None,
+        match &self.form {
+            Form::Dense(numbers) => {
+                match places::lead_within(&self.field, numbers, most as usize) {
+                    Some(s) => Some(s as u32),
+                    None => None,
+                }
+            }
+            Form::Sparse(packed) => packed.lead_within(&self.field, most),
         }
     }
 
@@ -108,9 +126,12 @@ impl<F: Field> Row<F> {
     pub fn next(&self, after: u32) -> Option<u32>
         ensures { result ≡ next_of self.now after }
     {
-        match places::next(&self.field, &self.numbers, after as usize) {
-            Some(s) => Some(s as u32),
-            None => None,
+        match &self.form {
+            Form::Dense(numbers) => match places::next(&self.field, numbers, after as usize) {
+                Some(s) => Some(s as u32),
+                None => None,
+            },
+            Form::Sparse(packed) => packed.next(&self.field, after),
         }
     }
 
@@ -129,7 +150,17 @@ impl<F: Field> Row<F> {
         ensures elements { OnOk result (AreElements (F.kind_of field.now) self.new) }
         ensures length { length self.new ≡ length self.old }
     {
-        match places::add_at(field, &mut self.numbers, s as usize - 1, c) {
+        let place = s as usize - 1;
+        let done = match &mut self.form {
+            Form::Dense(numbers) => places::add_at(field, numbers, place, c),
+            Form::Sparse(packed) => {
+                let mut numbers = packed.unpacked(field)?;
+                let done = places::add_at(field, &mut numbers, place, c);
+                self.form = Form::Dense(numbers);
+                done
+            }
+        };
+        match done {
             Ok(()) => Ok(()),
             Err(u) => Err(Fault::Unfit(u)),
         }
@@ -146,7 +177,16 @@ impl<F: Field> Row<F> {
         ensures elements { OnOk result (AreElements (F.kind_of field.now) self.new) }
         ensures length { length self.new ≡ length self.old }
     {
-        match places::axpy(field, &mut self.numbers, c, &other.numbers) {
+        let done = match &mut self.form {
+            Form::Dense(numbers) => other.form.axpy_to(field, numbers, c),
+            Form::Sparse(packed) => {
+                let mut numbers = packed.unpacked(field)?;
+                let done = other.form.axpy_to(field, &mut numbers, c);
+                self.form = Form::Dense(numbers);
+                done
+            }
+        };
+        match done {
             Ok(()) => Ok(()),
             Err(u) => Err(Fault::Unfit(u)),
         }
@@ -160,7 +200,16 @@ impl<F: Field> Row<F> {
         ensures elements { OnOk result (AreElements (F.kind_of field.now) self.new) }
         ensures length { length self.new ≡ length self.old }
     {
-        match places::scale(field, &mut self.numbers, c) {
+        let done = match &mut self.form {
+            Form::Dense(numbers) => places::scale(field, numbers, c),
+            Form::Sparse(packed) => {
+                let mut numbers = packed.unpacked(field)?;
+                let done = places::scale(field, &mut numbers, c);
+                self.form = Form::Dense(numbers);
+                done
+            }
+        };
+        match done {
             Ok(()) => Ok(()),
             Err(u) => Err(Fault::Unfit(u)),
         }

@@ -1,0 +1,67 @@
+ghost use Rattle.std.specs.Prelude.{◌≡◌, ◌≤◌, ◌<◌, ◌^◌, length, map};
+ghost use Rattle.fpl_numbers.specs.Numbers.{IsElement};
+ghost use Rattle.fpl_numbers.specs.Results.{Answers};
+ghost use Rattle.fpl_scalar.specs.Vectors.{AreElements, axpy_of};
+ghost use Rattle.fpl_rows.specs.Forms.{numbers_in};
+
+use crate::packed::Packed;
+use crate::places;
+use fpl_scalar::{Field, Kind, Unfit};
+use std::alloc::Global;
+
+/// How a row keeps its numbers.
+#[derive(Drop)]
+pub enum Form<F: Field> {
+    /// A number at each place.
+    Dense(Vec<F::Elem>),
+    /// The numbers that are not 0.
+    Sparse(Packed<F>),
+}
+
+/// How many numbers that are not 0 a row of `length` places may have at most for the packed form
+/// to be the better one: over fractions for the memory, over residues also for the time, since
+/// loops over residues take several places at once.
+fn most_packed(kind: Kind, length: usize) -> usize {
+    match kind {
+        Kind::Prime(_) => length / 32,
+        Kind::Rational => length / 2,
+    }
+}
+
+impl<F: Field> Form<F> {
+    /// The same numbers, packed where that is better. Where memory is wanting they stay as they are.
+    pub fn packed(self, alloc: Global, field: &F) -> Form<F>
+        requires few { length (numbers_in F.number self) < 2 ^ 32 }
+        requires elements { AreElements (F.kind_of field.now) (numbers_in F.number self) }
+        ensures { numbers_in F.number result ≡ numbers_in F.number self }
+    {
+        match self {
+            Form::Dense(numbers) => {
+                let count = places::count_filled(field, &numbers);
+                if count > most_packed(field.kind(), numbers.len()) {
+                    return Form::Dense(numbers);
+                }
+                match Packed::of(alloc, field, count, &numbers) {
+                    Ok(packed) => Form::Sparse(packed),
+                    Err(_) => Form::Dense(numbers),
+                }
+            }
+            Form::Sparse(packed) => Form::Sparse(packed),
+        }
+    }
+
+    /// Adds `c` times these numbers to the places at the front.
+    pub fn axpy_to(&self, field: &F, row: &mut [F::Elem], c: F::Elem) -> Result<(), Unfit>
+        requires at_most { length (numbers_in F.number self.now) ≤ length row.old }
+        requires row { AreElements (F.kind_of field.now) (map F.number row.old) }
+        requires factor { IsElement (F.kind_of field.now) (F.number c) }
+        requires other { AreElements (F.kind_of field.now) (numbers_in F.number self.now) }
+        ensures elements { AreElements (F.kind_of field.now) (map F.number row.new) }
+        ensures value { Answers (λ _. map F.number row.new) result (axpy_of (F.kind_of field.now) (map F.number row.old) (F.number c) (numbers_in F.number self.now)) }
+    {
+        match self {
+            Form::Dense(other) => places::axpy(field, row, c, other),
+            Form::Sparse(packed) => packed.axpy_to(field, row, c),
+        }
+    }
+}
