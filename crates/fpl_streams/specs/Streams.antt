@@ -12,7 +12,7 @@
 --
 -- A version has a stream through a weight where each of its sections has bytes. In the first version that asks that no origin be a cube, and that each
 -- number of a section have parts of at most 9223372036854775807; it asks nothing of the numbers that were only met on the way.
-use Rattle.std.specs.Prelude.{ℕ, zero, suc, ◌≡◌, ◌≤◌, ◌<◌, ◌^◌, List, [], ◌∷◌, ◌++◌, length, take, All, false, None, Result, Ok, Err}
+use Rattle.std.specs.Prelude.{ℕ, zero, suc, ◌≡◌, ◌≤◌, ◌<◌, ◌^◌, List, [], ◌∷◌, ◌++◌, length, take, All, true, false, None, Result, Ok, Err}
 use Rattle.std.specs.List.{flat_map}
 use Rattle.fpl_numbers.specs.declared.number.Kind.{Kind}
 use Rattle.fpl_numbers.specs.declared.number.Unfit.{Unfit}
