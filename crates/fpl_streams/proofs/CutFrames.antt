@@ -1,11 +1,10 @@
 -- Frames at the place where bytes that were cut end: what is whole is found, and what is cut off is the dropped tail.
-use Rattle.std.proofs.Common.{◌≡◌, ℕ, zero, suc, ◌+◌, ◌-◌, ◌^◌, ◌<◌, ◌≤◌, Bool, true, false, ltb, eqb, List, [], ◌∷◌, ◌++◌, length, take, drop, Some, None, Ok, Err, refl, sym, ap, ap₂, subst, ◌∙◌, append_assoc, arith, inl, inr}
+use Rattle.std.proofs.Common.{◌≡◌, ℕ, zero, suc, ◌+◌, ◌-◌, ◌^◌, ◌<◌, ◌≤◌, Bool, eqb, List, [], ◌∷◌, ◌++◌, length, take, drop, Some, None, Ok, Err, refl, sym, ap, ap₂, ◌∙◌, arith, inl, inr}
 use Rattle.std.specs.Prelude.{slice_range, if◌then◌else◌}
-use Rattle.std.specs.declared.option.Option.{Option}
 use Rattle.std.specs.declared.result.Result.{Result}
 use Rattle.std.specs.Int.{Width, w32, w64, byte_len, from_be_bytes, to_be_bytes}
 use Rattle.std.proofs.lemmas.Bool.{cases_lt, lt-ltb}
-use Rattle.std.proofs.lemmas.List.{take_at, drop_at, drop-drop, take_all, append-nil, length-append, length-take}
+use Rattle.std.proofs.lemmas.List.{take_at, drop_at, drop-drop, length-take}
 use Rattle.fpl_bytes.specs.declared.fault.ByteWhy.TheVariants.{SectionWeight}
 use Rattle.fpl_bytes.specs.declared.fault.BadBytes.{BadBytes}
 use Rattle.fpl_bytes.specs.Reading.{raw_at}
@@ -13,7 +12,7 @@ use Rattle.fpl_bytes.proofs.WholeNumbers.{wide32, wide64, raw_again}
 use Rattle.fpl_sections.specs.declared.frame.Frame.{Frame}
 use Rattle.fpl_sections.specs.declared.frame.Frame.TheVariants.{Whole, Tail}
 use Rattle.fpl_sections.specs.Spelling.{frame_bytes}
-use Rattle.fpl_sections.specs.Frames.{frame_at, sized_at, weighed_at, frame_of}
+use Rattle.fpl_sections.specs.Frames.{sized_at, weighed_at, frame_of}
 
 pub take_past : (xs ys : List ℕ) (n : ℕ) → length xs ≤ n → take n (xs ++ ys) ≡ xs ++ take (n - length xs) ys
 take_past [] ys n l = ap (λ (k : ℕ). take k ys) (let q : n ≡ n - 0 = omega arith in q)

@@ -1,14 +1,14 @@
 -- How many basis elements and how many origins there are at most.
 use Rattle.std.specs.Prelude.{ℕ, zero, suc, ◌≡◌, ◌≤◌, ◌<◌, ◌+◌, ◌*◌, ◌^◌, List, [], ◌∷◌, ◌++◌, length, map, sum, cond, Bool, true, false}
-use mathlib.Core.Path.{refl, sym, ap, ◌∙◌}
+use mathlib.Core.Path.{refl, ap, ◌∙◌}
 use native.Mathlib.Omega.{arith}
 use Rattle.std.proofs.lemmas.List.{length-append, length-map}
+use Rattle.std.proofs.lemmas.List.Sums.{sum_by-cons}
 use Rattle.fpl_numbers.specs.declared.number.Num.{Num}
 use Rattle.fpl_model.specs.declared.presentation.Equation.{Equation}
 use Rattle.fpl_model.specs.declared.presentation.Presentation.{Presentation}
-use Rattle.fpl_model.specs.Sound.{IsSound, count_equation, places}
+use Rattle.fpl_model.specs.Sound.{IsSound, count_equation}
 use Rattle.fpl_algebra.specs.Symbols.{symbols, symbols_of}
-use Rattle.fpl_log.specs.declared.step.Origin.{Origin}
 use Rattle.fpl_log.specs.declared.step.Origin.TheVariants.{Relation, Jacobi, Cube}
 use Rattle.fpl_table.specs.Plain.{PlainTable, symbols_in}
 use Rattle.fpl_table.specs.Push.{free_of, new_basis, push_of}
@@ -73,7 +73,9 @@ triples_most T few =
 
 equations_counted : (qs : List Equation) → length qs ≤ sum (map count_equation qs)
 equations_counted [] = omega arith
-equations_counted (q ∷ qs) = omega (arith, equations_counted qs)
+equations_counted (q ∷ qs) =
+    let more : sum (map count_equation (q ∷ qs)) ≡ count_equation q + sum (map count_equation qs) = sum_by-cons (λ (n : ℕ). n) (count_equation q) (map count_equation qs) in
+    omega (arith, equations_counted qs, more)
 
 pub relations_few : (p : Presentation) → IsSound p → length p.relations < 2 ^ 32
 relations_few p sound = omega (arith, equations_counted p.relations, sound.small)

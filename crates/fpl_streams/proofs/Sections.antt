@@ -1,5 +1,5 @@
 -- The section of a computed weight, in either version, is accepted with the rows that were computed, and kept as a run keeps that weight.
-use Rattle.std.proofs.Common.{◌≡◌, ℕ, suc, List, None, Ok, refl, sym, ap, ◌∙◌, inl}
+use Rattle.std.proofs.Common.{◌≡◌, suc, List, None, Ok, refl, sym, ap, ◌∙◌, inl}
 use Rattle.fpl_numbers.specs.declared.number.Num.{Num}
 use Rattle.fpl_numbers.specs.Results.{map_ok}
 use Rattle.fpl_rows.proofs.Fits.{ok_same}

@@ -1,7 +1,7 @@
 -- The section that a run keeps for a weight has bytes of the second version.
-use Rattle.std.specs.Prelude.{ℕ, suc, ◌≡◌, ◌≤◌, ◌<◌, ◌+◌, ◌*◌, ◌^◌, List, [], ◌∷◌, ◌++◌, length, Some, Ok, All, true, false}
+use Rattle.std.specs.Prelude.{ℕ, ◌≡◌, ◌≤◌, ◌<◌, ◌+◌, ◌^◌, List, [], ◌∷◌, ◌++◌, length, Ok, All, true}
 use Rattle.std.specs.List.{AllByRecursion}
-use mathlib.Core.Path.{refl, sym, ap, ◌∙◌, subst}
+use mathlib.Core.Path.{refl, sym, ap, subst}
 use native.Mathlib.Omega.{arith}
 use Rattle.std.proofs.lemmas.List.{length-append}
 use Rattle.std.proofs.lemmas.List.Elements.{All-contains, All-from_recursion}
@@ -14,17 +14,14 @@ use Rattle.fpl_numbers.specs.Results.{map_ok}
 use Rattle.fpl_rows.proofs.Fits.{all_head, all_tail}
 use Rattle.fpl_log.specs.declared.terms.Term.{Term}
 use Rattle.fpl_log.specs.declared.step.Origin.{Origin}
-use Rattle.fpl_log.specs.declared.step.Origin.TheVariants.{Relation, Jacobi, Cube, Row}
 use Rattle.fpl_log.specs.declared.step.Step.{Step}
 use Rattle.fpl_log.specs.declared.step.Step.TheVariants.{Insert, Close}
 use Rattle.fpl_log.specs.declared.closed.Coefficient.{Coefficient}
-use Rattle.fpl_log.specs.declared.section.Section.{Section}
 use Rattle.fpl_log.specs.Plain.{IsTermOf}
-use Rattle.fpl_elimination.specs.Plain.{Held, rows_of}
+use Rattle.fpl_elimination.specs.Plain.{Held}
 use Rattle.fpl_model.specs.declared.presentation.Presentation.{Presentation}
 use Rattle.fpl_table.specs.Plain.{PlainTable, symbols_in}
 use Rattle.fpl_next.specs.Holds.{Holds}
-use Rattle.fpl_rewrite.specs.Origins.{origins_of}
 use Rattle.fpl_faithful.proofs.Listed.{IsListed as IsOfWeight, listed_relation, listed_triple, listed_cube, listed}
 use Rattle.fpl_completion.specs.Weight.{close_weight}
 use Rattle.fpl_completion.specs.Section.{section_of, section_after}
@@ -65,8 +62,7 @@ module _ (kind : Kind) (field : IsField kind) where
   row_stored : (n after : ℕ) (cs : List Coefficient) → n ≤ 2000000 → is_formed n after cs ≡ true → All (λ c. IsElement kind c.number) cs → AllByRecursion (IsStoredCoefficient Two kind) cs
   row_stored n after [] few formed all = tt
   row_stored n after (c ∷ cs) few formed all =
-      let f = formed_cons n after c cs formed in
-      (
+      let f = formed_cons n after c cs formed in (
         record { symbol = (let end = f.0.within in omega (arith, end, few)); number = number_stored kind c.number field (all_head (λ (d : Coefficient). IsElement kind d.number) c cs all) },
         row_stored n c.symbol cs few f.1 (all_tail (λ (d : Coefficient). IsElement kind d.number) c cs all),
       )
@@ -100,26 +96,24 @@ module _ (T : PlainTable) (p : Presentation) (holds : Holds p T) where
   steps_stored steps ((Insert origin terms scale) ∷ ss) earlier (row ∷ rest) few numbers writable h =
       let number = all_head (HasNumbersOf T.kind) (Insert origin terms scale) ss numbers in
       let write = all_head (IsWritableStep T.kind) (Insert origin terms scale) ss writable in
-      let cites = terms_pass T.kind Inserts steps (length earlier) terms number.0 h.0.cites in
-      (
+      let cites = terms_pass T.kind Inserts steps (length earlier) terms number.0 h.0.cites in (
         (
           origin_stored origin (listed T p origin (origin_listed T p origin h.0.origin_is)),
           (number_stored T.kind scale field write.1, write.2),
           (write.3.0, terms_stored T.kind field (length earlier) terms (omega (arith, few)) cites),
         ),
         steps_stored steps ss (earlier ++ row ∷ []) rest (omega (arith, few, length-append earlier (row ∷ []))) (all_tail (HasNumbersOf T.kind) (Insert origin terms scale) ss numbers)
-        (all_tail (IsWritableStep T.kind) (Insert origin terms scale) ss writable) h.1,
+            (all_tail (IsWritableStep T.kind) (Insert origin terms scale) ss writable) h.1,
       )
   steps_stored steps ((Close of terms) ∷ ss) earlier (row ∷ rest) few numbers writable h =
       let number = all_head (HasNumbersOf T.kind) (Close of terms) ss numbers in
       let write = all_head (IsWritableStep T.kind) (Close of terms) ss writable in
       let cites = terms_pass T.kind Closes steps (length earlier) terms number h.0.cites in
       let named = named_within Inserts steps (length earlier) of h.0.of_named in
-      let end = named.1 in
-      (
+      let end = named.1 in (
         (omega (arith, end, few), (write.0, terms_stored T.kind field (length earlier) terms (omega (arith, few)) cites)),
         steps_stored steps ss (earlier ++ row ∷ []) rest (omega (arith, few, length-append earlier (row ∷ []))) (all_tail (HasNumbersOf T.kind) (Close of terms) ss numbers)
-        (all_tail (IsWritableStep T.kind) (Close of terms) ss writable) h.1,
+            (all_tail (IsWritableStep T.kind) (Close of terms) ss writable) h.1,
       )
 
   -- each step inserts or closes

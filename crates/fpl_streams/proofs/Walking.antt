@@ -1,6 +1,6 @@
 -- A run over a stream goes as the run for its presentation does: as long as sections stand whole they are adopted, and give what is computed; after
 -- the last one both compute.
-use Rattle.std.proofs.Common.{◌≡◌, ℕ, zero, suc, ◌+◌, ◌-◌, ◌^◌, ◌<◌, ◌≤◌, ◌⊎◌, inl, inr, Bool, true, false, List, [], ◌∷◌, ◌++◌, length, take, All, Some, None, Ok, Err, refl, sym, ap, ap₂, subst, ◌∙◌, append_assoc, arith}
+use Rattle.std.proofs.Common.{◌≡◌, ℕ, zero, suc, ◌+◌, ◌-◌, ◌^◌, ◌<◌, ◌≤◌, ◌⊎◌, inl, inr, Bool, true, false, List, [], ◌∷◌, ◌++◌, length, take, All, Ok, Err, refl, sym, ap, ap₂, subst, ◌∙◌, append_assoc, arith}
 use Rattle.std.specs.Prelude.{nat_lt, slice_range, if◌then◌else◌}
 use Rattle.std.specs.List.{flat_map}
 use Rattle.std.specs.declared.result.Result.{Result}
@@ -27,7 +27,7 @@ use Rattle.fpl_sections.specs.Reading.{payload_at}
 use Rattle.fpl_sections.specs.Spelling.{payload_bytes, frame_bytes, section_bytes_of}
 use Rattle.fpl_sections.proofs.Framed.{frame_found}
 use Rattle.fpl_sections.proofs.Bodies.{payload_again}
-use Rattle.fpl_resume.specs.Walk.{Stored, Stage, Stop, ended, failed, too_many, Walked, adopted, formed, framed, weighed, computed_as, walk_on, walk_of}
+use Rattle.fpl_resume.specs.Walk.{Stored, Stage, Stop, failed, too_many, Walked, adopted, formed, framed, weighed, computed_as, walk_on, walk_of}
 use Rattle.fpl_streams.specs.Streams.{nothing, number_of, section_in, sections_on, sections_in, HasBytes}
 use Rattle.fpl_streams.specs.Laws.{GiveSame, PassesWith}
 use Rattle.fpl_streams.proofs.OriginCounts.{symbols_counted}

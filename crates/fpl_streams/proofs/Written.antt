@@ -20,7 +20,7 @@ use Rattle.fpl_completion.specs.Section.{section_of}
 use Rattle.fpl_completion.proofs.Completed.{next_holds}
 use Rattle.fpl_bytes.specs.declared.version.Version.TheVariants.{Two}
 use Rattle.fpl_resume.specs.Walk.{Stage, Stop, failed, too_many, Walked, computed_as, walk_on, walk_of}
-use Rattle.fpl_streams.specs.Streams.{nothing, plain_walk, section_in, sections_on, sections_in, stream_of, HasBytes, IsStreamOf}
+use Rattle.fpl_streams.specs.Streams.{nothing, plain_walk, section_in, sections_on, sections_in, stream_of, HasBytes}
 use Rattle.fpl_streams.specs.Laws.{RunsKeepSections, RunsWriteStreams}
 use Rattle.fpl_streams.proofs.OriginCounts.{symbols_counted, IsFew, few_pushed}
 use Rattle.fpl_streams.proofs.StoredParts.{section_has_bytes}
