@@ -2,7 +2,7 @@
 --
 --   nothing                  nothing is stored
 --   plain_walk e p n         the run through n weights of a presentation for which nothing is stored
---   number_of version        the number of a version
+--   version_number v         the number of a version
 --   section_in v T p h       the section of a computed weight in a version: in the second as it is kept, without the steps of dependent origins; in the first
 --                            as it was recorded, with these
 --   sections_in v p n T      those of the n weights after a table's, or of as many as come before an operation that does not fit
@@ -10,8 +10,9 @@
 --   HasBytes v kind s        the parts of a section, and the length of its payload, are as bytes of the version can hold them
 --   IsStreamOf p bytes       the bytes are a stream of p in either version, through any weight, whole or cut at any byte after its head
 --
--- A version has a stream through a weight where each of its sections has bytes. In the first version that asks that no origin be a cube, and that each
--- number of a section have parts of at most 9223372036854775807; it asks nothing of the numbers that were only met on the way.
+-- A version has a stream through a weight where each of its sections has bytes. In the second version each has that a run comes to (RunsWriteStreams). In
+-- the first version it asks that no origin be a cube and that the parts of each number of a section be at most 9223372036854775807; it asks nothing of
+-- numbers that were only met on the way.
 use Rattle.std.specs.Prelude.{ℕ, zero, suc, ◌≡◌, ◌≤◌, ◌<◌, ◌^◌, List, [], ◌∷◌, ◌++◌, length, take, All, true, false, None, Result, Ok, Err}
 use Rattle.std.specs.List.{flat_map}
 use Rattle.fpl_numbers.specs.declared.number.Kind.{Kind}
@@ -40,9 +41,9 @@ nothing = record { version = 2; bytes = [] }
 abbrev pub plain_walk : (entries : ℕ) → Presentation → ℕ → Walked
 plain_walk entries p n = walk_of true entries p nothing n (begun p 0 false)
 
-abbrev pub number_of : Version → ℕ
-number_of One = 1
-number_of Two = 2
+abbrev pub version_number : Version → ℕ
+version_number One = 1
+version_number Two = 2
 
 abbrev pub section_in : Version → PlainTable → Presentation → Held → Section
 section_in One T p h = whole_section T None h
@@ -57,7 +58,7 @@ sections_in version p zero T = []
 sections_in version p (suc n) T = sections_on (section_in version T p) (λ h. sections_in version p n (push_of T (rows_of h.pivots))) (close_weight T p)
 
 abbrev pub stream_of : Version → Presentation → List Section → List ℕ
-stream_of version p sections = head_bytes_of (number_of version) p ++ flat_map (section_bytes_of version p.field) sections
+stream_of version p sections = head_bytes_of (version_number version) p ++ flat_map (section_bytes_of version p.field) sections
 
 pub record HasBytes (version : Version) (kind : Kind) (s : Section) : Type 0 where
   pub parts : IsStoredSection version kind s
@@ -70,5 +71,5 @@ pub record IsStreamOf (p : Presentation) (bytes : List ℕ) : Type 0 where
   pub through : ℕ
   pub sections : All (HasBytes version p.field) (sections_in version p through (start_of p))
   pub end : ℕ
-  pub head : length (head_bytes_of (number_of version) p) ≤ end
+  pub head : length (head_bytes_of (version_number version) p) ≤ end
   pub front : bytes ≡ take end (stream_of version p (sections_in version p through (start_of p)))
