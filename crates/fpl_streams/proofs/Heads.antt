@@ -1,5 +1,5 @@
 -- The head of a stream, what follows it, and the laws of own streams.
-use Rattle.std.proofs.Common.{◌≡◌, ℕ, ◌+◌, ◌-◌, ◌≤◌, ◌⊎◌, inl, inr, true, false, List, [], ◌++◌, length, take, refl, sym, subst, ◌∙◌, arith}
+use Rattle.std.proofs.Common.{◌≡◌, ℕ, ◌+◌, ◌-◌, ◌≤◌, ◌⊎◌, inl, inr, true, false, List, [], ◌++◌, length, take, refl, sym, ap, subst, ◌∙◌, arith}
 use Rattle.std.specs.List.{flat_map}
 use Rattle.fpl_model.specs.declared.presentation.Presentation.{Presentation}
 use Rattle.fpl_canonical.specs.Canonical.{canonical_of}
@@ -14,7 +14,7 @@ use Rattle.fpl_checkpoint.specs.Heads.{head_bytes_of}
 use Rattle.fpl_checkpoint.specs.Scans.{HasHead}
 use Rattle.fpl_checkpoint.proofs.OneHead.{head_again, one_head}
 use Rattle.fpl_streams.specs.Streams.{plain_walk, version_number, sections_in, IsStreamOf}
-use Rattle.fpl_streams.specs.Laws.{GiveSame, HaveHeads, walk_from, OwnStreamsGive, PassesWith, OwnStreamsPass}
+use Rattle.fpl_streams.specs.Laws.{GiveSame, HaveHeads, HeadsAreOf, walk_from, OwnStreamsGive, PassesWith, OwnStreamsPass}
 use Rattle.fpl_streams.proofs.CutFrames.{take_past}
 use Rattle.fpl_streams.proofs.Walking.{Follow, gives, passes}
 
@@ -55,7 +55,10 @@ module _ (p : Presentation) (bytes : List ℕ) (s : IsStreamOf p bytes) where
       (passes s.version p bytes entries most limit s.through (start_of p) [] (9 + length (canonical_of p)) (start_holds p s.sound) (omega (arith, range)) s.sections follow)
 
 pub have_heads : HaveHeads
-have_heads p bytes s = (head_of p bytes s, has_head p bytes s, refl)
+have_heads p bytes s = (head_of p bytes s, has_head p bytes s)
+
+pub heads_are_of : HeadsAreOf
+heads_are_of p bytes h s is = sym (ap (λ (g : Head). g.presentation) (head_is p bytes s h is))
 
 pub own_streams_give : OwnStreamsGive
 own_streams_give p bytes h entries limit s is most range = stream_gives p bytes s h entries limit is most range

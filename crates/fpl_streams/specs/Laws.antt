@@ -1,7 +1,9 @@
 -- Laws of own streams.
 --
 --   GiveSame v w          two runs stop for the same reason, or neither stops, with the same table and the same sections
---   HaveHeads             a stream of p has a head, which holds p
+--   HaveHeads             a stream of p has a head
+--   HeadsAreOf            and its head holds p
+--   walk_from .. h n      the run through n weights from the head of a checkpoint
 --   OwnStreamsGive        a run that computes gives over a stream of p what it gives for p alone, for every number of entries and every limit of a command
 --   PassesWith stop       a run came to its limit; or nothing more was stored; or there were too many symbols
 --   OwnStreamsPass        a run that only checks never refuses a stream of p
@@ -26,9 +28,11 @@ pub record GiveSame (v w : Walked) : Type 0 where
   pub sections : v.stage.sections ≡ w.stage.sections
 
 abbrev pub HaveHeads : Type 0
-HaveHeads = (p : Presentation) (bytes : List ℕ) → IsStreamOf p bytes → (h : Head) × HasHead bytes h × (h.presentation ≡ p)
+HaveHeads = (p : Presentation) (bytes : List ℕ) → IsStreamOf p bytes → (h : Head) × HasHead bytes h
 
--- the run from a head through n weights
+abbrev pub HeadsAreOf : Type 0
+HeadsAreOf = (p : Presentation) (bytes : List ℕ) (h : Head) → IsStreamOf p bytes → HasHead bytes h → h.presentation ≡ p
+
 abbrev pub walk_from : (computes : Bool) → (entries : ℕ) → List ℕ → Head → ℕ → Walked
 walk_from computes entries bytes h n = walk_of computes entries h.presentation (record { version = h.version; bytes = bytes }) n (begun h.presentation h.end true)
 

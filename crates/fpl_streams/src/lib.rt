@@ -3,13 +3,14 @@
 //! Each function does nothing: what it ensures are laws.
 #![tactic(auto)]
 
-ghost use Rattle.fpl_streams.specs.Laws.{HaveHeads, OwnStreamsGive, OwnStreamsPass, RunsKeepSections, RunsWriteStreams, SmallStreams};
+ghost use Rattle.fpl_streams.specs.Laws.{HaveHeads, HeadsAreOf, OwnStreamsGive, OwnStreamsPass, RunsKeepSections, RunsWriteStreams, SmallStreams};
 
 /// A stream of a presentation, in either version, whole or cut at any byte after its head, gives
 /// what the presentation gives: the same table, the same sections, the same reason to stop. A
 /// check never refuses it.
 pub fn own_streams()
     ensures heads { HaveHeads }
+    ensures holds { HeadsAreOf }
     ensures give { OwnStreamsGive }
     ensures pass { OwnStreamsPass }
 {}
