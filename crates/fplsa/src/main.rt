@@ -16,6 +16,8 @@ mod spelling;
 mod status;
 mod stream;
 #[cfg(test)]
+mod stream_tests;
+#[cfg(test)]
 mod tests;
 mod walk;
 mod words;

@@ -1,5 +1,5 @@
 //! Putting a text to the output.
-ghost use Rattle.std.specs.Prelude.{◌≡◌, ◌++◌, ◌∷◌, ◌<◌, ◌^◌, ℕ, List, [], length, IfOk};
+ghost use Rattle.std.specs.Prelude.{◌≡◌, ◌≤◌, ◌++◌, ◌∷◌, ◌<◌, ◌^◌, ℕ, List, [], length, IfOk, IfErr};
 ghost use Rattle.fpl_log.specs.declared.section.Section.{Section};
 ghost use Rattle.fpl_bytes.specs.declared.version.Version.TheVariants.{Two};
 ghost use Rattle.fpl_sections.specs.Spelling.{section_bytes_of};
@@ -41,7 +41,10 @@ impl Cut {
 
 // Puts a text, where there was memory to make it.
 fn put_text<O: Sink>(out: &mut O, made: Result<Vec<u8>, AllocError>) -> Result<(), Cut>
-    ensures { (text : List ℕ) → IfOk made (λ made. made.items ≡ text) → Puts text (O.taken out.old) (O.taken out.new) (O.faults out.old) (O.faults out.new) result }
+    ensures puts { (text : List ℕ) → IfOk made (λ made. made.items ≡ text) → Puts text (O.taken out.old) (O.taken out.new) result }
+    ensures untouched { IfErr result (λ cut. cut ≡ Cut.NoMemory → O.taken out.new ≡ O.taken out.old) }
+    ensures fault { IfErr result (λ cut. cut ≡ Cut.WriteFault → Rose (O.faults out.old) (O.faults out.new)) }
+    ensures later { O.faults out.old ≤ O.faults out.new }
 {
     match made {
         Ok(text) => match write_whole(out, &text) {
@@ -71,7 +74,9 @@ pub(crate) fn put_head<O: Sink>(
     out: &mut O,
 ) -> Result<(), Cut>
     requires { length (canonical_of presentation.now) < 2 ^ 32 }
-    ensures { Puts (head_bytes_of VERSION presentation.now) (O.taken out.old) (O.taken out.new) (O.faults out.old) (O.faults out.new) result }
+    ensures puts { Puts (head_bytes_of VERSION presentation.now) (O.taken out.old) (O.taken out.new) result }
+    ensures fault { IfErr result (λ cut. cut ≡ Cut.WriteFault → Rose (O.faults out.old) (O.faults out.new)) }
+    ensures later { O.faults out.old ≤ O.faults out.new }
 {
     put_text(out, head_bytes(alloc, presentation))
 }
@@ -83,7 +88,9 @@ pub(crate) fn put_last_section<F: Field, O: Sink>(
     out: &mut O,
 ) -> Result<(), Cut>
     requires { 0 < run.now.stage.table.weight }
-    ensures { (before : List Section) (section : Section) → run.now.stage.sections ≡ before ++ section ∷ [] → Puts (section_bytes_of Two run.now.presentation.field section) (O.taken out.old) (O.taken out.new) (O.faults out.old) (O.faults out.new) result }
+    ensures puts { (before : List Section) (section : Section) → run.now.stage.sections ≡ before ++ section ∷ [] → Puts (section_bytes_of Two run.now.presentation.field section) (O.taken out.old) (O.taken out.new) result }
+    ensures fault { IfErr result (λ cut. cut ≡ Cut.WriteFault → Rose (O.faults out.old) (O.faults out.new)) }
+    ensures later { O.faults out.old ≤ O.faults out.new }
 {
     let field = run.state().presentation().field;
     let sections = run.state().sections();
