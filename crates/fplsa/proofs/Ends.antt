@@ -82,7 +82,7 @@ module _ (c : Command) (s : Start) (stop : code.Stop) (stage : Stage) (r : Reply
           (subst (λ (v : View). (walk_of (does_compute v) c.entries s.presentation s.stored c.limit (begun_for s)).stop ≡ Some ended) view (ap (λ (w : Walked). w.stop) whole)))
       go full (failed f) whole h = at_fault (inl view) (ap (λ (v : View). written_before v s.presentation (walk_for c s).stage.sections) view) same f (ap (λ (w : Walked). w.stop) whole) (known f h full)
 
-  pub check_stopped : c.view ≡ Check → ((stop ≡ told.Ended → ⊥) → b ≡ a) → ((walk_for c s).stop ≡ Some ended → stop ≡ told.Ended → Ends (AnswersStart c s) a b r) →
+  pub check_stopped : c.view ≡ Check → ((stop ≡ told.Ended → ⊥) → b ≡ a) → (walk_for c s ≡ ends stage (Some ended) → stop ≡ told.Ended → Ends (AnswersStart c s) a b r) →
       HasStopped stop stage (walk_for c s) → Ends (AnswersStart c s) a b r
   check_stopped view same over (inl e) = at_memory (same (λ k. cc)) e
   check_stopped view same over (inr k) = elim (memory_or stop) [
@@ -91,7 +91,7 @@ module _ (c : Command) (s : Start) (stop : code.Stop) (stage : Stage) (r : Reply
   ]
     where
       go : (stop ≡ told.NoMemory → ⊥) → (x : Stop) → walk_for c s ≡ ends stage (Some x) → IsStop {X = Stage} stop (Err x) → Ends (AnswersStart c s) a b r
-      go full ended whole h = over (ap (λ (w : Walked). w.stop) whole) (ended_told stop h full)
+      go full ended whole h = over whole (ended_told stop h full)
       go full (failed f) whole h =
           at_fault (inr (inr view)) (ap (λ (v : View). written_before v s.presentation (walk_for c s).stage.sections) view)
           (same (λ k. not_ended f stop h k)) f (ap (λ (w : Walked). w.stop) whole) (known f h full)

@@ -76,6 +76,7 @@ fn walk<F: Field, L: Ledger>(
 pub(crate) fn ending(stop: Stop) -> Outcome
     ensures memory { stop ≡ Stop.NoMemory → reply_of result ≡ no_memory }
     ensures reply { (f : Fault) → IsStop {X = Stage} stop (Err (failed f)) → (stop ≡ Stop.NoMemory → ⊥) → reply_of result ≡ stopped [] f }
+    ensures write { status_of (reply_of result) ≡ Status.WriteFault → ⊥ }
 {
     match stop {
         Stop::TooMany { weight, count } => Outcome::Limit { weight, count },
