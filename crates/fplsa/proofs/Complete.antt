@@ -27,16 +27,16 @@ use Rattle.fpl_resume.specs.Walk.{Stored, Stage, Stop, failed, Walked, next_weig
 use Rattle.fplsa.specs.declared.status.Status.{Status}
 use Rattle.fplsa.specs.declared.status.Status.TheVariants.{Done, Usage, Refused, BadCheckpoint, Limit, Overflow, NoMemory, ReadFault, WriteFault, NotBuilt}
 use Rattle.fplsa.specs.declared.words.View.{View}
-use Rattle.fplsa.specs.declared.words.View.TheVariants.{Table, Check, Sample}
+use Rattle.fplsa.specs.declared.words.View.TheVariants.{Table, Checkpoint, Check, Sample}
 use Rattle.fplsa.specs.declared.words.Command.{Command}
 use Rattle.fplsa.specs.Reply.{Reply, IsFree, status_of}
 use Rattle.fplsa.specs.Start.{of_text, does_compute, begun_for}
-use Rattle.fplsa.specs.Answer.{Answers, AnswersCommand, AnswersText, AnswersStart, IsCheckpoint}
-use Rattle.fplsa.specs.Answer.AnswersStart.{view_not_built, failed_at, table_done, check_done}
+use Rattle.fplsa.specs.Answer.{Answers, AnswersCommand, AnswersText, AnswersStart, IsCheckpoint, IsBuilt}
+use Rattle.fplsa.specs.Answer.AnswersStart.{view_not_built, failed_at, table_done, checkpoint_done, check_done}
 use Rattle.fplsa.specs.Answer.AnswersText.{text_too_long, no_presentation, presentation}
 use Rattle.fplsa.specs.Answer.AnswersCommand.{unread, input_too_long, checkpoint, text}
 use Rattle.fplsa.specs.Answer.Answers.{no_command, command}
-use Rattle.fplsa.specs.Run.{IsReplied, HasTable}
+use Rattle.fplsa.specs.Run.{IsReplied, IsOfTable, HasTable}
 use Rattle.fplsa.proofs.Names.{one_command, command_in_range}
 use Rattle.fplsa.proofs.Marks.{no_mark}
 use Rattle.fplsa.proofs.Parts.{counts_through}
@@ -119,16 +119,22 @@ module _ (words : List (List ℕ)) (bytes : List ℕ) (h : HasTable words bytes)
       (λ held run. goes_on n (raised_by stage p held) (next_holds p stage.table holds held run (omega (arith, low, range.0)) (few_symbols stage.table holds low)) (next_raised p stage.table holds held run raised) refl (omega (arith, sum)))
       (close_weight stage.table p) refl
 
+  -- its view is built, and computes the weights that aren't stored
+  computes : (v : View) → IsOfTable v → IsBuilt v × (does_compute v ≡ true)
+  computes v (inl e) = (inl e, ap does_compute e)
+  computes v (inr e) = (inr (inl e), ap does_compute e)
+
   start_table : (r : Reply) → AnswersStart h.command (of_text p) r → status_of r ≡ Done
-  start_table _ (view_not_built a) = absurd (a (inl h.view))
+  start_table _ (view_not_built a) = absurd (a (computes h.command.view h.view).0)
   start_table _ (failed_at a f e) =
       let over : (walk_of (does_compute h.command.view) h.command.entries p (of_text p).stored h.command.limit (begun_for (of_text p))).stop ≡ Some (failed f) = e in
       let table : (walk_of true h.command.entries p (of_text p).stored h.command.limit (begun_for (of_text p))).stop ≡ Some (failed f) =
-      subst (λ (v : View). (walk_of (does_compute v) h.command.entries p (of_text p).stored h.command.limit (begun_for (of_text p))).stop ≡ Some (failed f)) h.view over in
+      subst (λ (b : Bool). (walk_of b h.command.entries p (of_text p).stored h.command.limit (begun_for (of_text p))).stop ≡ Some (failed f)) (computes h.command.view h.view).1 over in
       let on = goes_on h.command.limit (begun_for (of_text p)) (start_holds p sound) started refl (omega arith) in
       let no : None ≡ Some (failed f) = sym on ∙ table in
       cc
   start_table _ (table_done a e t) = refl
+  start_table _ (checkpoint_done a e) = refl
   start_table _ (check_done a e) = refl
 
   text_table : (r : Reply) → AnswersText h.command bytes r → status_of r ≡ Done
@@ -136,12 +142,16 @@ module _ (words : List (List ℕ)) (bytes : List ℕ) (h : HasTable words bytes)
   text_table _ (no_presentation l place reason k) = absurd (not_both bytes p place reason h.said k)
   text_table _ (presentation l q k r a) = start_table r (subst (λ (x : Presentation). AnswersStart h.command (of_text x) r) (one_presentation bytes q p k h.said) a)
 
+  apart : (v : View) → IsOfTable v → (w : View) → v ≡ w → (Table ≡ w → ⊥) → (Checkpoint ≡ w → ⊥) → ⊥
+  apart v (inl e) w k table checkpoint = table (sym e ∙ k)
+  apart v (inr e) w k table checkpoint = checkpoint (sym e ∙ k)
+
   plain : IsCheckpoint h.command bytes → ⊥
-  plain (inl e) = let no : Table ≡ Check = sym h.view ∙ e in cc
+  plain (inl e) = apart h.command.view h.view Check e (λ k. cc) (λ k. cc)
   plain (inr m) = no_mark bytes p h.said m
 
   command_table : (r : Reply) → AnswersCommand h.command bytes r → status_of r ≡ Done
-  command_table _ (unread u) = let no : Table ≡ Sample = sym h.view ∙ u in cc
+  command_table _ (unread u) = absurd (apart h.command.view h.view Sample u (λ k. cc) (λ k. cc))
   command_table _ (input_too_long u l) = absurd (omega (arith, l, h.short))
   command_table _ (checkpoint u l m r a) = absurd (plain m)
   command_table _ (text u l m r a) = text_table r a
@@ -161,8 +171,3 @@ completes words (Some bytes) result oo on eo en before now R W (inl free) read w
 ]
 completes words (Some bytes) result oo on eo en before now R W (inr replied) read write = λ h no_read no_write.
     inl (sym replied.status ∙ table_reply words bytes h replied.reply replied.answers)
-
-pub fault_read : (R : Type 0) (r w : Reply) → (status_of w ≢ WriteFault → w ≡ r) → (status_of r ≡ ReadFault → R) → status_of w ≡ ReadFault → R
-fault_read R r w same h e =
-    let other : status_of w ≢ WriteFault = λ f. cc in
-    h (ap status_of (sym (same other)) ∙ e)

@@ -1,5 +1,5 @@
 -- Words and the bytes of an input have at most one reply.
-use Rattle.std.proofs.Common.{◌≡◌, ℕ, ◌<◌, ◌≤◌, inl, inr, List, [], None, Some, refl, sym, ap, ◌∙◌, subst, arith}
+use Rattle.std.proofs.Common.{◌≡◌, ℕ, ◌<◌, ◌≤◌, ◌⊎◌, inl, inr, List, [], None, Some, refl, sym, ap, ◌∙◌, subst, arith}
 use mathlib.Core.Path.{ap₂}
 use Rattle.std.specs.declared.option.Option.{Option}
 use Rattle.fpl_model.specs.declared.presentation.Presentation.{Presentation}
@@ -8,12 +8,12 @@ use Rattle.fpl_bytes.specs.declared.fault.BadBytes.{BadBytes}
 use Rattle.fpl_checkpoint.specs.declared.head.Head.{Head}
 use Rattle.fpl_checkpoint.proofs.OneHead.{one_head, not_bad, one_refusal as one_refusal_of_head}
 use Rattle.fpl_resume.specs.Walk.{Fault, bad_bytes, Stop, ended, failed}
-use Rattle.fplsa.specs.declared.words.View.TheVariants.{Table, Check}
+use Rattle.fplsa.specs.declared.words.View.TheVariants.{Table, Checkpoint, Check}
 use Rattle.fplsa.specs.declared.words.Command.{Command}
 use Rattle.fplsa.specs.Reply.{Reply, refused, stopped}
 use Rattle.fplsa.specs.Start.{Start, of_text, of_head, walk_for}
-use Rattle.fplsa.specs.Answer.{AnswersStart, AnswersCommand, AnswersText, AnswersCheckpoint, reason_text}
-use Rattle.fplsa.specs.Answer.AnswersStart.{view_not_built, failed_at, table_done, check_done}
+use Rattle.fplsa.specs.Answer.{AnswersStart, AnswersCommand, AnswersText, AnswersCheckpoint, written_before, reason_text}
+use Rattle.fplsa.specs.Answer.AnswersStart.{view_not_built, failed_at, table_done, checkpoint_done, check_done}
 use Rattle.fplsa.specs.Answer.AnswersText.{text_too_long, no_presentation, presentation}
 use Rattle.fplsa.specs.Answer.AnswersCheckpoint.{no_head, head}
 use Rattle.fplsa.specs.Answer.AnswersCommand.{unread, input_too_long, checkpoint, text}
@@ -24,27 +24,42 @@ use Rattle.fplsa.proofs.Names.{one_command}
 stops_one : (s t : Stop) (o : Option Stop) → o ≡ Some s → o ≡ Some t → s ≡ t
 stops_one s t o e f = cc
 
-faults_one : (f g : Fault) (o : Option Stop) → o ≡ Some (failed f) → o ≡ Some (failed g) → stopped [] f ≡ stopped [] g
-faults_one f g o d e = let same : failed f ≡ failed g = stops_one (failed f) (failed g) o d e in cc
+faults_one : (t : List ℕ) (f g : Fault) (o : Option Stop) → o ≡ Some (failed f) → o ≡ Some (failed g) → stopped t f ≡ stopped t g
+faults_one t f g o d e = let same : failed f ≡ failed g = stops_one (failed f) (failed g) o d e in cc
+
+-- a walk that stops at a fault doesn't come to an end
+no_fault : (f : Fault) (o : Option Stop) → o ≡ Some (failed f) → o ≡ None → ⊥
+no_fault f o e k = let no : Some (failed f) ≡ None = sym e ∙ k in cc
+
+no_fault_at_end : (f : Fault) (o : Option Stop) → o ≡ Some (failed f) → (o ≡ None) ⊎ (o ≡ Some ended) → ⊥
+no_fault_at_end f o e (inl k) = no_fault f o e k
+no_fault_at_end f o e (inr k) = let no : failed f ≡ ended = stops_one (failed f) ended o e k in cc
 
 start_one : (c : Command) (s : Start) (r t : Reply) → AnswersStart c s r → AnswersStart c s t → r ≡ t
 start_one c s _ _ (view_not_built a) (view_not_built b) = refl
 start_one c s _ _ (view_not_built a) (failed_at b g k) = absurd (a b)
 start_one c s _ _ (view_not_built a) (table_done b f h) = absurd (a (inl b))
-start_one c s _ _ (view_not_built a) (check_done b f) = absurd (a (inr b))
+start_one c s _ _ (view_not_built a) (checkpoint_done b f) = absurd (a (inr (inl b)))
+start_one c s _ _ (view_not_built a) (check_done b f) = absurd (a (inr (inr b)))
 start_one c s _ _ (failed_at a f e) (view_not_built b) = absurd (b a)
-start_one c s _ _ (failed_at a f e) (failed_at b g k) = faults_one f g (walk_for c s).stop e k
-start_one c s _ _ (failed_at a f e) (table_done b k h) = let no : Some (failed f) ≡ None = sym e ∙ k in cc
-start_one c s _ _ (failed_at a f e) (check_done b (inl k)) = let no : Some (failed f) ≡ None = sym e ∙ k in cc
-start_one c s _ _ (failed_at a f e) (check_done b (inr k)) = let no : failed f ≡ ended = stops_one (failed f) ended (walk_for c s).stop e k in cc
+start_one c s _ _ (failed_at a f e) (failed_at b g k) = faults_one (written_before c.view s.presentation (walk_for c s).stage.sections) f g (walk_for c s).stop e k
+start_one c s _ _ (failed_at a f e) (table_done b k h) = absurd (no_fault f (walk_for c s).stop e k)
+start_one c s _ _ (failed_at a f e) (checkpoint_done b k) = absurd (no_fault f (walk_for c s).stop e k)
+start_one c s _ _ (failed_at a f e) (check_done b k) = absurd (no_fault_at_end f (walk_for c s).stop e k)
 start_one c s _ _ (table_done a e h) (view_not_built b) = absurd (b (inl a))
-start_one c s _ _ (table_done a e h) (failed_at b g k) = let no : Some (failed g) ≡ None = sym k ∙ e in cc
+start_one c s _ _ (table_done a e h) (failed_at b g k) = absurd (no_fault g (walk_for c s).stop k e)
 start_one c s _ _ (table_done a e h) (table_done b f k) = refl
+start_one c s _ _ (table_done a e h) (checkpoint_done b f) = let no : Table ≡ Checkpoint = sym a ∙ b in cc
 start_one c s _ _ (table_done a e h) (check_done b f) = let no : Table ≡ Check = sym a ∙ b in cc
-start_one c s _ _ (check_done a e) (view_not_built b) = absurd (b (inr a))
-start_one c s _ _ (check_done a (inl e)) (failed_at b g k) = let no : Some (failed g) ≡ None = sym k ∙ e in cc
-start_one c s _ _ (check_done a (inr e)) (failed_at b g k) = let no : failed g ≡ ended = stops_one (failed g) ended (walk_for c s).stop k e in cc
+start_one c s _ _ (checkpoint_done a e) (view_not_built b) = absurd (b (inr (inl a)))
+start_one c s _ _ (checkpoint_done a e) (failed_at b g k) = absurd (no_fault g (walk_for c s).stop k e)
+start_one c s _ _ (checkpoint_done a e) (table_done b f k) = let no : Checkpoint ≡ Table = sym a ∙ b in cc
+start_one c s _ _ (checkpoint_done a e) (checkpoint_done b f) = refl
+start_one c s _ _ (checkpoint_done a e) (check_done b f) = let no : Checkpoint ≡ Check = sym a ∙ b in cc
+start_one c s _ _ (check_done a e) (view_not_built b) = absurd (b (inr (inr a)))
+start_one c s _ _ (check_done a e) (failed_at b g k) = absurd (no_fault_at_end g (walk_for c s).stop k e)
 start_one c s _ _ (check_done a e) (table_done b f k) = let no : Check ≡ Table = sym a ∙ b in cc
+start_one c s _ _ (check_done a e) (checkpoint_done b f) = let no : Check ≡ Checkpoint = sym a ∙ b in cc
 start_one c s _ _ (check_done a e) (check_done b f) = refl
 
 of_text_one : (c : Command) (bytes : List ℕ) (r s : Reply) → AnswersText c bytes r → AnswersText c bytes s → r ≡ s

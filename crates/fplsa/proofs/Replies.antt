@@ -11,20 +11,55 @@ use Rattle.fplsa.specs.declared.status.Status.{Status}
 use Rattle.fplsa.specs.declared.status.Status.TheVariants.{Done, Usage, NoMemory, ReadFault, WriteFault}
 use Rattle.fplsa.specs.declared.words.Command.{Command}
 use Rattle.fplsa.specs.Words.{IsCommand}
-use Rattle.fplsa.specs.Reply.{Reply, done, usage, refused, stopped, no_memory, read_fault, write_fault, not_built, IsFree, IsPlain, fault_status, status_of, text_of, line_of}
+use Rattle.fplsa.specs.Reply.{Reply, done, usage, refused, stopped, no_memory, read_fault, write_fault, not_built, IsFree, fault_status, status_of, text_of, with_text, line_of}
 use Rattle.fpl_resume.specs.Walk.{Fault, too_many, bad_bytes, bad_section, overflow}
 use Rattle.fplsa.specs.Start.{Start, of_text, of_head}
 use Rattle.fplsa.specs.Answer.{Answers, AnswersCommand, AnswersText, AnswersCheckpoint, AnswersStart}
-use Rattle.fplsa.specs.Answer.AnswersStart.{view_not_built, failed_at, table_done, check_done}
+use Rattle.fplsa.specs.Answer.AnswersStart.{view_not_built, failed_at, table_done, checkpoint_done, check_done}
 use Rattle.fplsa.specs.Answer.AnswersText.{text_too_long, no_presentation, presentation}
 use Rattle.fplsa.specs.Answer.AnswersCheckpoint.{no_head, head}
 use Rattle.fplsa.specs.Answer.AnswersCommand.{unread, input_too_long, checkpoint, text}
 use Rattle.fplsa.specs.Answer.Answers.{command}
-use Rattle.fplsa.specs.Run.{Settles, Says, IsReplied, IsPartOf}
+use Rattle.fplsa.specs.Run.{Says, IsReplied, IsPartOf, HasFront, TakesFront, EndsWith, Ends}
 
-pub settles_through : (A B : Reply → Type 0) (r : Reply) → (A r → B r) → Settles A r → Settles B r
-settles_through A B r f (inl e) = inl e
-settles_through A B r f (inr a) = inr (f a)
+-- an ending that is told of a part of the input, told of the whole
+module _ (A B : Reply → Type 0) (f : (r : Reply) → A r → B r) (oo on : Option (List ℕ)) where
+  front_through : TakesFront A oo on → TakesFront B oo on
+  front_through (inl e) = inl e
+  front_through (inr h) = inr (record { reply = h.reply; answers = f h.reply h.answers; front = h.front; of_text = h.of_text; takes = h.takes })
+
+  with_through : (r : Reply) → EndsWith A oo on r → EndsWith B oo on r
+  with_through r h = (h.0, f (with_text h.0 r) h.1, h.2)
+
+  pub ends_through : (r : Reply) → Ends A oo on r → Ends B oo on r
+  ends_through (done t) h = with_through (done t) h
+  ends_through usage h = with_through usage h
+  ends_through (refused place reason) h = with_through (refused place reason) h
+  ends_through (stopped t fault) h = with_through (stopped t fault) h
+  ends_through no_memory h = front_through h
+  ends_through read_fault h = with_through read_fault h
+  ends_through write_fault h = record { reply = h.reply; answers = f h.reply h.answers; put = h.put; part = h.part }
+  ends_through not_built h = with_through not_built h
+
+pub status_shown : (t : List ℕ) (r : Reply) → status_of (with_text t r) ≡ status_of r
+status_shown t (done u) = refl
+status_shown t usage = refl
+status_shown t (refused place reason) = refl
+status_shown t (stopped u fault) = refl
+status_shown t no_memory = refl
+status_shown t read_fault = refl
+status_shown t write_fault = refl
+status_shown t not_built = refl
+
+pub line_shown : (t : List ℕ) (r : Reply) → line_of (with_text t r) ≡ line_of r
+line_shown t (done u) = refl
+line_shown t usage = refl
+line_shown t (refused place reason) = refl
+line_shown t (stopped u fault) = refl
+line_shown t no_memory = refl
+line_shown t read_fault = refl
+line_shown t write_fault = refl
+line_shown t not_built = refl
 
 pub always : {A : Type 0} (o : Option A) (P : A → Type 0) → ((x : A) → P x) → IfSome o P
 always None P f = tt
@@ -49,95 +84,116 @@ passed_input (Some bs) (Some rest) max P h f =
     let passed : max < length h.front + length h.piece = h.passed in
     f bs (rw all (omega (arith, length-append (h.front ++ h.piece) rest, length-append h.front h.piece, passed)))
 
+-- no reply to the input of a command
 abbrev IsInner : Reply → Type 0
-IsInner r = IsPlain r × (status_of r ≢ ReadFault)
+IsInner r = (status_of r ≢ ReadFault) × (status_of r ≢ Usage)
 
-fault_not : (f : Fault) → (fault_status f ≢ ReadFault) × (fault_status f ≢ Usage) × (fault_status f ≢ WriteFault)
-fault_not (too_many w n) = (λ e. cc, λ e. cc, λ e. cc)
-fault_not (bad_bytes b) = (λ e. cc, λ e. cc, λ e. cc)
-fault_not (bad_section w spot why) = (λ e. cc, λ e. cc, λ e. cc)
-fault_not (overflow w u) = (λ e. cc, λ e. cc, λ e. cc)
+fault_not : (f : Fault) → (fault_status f ≢ ReadFault) × (fault_status f ≢ Usage) × (fault_status f ≢ WriteFault) × (fault_status f ≢ NoMemory)
+fault_not (too_many w n) = (λ e. cc, λ e. cc, λ e. cc, λ e. cc)
+fault_not (bad_bytes b) = (λ e. cc, λ e. cc, λ e. cc, λ e. cc)
+fault_not (bad_section w spot why) = (λ e. cc, λ e. cc, λ e. cc, λ e. cc)
+fault_not (overflow w u) = (λ e. cc, λ e. cc, λ e. cc, λ e. cc)
 
-start_plain : (c : Command) (s : Start) (r : Reply) → AnswersStart c s r → IsInner r
-start_plain c s _ (view_not_built a) = (tt, λ e. cc)
-start_plain c s _ (failed_at a f e) = (tt, (fault_not f).0)
-start_plain c s _ (table_done a e h) = (tt, λ e. cc)
-start_plain c s _ (check_done a e) = (tt, λ e. cc)
+start_inner : (c : Command) (s : Start) (r : Reply) → AnswersStart c s r → IsInner r
+start_inner c s _ (view_not_built a) = (λ e. cc, λ e. cc)
+start_inner c s _ (failed_at a f e) = ((fault_not f).0, (fault_not f).1)
+start_inner c s _ (table_done a e h) = (λ e. cc, λ e. cc)
+start_inner c s _ (checkpoint_done a e) = (λ e. cc, λ e. cc)
+start_inner c s _ (check_done a e) = (λ e. cc, λ e. cc)
 
-text_plain : (c : Command) (bytes : List ℕ) (r : Reply) → AnswersText c bytes r → IsPlain r × (status_of r ≢ ReadFault)
-text_plain c bytes _ (text_too_long l) = (tt, λ e. cc)
-text_plain c bytes _ (no_presentation l place reason h) = (tt, λ e. cc)
-text_plain c bytes _ (presentation l p h r a) = start_plain c (of_text p) r a
+text_inner : (c : Command) (bytes : List ℕ) (r : Reply) → AnswersText c bytes r → IsInner r
+text_inner c bytes _ (text_too_long l) = (λ e. cc, λ e. cc)
+text_inner c bytes _ (no_presentation l place reason h) = (λ e. cc, λ e. cc)
+text_inner c bytes _ (presentation l p h r a) = start_inner c (of_text p) r a
 
-checkpoint_plain : (c : Command) (bytes : List ℕ) (r : Reply) → AnswersCheckpoint c bytes r → IsInner r
-checkpoint_plain c bytes _ (no_head b h) = (tt, (fault_not (bad_bytes b)).0)
-checkpoint_plain c bytes _ (head h k r a) = start_plain c (of_head bytes h) r a
+checkpoint_inner : (c : Command) (bytes : List ℕ) (r : Reply) → AnswersCheckpoint c bytes r → IsInner r
+checkpoint_inner c bytes _ (no_head b h) = ((fault_not (bad_bytes b)).0, (fault_not (bad_bytes b)).1)
+checkpoint_inner c bytes _ (head h k r a) = start_inner c (of_head bytes h) r a
 
-command_plain : (c : Command) (bytes : List ℕ) (r : Reply) → AnswersCommand c bytes r → IsPlain r × (status_of r ≢ ReadFault)
-command_plain c bytes _ (unread h) = (tt, λ e. cc)
-command_plain c bytes _ (input_too_long h l) = (tt, λ e. cc)
-command_plain c bytes _ (checkpoint h l m r a) = checkpoint_plain c bytes r a
-command_plain c bytes _ (text h l m r a) = text_plain c bytes r a
+command_inner : (c : Command) (bytes : List ℕ) (r : Reply) → AnswersCommand c bytes r → IsInner r
+command_inner c bytes _ (unread h) = (λ e. cc, λ e. cc)
+command_inner c bytes _ (input_too_long h l) = (λ e. cc, λ e. cc)
+command_inner c bytes _ (checkpoint h l m r a) = checkpoint_inner c bytes r a
+command_inner c bytes _ (text h l m r a) = text_inner c bytes r a
 
-pub settled_plain : (c : Command) (bytes : List ℕ) (r : Reply) → Settles (AnswersCommand c bytes) r → IsPlain r × (status_of r ≢ ReadFault)
-settled_plain c bytes r (inl e) = rw e (tt, λ n. cc)
-settled_plain c bytes r (inr a) = command_plain c bytes r a
+-- what is shown at the end of a command whose input was read
+pub ended_inner : (c : Command) (bytes : List ℕ) (oo on : Option (List ℕ)) (r : Reply) → Ends (AnswersCommand c bytes) oo on r → (status_of r ≢ ReadFault) × (status_of r ≢ Usage)
+ended_inner c bytes oo on (done t) h = (λ e. cc, λ e. cc)
+ended_inner c bytes oo on usage h = command_inner c bytes usage h.1
+ended_inner c bytes oo on (refused place reason) h = (λ e. cc, λ e. cc)
+ended_inner c bytes oo on (stopped t f) h = ((fault_not f).0, (fault_not f).1)
+ended_inner c bytes oo on no_memory h = (λ e. cc, λ e. cc)
+ended_inner c bytes oo on read_fault h = command_inner c bytes read_fault h.1
+ended_inner c bytes oo on write_fault h = (λ e. cc, λ e. cc)
+ended_inner c bytes oo on not_built h = (λ e. cc, λ e. cc)
 
-pub command_reply : (words : List (List ℕ)) (c : Command) → IsCommand words c → (left : Option (List ℕ)) (r : Reply) →
-    IfSome left (λ bytes. (r ≡ read_fault) ⊎ Settles (AnswersCommand c bytes) r) → IfSome left (λ bytes. (r ≡ read_fault) ⊎ Settles (Answers words bytes) r)
-command_reply words c is None r h = tt
-command_reply words c is (Some bytes) r (inl e) = inl e
-command_reply words c is (Some bytes) r (inr (inl e)) = inr (inl e)
-command_reply words c is (Some bytes) r (inr (inr a)) = inr (inr (command c is r a))
-
-pub plain_outer : (r : Reply) → IsPlain r → (status_of r ≢ Usage) × (status_of r ≢ WriteFault)
-plain_outer (done t) h = (λ e. cc, λ e. cc)
-plain_outer usage h = absurd h
-plain_outer (refused place reason) h = (λ e. cc, λ e. cc)
-plain_outer (stopped t f) h = ((fault_not f).1, (fault_not f).2)
-plain_outer no_memory h = (λ e. cc, λ e. cc)
-plain_outer read_fault h = (λ e. cc, λ e. cc)
-plain_outer write_fault h = absurd h
-plain_outer not_built h = (λ e. cc, λ e. cc)
+pub command_reply : (words : List (List ℕ)) (c : Command) → IsCommand words c → (left oo on : Option (List ℕ)) (r : Reply) →
+    IfSome left (λ bytes. (r ≡ read_fault) ⊎ Ends (AnswersCommand c bytes) oo on r) → IfSome left (λ bytes. (r ≡ read_fault) ⊎ Ends (Answers words bytes) oo on r)
+command_reply words c is None oo on r h = tt
+command_reply words c is (Some bytes) oo on r (inl e) = inl e
+command_reply words c is (Some bytes) oo on r (inr h) = inr (ends_through (AnswersCommand c bytes) (Answers words bytes) (λ x a. command c is x a) oo on r h)
 
 pub says : {T E : Type 0} (r : Result T E) (old new : Option (List ℕ)) (before now : ℕ) (line : List ℕ) → OnOk r (Takes old new line) → OnErr r (WrotePrefix old new line) → OnErr r (Rose before now) → Says old new before now line
 says (Ok x) old new before now line t p f = inl t
 says (Err e) old new before now line t p f = inr (f, p)
 
-written : (w : Reply) → (status_of w ≡ WriteFault) ⊎ (status_of w ≢ WriteFault)
-written (done t) = inr (λ e. cc)
-written usage = inr (λ e. cc)
-written (refused place reason) = inr (λ e. cc)
-written (stopped t f) = inr (fault_not f).2
-written no_memory = inr (λ e. cc)
-written read_fault = inr (λ e. cc)
-written write_fault = inl refl
-written not_built = inr (λ e. cc)
+-- what stands in an output that failed, and where memory ran out
+module _ (words : List (List ℕ)) (oo on : Option (List ℕ)) where
+  at_write_fault : (bytes : List ℕ) (r : Reply) → Ends (Answers words bytes) oo on r → status_of r ≡ WriteFault → IsPartOf (Answers words bytes) oo on
+  at_write_fault bytes (done t) h e = cc
+  at_write_fault bytes usage h e = cc
+  at_write_fault bytes (refused place reason) h e = cc
+  at_write_fault bytes (stopped t f) h e = absurd ((fault_not f).2 e)
+  at_write_fault bytes no_memory h e = cc
+  at_write_fault bytes read_fault h e = cc
+  at_write_fault bytes write_fault h e = h
+  at_write_fault bytes not_built h e = cc
 
-free_of : (s : Status) → s ≡ WriteFault → IsFree s
-free_of s e = rw e tt
+  at_no_memory : (bytes : List ℕ) (r : Reply) → Ends (Answers words bytes) oo on r → status_of r ≡ NoMemory → TakesFront (Answers words bytes) oo on
+  at_no_memory bytes (done t) h e = cc
+  at_no_memory bytes usage h e = cc
+  at_no_memory bytes (refused place reason) h e = cc
+  at_no_memory bytes (stopped t f) h e = absurd ((fault_not f).3 e)
+  at_no_memory bytes no_memory h e = h
+  at_no_memory bytes read_fault h e = cc
+  at_no_memory bytes write_fault h e = cc
+  at_no_memory bytes not_built h e = cc
 
--- what stands in an output that failed
-pub part_of : (words : List (List ℕ)) (left : Option (List ℕ)) (r w : Reply) (oo on : Option (List ℕ)) → IfSome left (λ bytes. (r ≡ read_fault) ⊎ Settles (Answers words bytes) r) →
-    (status_of w ≡ WriteFault → status_of r ≡ Done) → (status_of w ≡ WriteFault → WrotePrefix oo on (text_of r)) → status_of w ≡ WriteFault → IfSome left (λ bytes. IsPartOf words bytes oo on)
-part_of words None r w oo on a full front e = tt
-part_of words (Some bytes) r w oo on (inl k) full front e = let d = full e in let no : ReadFault ≡ Done = sym (ap status_of k) ∙ d in cc
-part_of words (Some bytes) r w oo on (inr (inl k)) full front e = let d = full e in let no : NoMemory ≡ Done = sym (ap status_of k) ∙ d in cc
-part_of words (Some bytes) r w oo on (inr (inr a)) full front e = record { reply = r; answers = a; done = full e; part = front e }
+  pub part_of : (left : Option (List ℕ)) (r : Reply) → IfSome left (λ bytes. (r ≡ read_fault) ⊎ Ends (Answers words bytes) oo on r) → status_of r ≡ WriteFault → IfSome left (λ bytes. IsPartOf (Answers words bytes) oo on)
+  part_of None r h e = tt
+  part_of (Some bytes) r (inl k) e = let no : ReadFault ≡ WriteFault = sym (ap status_of k) ∙ e in cc
+  part_of (Some bytes) r (inr h) e = at_write_fault bytes r h e
+
+  pub front_of : (left : Option (List ℕ)) (r : Reply) → IfSome left (λ bytes. (r ≡ read_fault) ⊎ Ends (Answers words bytes) oo on r) → status_of r ≡ NoMemory → IfSome left (λ bytes. TakesFront (Answers words bytes) oo on)
+  front_of None r h e = tt
+  front_of (Some bytes) r (inl k) e = let no : ReadFault ≡ NoMemory = sym (ap status_of k) ∙ e in cc
+  front_of (Some bytes) r (inr h) e = at_no_memory bytes r h e
 
 module _ (words : List (List ℕ)) (oo on eo en : Option (List ℕ)) (before now : ℕ) where
-  replied_same : (left : Option (List ℕ)) (r : Reply) → IfSome left (λ bytes. (r ≡ read_fault) ⊎ Settles (Answers words bytes) r) → Takes oo on (text_of r) → Says eo en before now (line_of r) →
-      IsFree (status_of r) ⊎ IfSome left (λ bytes. IsReplied words bytes (status_of r) oo on eo en before now)
-  replied_same None r a t l = inr tt
-  replied_same (Some bytes) r (inl e) t l = inl (rw e tt)
-  replied_same (Some bytes) r (inr (inl e)) t l = inl (rw e tt)
-  replied_same (Some bytes) r (inr (inr a)) t l = inr (record { reply = r; answers = a; status = refl; text = t; line = l })
+  abbrev IsFreeOrReplied : List ℕ → Reply → Type 0
+  IsFreeOrReplied bytes r = IsFree (status_of r) ⊎ IsReplied words bytes (status_of r) oo on eo en before now
 
-  pub replied : (left : Option (List ℕ)) (r w : Reply) → IfSome left (λ bytes. (r ≡ read_fault) ⊎ Settles (Answers words bytes) r) → (status_of w ≢ WriteFault → w ≡ r) →
-      (status_of w ≢ WriteFault → Takes oo on (text_of r)) → Says eo en before now (line_of w) →
-      IsFree (status_of w) ⊎ IfSome left (λ bytes. IsReplied words bytes (status_of w) oo on eo en before now)
-  replied left r w a same whole l =
-      elim (written w) [
-        | inl e ↦ inl (free_of (status_of w) e)
-        | inr other ↦ let e = same other in rw e (replied_same left r a (whole other) (rw e at l))
-      ]
+  replied_with : (bytes : List ℕ) (r : Reply) → EndsWith (Answers words bytes) oo on r → Says eo en before now (line_of r) → IsFreeOrReplied bytes r
+  replied_with bytes r h l = inr (record {
+    reply = with_text h.0 r;
+    answers = h.1;
+    status = status_shown h.0 r;
+    text = h.2;
+    line = subst (λ x. Says eo en before now x) (sym (line_shown h.0 r)) l;
+  })
+
+  replied_to : (bytes : List ℕ) (r : Reply) → Ends (Answers words bytes) oo on r → Says eo en before now (line_of r) → IsFreeOrReplied bytes r
+  replied_to bytes (done t) h l = replied_with bytes (done t) h l
+  replied_to bytes usage h l = replied_with bytes usage h l
+  replied_to bytes (refused place reason) h l = replied_with bytes (refused place reason) h l
+  replied_to bytes (stopped t f) h l = replied_with bytes (stopped t f) h l
+  replied_to bytes no_memory h l = inl tt
+  replied_to bytes read_fault h l = inl tt
+  replied_to bytes write_fault h l = inl tt
+  replied_to bytes not_built h l = replied_with bytes not_built h l
+
+  pub replied : (left : Option (List ℕ)) (r : Reply) → IfSome left (λ bytes. (r ≡ read_fault) ⊎ Ends (Answers words bytes) oo on r) → Says eo en before now (line_of r) →
+      IsFree (status_of r) ⊎ IfSome left (λ bytes. IsReplied words bytes (status_of r) oo on eo en before now)
+  replied None r h l = inr tt
+  replied (Some bytes) r (inl e) l = inl (rw e tt)
+  replied (Some bytes) r (inr h) l = replied_to bytes r h l

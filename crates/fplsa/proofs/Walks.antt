@@ -1,5 +1,5 @@
 -- Walks through weights: each step raises the table by one, and only a check comes to the end of what is stored.
-use Rattle.std.proofs.Common.{◌≡◌, ℕ, zero, suc, ◌+◌, ◌-◌, ◌<◌, ◌≤◌, ◌⊎◌, inl, inr, List, Bool, true, false, Ok, Err, None, Some, refl, sym, ap, ◌∙◌, arith}
+use Rattle.std.proofs.Common.{◌≡◌, ℕ, zero, suc, ◌+◌, ◌-◌, ◌<◌, ◌≤◌, ◌⊎◌, inl, inr, List, [], ◌∷◌, ◌++◌, append_assoc, Bool, true, false, Ok, Err, None, Some, refl, sym, ap, ◌∙◌, arith}
 use Rattle.std.specs.Prelude.{nat_lt, if◌then◌else◌}
 use Rattle.std.specs.declared.result.Result.{Result}
 use Rattle.std.specs.declared.option.Option.{Option}
@@ -9,7 +9,9 @@ use Rattle.fpl_log.specs.declared.section.Section.{Section}
 use Rattle.fpl_elimination.specs.Plain.{Held}
 use Rattle.fpl_model.specs.declared.presentation.Presentation.{Presentation}
 use Rattle.fpl_table.specs.Standard.{count_through}
+use Rattle.std.proofs.lemmas.List.{append-nil}
 use Rattle.fpl_completion.specs.Weight.{close_weight}
+use Rattle.fpl_completion.specs.Section.{section_of}
 use Rattle.fpl_check.specs.Refusal.{Refusal, bad, unfit}
 use Rattle.fpl_check.specs.Check.{check_of}
 use Rattle.fpl_bytes.specs.declared.fault.BadBytes.{BadBytes}
@@ -21,14 +23,14 @@ use Rattle.fpl_sections.specs.Frames.{frame_of}
 use Rattle.fpl_sections.specs.Reading.{payload_at}
 use Rattle.fpl_resume.specs.declared.stop.Stop as code
 use Rattle.fpl_resume.specs.declared.stop.Stop.TheVariants as told
-use Rattle.fpl_complete.specs.State.{unfit_of}
+use Rattle.fpl_complete.specs.State.{unfit_of, slimmed}
 use Rattle.fpl_resume.specs.Stops.{PlainRun, stored_in, IsStop}
 use Rattle.fplsa.specs.Begin.{HasStopped}
 use Rattle.fpl_resume.specs.Walk.{Stored, Stage, Fault, too_many, bad_bytes, bad_section, overflow, Stop, ended, failed, Walked, next_weight, adopted, formed, computed_as, computed, framed, weighed, step_of, stopped, walk_on, walk_of, step_cost, cost_on, cost_of}
 
--- a step raises the table by one weight
+-- a step raises the table by one weight, and adds its section
 abbrev Grows : Stage → Result Stage Stop → Type 0
-Grows stage (Ok next) = next.table.weight ≡ suc stage.table.weight
+Grows stage (Ok next) = (next.table.weight ≡ suc stage.table.weight) × ((s : Section) × (next.sections ≡ stage.sections ++ s ∷ []))
 Grows stage (Err s) = Unit {0}
 
 -- a step does not come to the end of what is stored
@@ -43,7 +45,7 @@ either P false x y f g = g
 
 module _ (p : Presentation) (stage : Stage) where
   adopted_grows : (s : Section) (to : ℕ) (r : Result (List (List Num)) Refusal) → Grows stage (adopted stage p s to r)
-  adopted_grows s to (Ok rows) = refl
+  adopted_grows s to (Ok rows) = (refl, (slimmed stage.table p s, refl))
   adopted_grows s to (Err (bad spot why)) = tt
   adopted_grows s to (Err (unfit u)) = tt
 
@@ -52,7 +54,7 @@ module _ (p : Presentation) (stage : Stage) where
   formed_grows to (Err b) = tt
 
   computed_as_grows : (r : Result Held Unfit) → Grows stage (computed_as stage p r)
-  computed_as_grows (Ok h) = refl
+  computed_as_grows (Ok h) = (refl, (section_of stage.table p h, refl))
   computed_as_grows (Err u) = tt
 
   computed_grows : (c : Bool) → Grows stage (computed c p stage)
@@ -95,12 +97,29 @@ module _ (p : Presentation) (stage : Stage) where
         either Goes (nat_lt e count) (Err (failed (too_many (next_weight stage) count))) (weighed true p at stage) tt
         (either Goes stage.stored (framed true p at stage (frame_of at.bytes stage.place (next_weight stage))) (computed true p stage) (framed_goes (frame_of at.bytes stage.place (next_weight stage))) (computed_as_goes (close_weight stage.table p)))
 
-grown : (stage next : Stage) (r : Result Stage Stop) → r ≡ Ok next → Grows stage r → next.table.weight ≡ suc stage.table.weight
-grown stage next (Ok x) e g = let same : x ≡ next = cc in ap (λ (s : Stage). s.table.weight) (sym same) ∙ g
+grown : (stage next : Stage) (r : Result Stage Stop) → r ≡ Ok next → Grows stage r → (next.table.weight ≡ suc stage.table.weight) × ((s : Section) × (next.sections ≡ stage.sections ++ s ∷ []))
+grown stage next (Ok x) e g =
+    let same : x ≡ next = cc in
+    (ap (λ (s : Stage). s.table.weight) (sym same) ∙ g.0, (g.1.0, ap (λ (s : Stage). s.sections) (sym same) ∙ g.1.1))
 grown stage next (Err s) e g = cc
 
 pub step_raises : (c : Bool) (e : ℕ) (p : Presentation) (at : Stored) (stage next : Stage) → step_of c e p at stage ≡ Ok next → next.table.weight ≡ suc stage.table.weight
-step_raises c e p at stage next h = grown stage next (step_of c e p at stage) h (step_grows p stage at c e)
+step_raises c e p at stage next h = (grown stage next (step_of c e p at stage) h (step_grows p stage at c e)).0
+
+pub step_adds : (c : Bool) (e : ℕ) (p : Presentation) (at : Stored) (stage next : Stage) → step_of c e p at stage ≡ Ok next → (s : Section) × (next.sections ≡ stage.sections ++ s ∷ [])
+step_adds c e p at stage next h = (grown stage next (step_of c e p at stage) h (step_grows p stage at c e)).1
+
+keeps_on : (further : Stage → Walked) (stage : Stage) → ((next : Stage) → (rest : List Section) × ((further next).stage.sections ≡ next.sections ++ rest)) → (r : Result Stage Stop) → Grows stage r →
+    (rest : List Section) × ((walk_on further stage r).stage.sections ≡ stage.sections ++ rest)
+keeps_on further stage again (Ok next) g =
+    let on = again next in
+    (g.1.0 ∷ on.0, on.1 ∙ ap (λ (x : List Section). x ++ on.0) g.1.1 ∙ append_assoc stage.sections (g.1.0 ∷ []) on.0)
+keeps_on further stage again (Err s) g = ([], sym (append-nil stage.sections))
+
+-- a walk keeps the sections that it begins with
+pub walk_keeps : (c : Bool) (e : ℕ) (p : Presentation) (at : Stored) (n : ℕ) (stage : Stage) → (rest : List Section) × ((walk_of c e p at n stage).stage.sections ≡ stage.sections ++ rest)
+walk_keeps c e p at zero stage = ([], sym (append-nil stage.sections))
+walk_keeps c e p at (suc n) stage = keeps_on (walk_of c e p at n) stage (λ next. walk_keeps c e p at n next) (step_of c e p at stage) (step_grows p stage at c e)
 
 ends_on : (further : Stage → Walked) (stage : Stage) → ((next : Stage) → (further next).stop ≡ Some ended → ⊥) → (r : Result Stage Stop) → Goes r → (walk_on further stage r).stop ≡ Some ended → ⊥
 ends_on further stage again (Ok next) g h = again next h

@@ -8,9 +8,11 @@
 --   text, whose reply is
 --   AnswersText: it is too long; it is no presentation; or a presentation, for which nothing is stored
 --   AnswersCheckpoint: its head is refused; or it has one, after which sections may be stored
+--   written_before: what a view has written when a fault stops its run: a checkpoint the head and the sections of the weights below, others nothing
 --   AnswersStart: the view isn't built; or a fault stops the run through the weights; or it comes to the limit, and the reply is the standard table
---   through it, as text; or it is a check, which also ends where the stored sections do, and the reply says how many there are
+--   through it, as text, or the checkpoint; or it is a check, which also ends where the stored sections do, and the reply says how many there are
 use Rattle.std.specs.Prelude.{ℕ, ◌≡◌, ◌≤◌, ◌<◌, ◌-◌, ◌⊎◌, Some, None, List, [], length, slice_index, codes}
+use Rattle.fpl_log.specs.declared.section.Section.{Section}
 use Rattle.fpl_model.specs.declared.presentation.Presentation.{Presentation}
 use Rattle.fpl_reader.specs.declared.fault.Reason.{Reason}
 use Rattle.fpl_reader.specs.declared.fault.Reason.TheVariants.{BadByte, NumberTooLarge, NameTooLong, TooDeep, Syntax, NoField, FieldTwice, BadPrime, NameTwice, BadWeight, TooManyGenerators, UnknownName, ZeroDenominator, MixedWeight, MixedParity}
@@ -18,7 +20,7 @@ use Rattle.fpl_reader.specs.Reading.{HasPresentation, IsRefused}
 use Rattle.fpl_table.specs.Standard.{IsTableOf}
 use Rattle.fpl_print.specs.TableText.{table_text, names_of}
 use Rattle.fplsa.specs.declared.words.View.{View}
-use Rattle.fplsa.specs.declared.words.View.TheVariants.{Table, Check, Sample}
+use Rattle.fplsa.specs.declared.words.View.TheVariants.{Table, Checkpoint, Check, Sample}
 use Rattle.fplsa.specs.declared.words.Command.{Command}
 use Rattle.fplsa.specs.Words.{IsCommand, IsNoCommand}
 use Rattle.fpl_bytes.specs.declared.fault.BadBytes.{BadBytes}
@@ -28,6 +30,7 @@ use Rattle.fpl_resume.specs.Walk.{Fault, bad_bytes, ended, failed}
 use Rattle.fplsa.specs.Reply.{Reply, done, usage, refused, stopped, not_built}
 use Rattle.fplsa.specs.Start.{Start, of_text, of_head, walk_for}
 use Rattle.fplsa.specs.CheckText.{check_text}
+use Rattle.fplsa.specs.Stream.{stream_text}
 
 abbrev pub most_bytes : ℕ
 most_bytes = 1073741824
@@ -68,13 +71,19 @@ abbrev pub IsCheckpoint : Command → List ℕ → Type 0
 IsCheckpoint c bytes = (c.view ≡ Check) ⊎ IsMarked bytes
 
 abbrev pub IsBuilt : View → Type 0
-IsBuilt view = (view ≡ Table) ⊎ (view ≡ Check)
+IsBuilt view = (view ≡ Table) ⊎ ((view ≡ Checkpoint) ⊎ (view ≡ Check))
+
+abbrev pub written_before : View → Presentation → List Section → List ℕ
+written_before Checkpoint p sections = stream_text p sections
+written_before _ p sections = []
 
 pub data AnswersStart (c : Command) (s : Start) : Reply → Type 0 where
   view_not_built : (IsBuilt c.view → ⊥) → AnswersStart c s not_built
-  failed_at : IsBuilt c.view → (fault : Fault) → (walk_for c s).stop ≡ Some (failed fault) → AnswersStart c s (stopped [] fault)
+  failed_at : IsBuilt c.view → (fault : Fault) → (walk_for c s).stop ≡ Some (failed fault) →
+      AnswersStart c s (stopped (written_before c.view s.presentation (walk_for c s).stage.sections) fault)
   table_done : c.view ≡ Table → (walk_for c s).stop ≡ None → IsTableOf s.presentation c.limit (walk_for c s).stage.table →
       AnswersStart c s (done (table_text (names_of s.presentation) (walk_for c s).stage.table))
+  checkpoint_done : c.view ≡ Checkpoint → (walk_for c s).stop ≡ None → AnswersStart c s (done (stream_text s.presentation (walk_for c s).stage.sections))
   check_done : c.view ≡ Check → ((walk_for c s).stop ≡ None) ⊎ ((walk_for c s).stop ≡ Some ended) →
       AnswersStart c s (done (check_text s.presentation.field c.limit (walk_for c s).stage.table.weight (length s.stored.bytes - (walk_for c s).stage.place)))
 

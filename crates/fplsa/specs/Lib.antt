@@ -5,8 +5,10 @@ pub mod Reply
 pub mod Line
 pub mod Start
 pub mod CheckText
-pub mod Begin
+pub mod Stream
 pub mod Answer
 pub mod Outcome
 pub mod Run
+pub mod Begin
+pub mod Put
 pub mod OneReply

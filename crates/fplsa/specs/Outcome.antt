@@ -1,6 +1,6 @@
--- The reply that an outcome stands for.
+-- The reply that an outcome stands for, but for its text, which was written before.
 --   refusal_text: why an input is refused, in words
---   reply_of: the reply
+--   reply_of: the reply without its text
 use Rattle.std.specs.Prelude.{ℕ, List, []}
 use Rattle.fplsa.specs.declared.outcome.Refusal.{Refusal}
 use Rattle.fplsa.specs.declared.outcome.Refusal.TheVariants.{TooLong, Unread}
@@ -16,7 +16,7 @@ refusal_text TooLong = too_long
 refusal_text (Unread reason) = reason_text reason
 
 abbrev pub reply_of : Outcome → Reply
-reply_of (found.Done text) = done text.items
+reply_of found.Done = done []
 reply_of found.Usage = usage
 reply_of (found.Refused place why) = refused place (refusal_text why)
 reply_of (found.BadBytes bad) = stopped [] (bad_bytes bad)

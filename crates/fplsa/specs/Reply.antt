@@ -3,12 +3,13 @@
 --   fault_status: the status of a fault that stops a run
 --   status_of: the status of a reply
 --   text_of: the bytes written to the output
+--   with_text: the reply with this text, where it has one
+--   IsPut: bytes are put to the output
 --   op_text: the sign of an operation, between spaces
 --   fault_line: what is said of a fault
---   line_of: the line written to the error output, with its line feed; none where the text was written
---   IsPlain: neither of what stands before and after the input is read: that the words are no command, and that the output failed
+--   line_of: the line written to the error output, with its line feed; none where the view's whole text was written
 --   IsFree: there was no memory, or a stream failed: the words and the input don't tell when
-use Rattle.std.specs.Prelude.{ℕ, List, [], ◌++◌, codes, decimal}
+use Rattle.std.specs.Prelude.{ℕ, ◌≡◌, List, [], ◌++◌, codes, decimal}
 use Rattle.fpl_numbers.specs.declared.number.Op.{Op}
 use Rattle.fpl_numbers.specs.declared.number.Op.TheVariants.{Add, Mul}
 use Rattle.fpl_print.specs.Combinations.{number_text}
@@ -53,6 +54,26 @@ text_of read_fault = []
 text_of write_fault = []
 text_of not_built = []
 
+abbrev pub with_text : List ℕ → Reply → Reply
+with_text text (done other) = done text
+with_text text usage = usage
+with_text text (refused place reason) = refused place reason
+with_text text (stopped other fault) = stopped text fault
+with_text text no_memory = no_memory
+with_text text read_fault = read_fault
+with_text text write_fault = write_fault
+with_text text not_built = not_built
+
+abbrev pub IsPut : Reply → Type 0
+IsPut (done text) = Unit {0}
+IsPut usage = ⊥
+IsPut (refused place reason) = ⊥
+IsPut (stopped text fault) = text ≡ [] → ⊥
+IsPut no_memory = ⊥
+IsPut read_fault = ⊥
+IsPut write_fault = ⊥
+IsPut not_built = ⊥
+
 abbrev pub op_text : Op → List ℕ
 op_text Add = codes " + "
 op_text Mul = codes " * "
@@ -84,13 +105,3 @@ IsFree NoMemory = Unit {0}
 IsFree ReadFault = Unit {0}
 IsFree WriteFault = Unit {0}
 IsFree NotBuilt = ⊥
-
-abbrev pub IsPlain : Reply → Type 0
-IsPlain (done text) = Unit {0}
-IsPlain usage = ⊥
-IsPlain (refused place reason) = Unit {0}
-IsPlain (stopped text fault) = Unit {0}
-IsPlain no_memory = Unit {0}
-IsPlain read_fault = Unit {0}
-IsPlain write_fault = ⊥
-IsPlain not_built = Unit {0}

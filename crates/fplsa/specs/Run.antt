@@ -1,19 +1,25 @@
 -- What a run does to its streams.
---   Settles: the reply is one of these, unless there was no memory
 --   ReadsNothing: the words are no command, or one of a view that reads no input yet
 --   Says: a line was appended, or its writing had a fault after a prefix of it
 --   IsReplied: the status is that of the reply to the words and the bytes, whose text was appended to the output and whose line to the error output
---   HasTable: the words ask for the table of a presentation, which is what the bytes are; its symbols stay within the entries, and over fractions
+--   IsOfTable: a view of the table that is written, or of the sections that it was raised by
+--   HasTable: the words ask for such a view of a presentation, which is what the bytes are; its symbols stay within the entries, and over fractions
 --   each weight's operations fit
 --   IsStart: what the bytes are for a command: a presentation, or a checkpoint's head and what stands after it
 --   CostsAtMost: a number rose by at most the number of origins of the weights that a run computes; it stayed where the bytes are no start
---   IsPartOf: the reply to the words and the bytes is a text, and a prefix of it was appended to the output
+--   MayPut: something may stand in the output of a view that has ended with this status: its text after Done, a part of it after a failing put; of a
+--   checkpoint also what was written before a fault stopped the run or memory ran out
+--   IsPartOf: one of these replies puts bytes, and a prefix of them was appended to the output
+--   HasFront: one of these replies has the text of a checkpoint, and its head and the sections of some weights from 1 on were appended to the output
+--   TakesFront: the output is as before, or it has such a front
+--   Ends: how a run of these replies ends, told by a reply without its text: want of memory, after a front at most; a fault of the output, after a part;
+--   or the reply is one of these with its text, which was appended to the output
 use Rattle.std.specs.Prelude.{◌≡◌, ℕ, ◌+◌, ◌≤◌, ◌⊎◌, List, length}
 use Rattle.std.specs.declared.option.Option.{Option}
 use Rattle.fpl_outside.specs.Outside.{Rose, Takes}
 use Rattle.fpl_outside.specs.Whole.{WrotePrefix}
 use Rattle.fplsa.specs.declared.status.Status.{Status}
-use Rattle.fplsa.specs.declared.status.Status.TheVariants.{Done}
+use Rattle.fplsa.specs.declared.status.Status.TheVariants.{Done, Usage, Refused, BadCheckpoint, Limit, Overflow, NoMemory, ReadFault, WriteFault, NotBuilt}
 use Rattle.fpl_numbers.specs.declared.number.Kind.TheVariants.{Rational}
 use Rattle.fpl_model.specs.declared.presentation.Presentation.{Presentation}
 use Rattle.fpl_reader.specs.Reading.{HasPresentation}
@@ -22,15 +28,14 @@ use Rattle.fpl_table.specs.Standard.{IsTableOf, count_through}
 use Rattle.fpl_completion.specs.Section.{FitsAt}
 use Rattle.fpl_checkpoint.specs.declared.head.Head.{Head}
 use Rattle.fpl_checkpoint.specs.Scans.{HasHead}
-use Rattle.fplsa.specs.declared.words.View.TheVariants.{Table}
+use Rattle.fplsa.specs.declared.words.View.{View}
+use Rattle.fplsa.specs.declared.words.View.TheVariants.{Table, Checkpoint}
 use Rattle.fplsa.specs.declared.words.Command.{Command}
 use Rattle.fplsa.specs.Words.{IsCommand, IsNoCommand}
-use Rattle.fplsa.specs.Reply.{Reply, no_memory, status_of, text_of, line_of}
+use Rattle.fplsa.specs.Reply.{Reply, no_memory, write_fault, status_of, text_of, with_text, IsPut, line_of}
+use Rattle.fplsa.specs.Stream.{IsFrontOf}
 use Rattle.fplsa.specs.Start.{Start, of_text, of_head, cost_for}
 use Rattle.fplsa.specs.Answer.{Answers, IsUnread, IsCheckpoint, most_text}
-
-abbrev pub Settles : (Reply → Type 0) → Reply → Type 0
-Settles A reply = (reply ≡ no_memory) ⊎ A reply
 
 abbrev pub ReadsNothing : List (List ℕ) → Type 0
 ReadsNothing words = IsNoCommand words ⊎ ((c : Command) × IsCommand words c × IsUnread c.view)
@@ -45,16 +50,13 @@ pub record IsReplied (words : List (List ℕ)) (bytes : List ℕ) (result : Stat
   pub text : Takes out_old out_new (text_of reply)
   pub line : Says err_old err_new before now (line_of reply)
 
-pub record IsPartOf (words : List (List ℕ)) (bytes : List ℕ) (out_old out_new : Option (List ℕ)) : Type 0 where
-  pub reply : Reply
-  pub answers : Answers words bytes reply
-  pub done : status_of reply ≡ Done
-  pub part : WrotePrefix out_old out_new (text_of reply)
+abbrev pub IsOfTable : View → Type 0
+IsOfTable view = (view ≡ Table) ⊎ (view ≡ Checkpoint)
 
 pub record HasTable (words : List (List ℕ)) (bytes : List ℕ) : Type 0 where
   pub command : Command
   pub spelled : IsCommand words command
-  pub view : command.view ≡ Table
+  pub view : IsOfTable command.view
   pub short : length bytes ≤ most_text
   pub presentation : Presentation
   pub said : HasPresentation bytes presentation
@@ -71,3 +73,39 @@ pub record CostsAtMost (c : Command) (bytes : List ℕ) (old new : ℕ) : Type 0
   pub rises : old ≤ new
   pub most : (s : Start) → IsStart c bytes s → new ≤ old + cost_for c s
   pub stays : ((s : Start) → IsStart c bytes s → ⊥) → new ≡ old
+
+abbrev pub MayPut : View → Status → Type 0
+MayPut view Done = Unit {0}
+MayPut view Usage = ⊥
+MayPut view Refused = ⊥
+MayPut view BadCheckpoint = view ≡ Checkpoint
+MayPut view Limit = view ≡ Checkpoint
+MayPut view Overflow = view ≡ Checkpoint
+MayPut view NoMemory = view ≡ Checkpoint
+MayPut view ReadFault = ⊥
+MayPut view WriteFault = Unit {0}
+MayPut view NotBuilt = ⊥
+
+pub record IsPartOf (A : Reply → Type 0) (out_old out_new : Option (List ℕ)) : Type 0 where
+  pub reply : Reply
+  pub answers : A reply
+  pub put : IsPut reply
+  pub part : WrotePrefix out_old out_new (text_of reply)
+
+pub record HasFront (A : Reply → Type 0) (out_old out_new : Option (List ℕ)) : Type 0 where
+  pub reply : Reply
+  pub answers : A reply
+  pub front : List ℕ
+  pub of_text : IsFrontOf (text_of reply) front
+  pub takes : Takes out_old out_new front
+
+abbrev pub TakesFront : (Reply → Type 0) → Option (List ℕ) → Option (List ℕ) → Type 0
+TakesFront A out_old out_new = (out_new ≡ out_old) ⊎ HasFront A out_old out_new
+
+abbrev pub EndsWith : (Reply → Type 0) → Option (List ℕ) → Option (List ℕ) → Reply → Type 0
+EndsWith A out_old out_new shown = (text : List ℕ) × A (with_text text shown) × Takes out_old out_new (text_of (with_text text shown))
+
+abbrev pub Ends : (Reply → Type 0) → Option (List ℕ) → Option (List ℕ) → Reply → Type 0
+Ends A out_old out_new no_memory = TakesFront A out_old out_new
+Ends A out_old out_new write_fault = IsPartOf A out_old out_new
+Ends A out_old out_new shown = EndsWith A out_old out_new shown

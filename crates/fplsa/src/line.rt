@@ -1,4 +1,4 @@
-//! The line that says why nothing was written. It is put piece by piece and takes no memory.
+//! The line that says why the text wasn't written, or not whole. It is put piece by piece and takes no memory.
 ghost use Rattle.std.specs.Prelude.{◌≡◌, ◌≤◌, ◌++◌, codes, decimal, true, OnOk, OnErr};
 ghost use Rattle.fpl_outside.specs.Outside.{Rose, Takes};
 ghost use Rattle.fpl_outside.specs.Whole.{WrotePrefix};
@@ -245,7 +245,7 @@ pub fn put_line<E: Sink>(err: &mut E, outcome: &Outcome) -> Result<(), WriteFaul
     ensures later { E.faults err.old ≤ E.faults err.new }
 {
     match outcome {
-        Outcome::Done(_) => write_whole(err, b""),
+        Outcome::Done => write_whole(err, b""),
         Outcome::Usage => write_whole(err, b"usage: fplsa VIEW LIMIT [ENTRIES]\n"),
         Outcome::Refused { place, why } => put_refused(err, *place, *why),
         Outcome::BadBytes(bad) => put_bad_bytes(err, *bad),

@@ -10,9 +10,13 @@ mod fault_line;
 mod laws;
 mod line;
 mod outcome;
+mod put;
 mod run;
 mod spelling;
 mod status;
+mod stream;
+#[cfg(test)]
+mod stream_tests;
 #[cfg(test)]
 mod tests;
 mod walk;

@@ -1,4 +1,4 @@
-//! What a run has come to, before it is written.
+//! What a run has come to, after its text was written.
 ghost use Rattle.std.specs.Prelude.{◌≡◌};
 ghost use Rattle.fplsa.specs.Answer.{reason_text};
 ghost use Rattle.fplsa.specs.Outcome.{refusal_text, reply_of};
@@ -20,7 +20,8 @@ pub enum Refusal {
 /// What words and an input have come to.
 #[derive(Drop)]
 pub enum Outcome {
-    Done(Vec<u8>),
+    /// The view's text was written.
+    Done,
     Usage,
     Refused { place: u64, why: Refusal },
     BadBytes(BadBytes),
@@ -71,7 +72,7 @@ impl Outcome {
         ensures { result ≡ status_of (reply_of self.now) }
     {
         match self {
-            Outcome::Done(_) => Status::Done,
+            Outcome::Done => Status::Done,
             Outcome::Usage => Status::Usage,
             Outcome::Refused { .. } => Status::Refused,
             Outcome::BadBytes(_) | Outcome::BadSection { .. } => Status::BadCheckpoint,

@@ -1,13 +1,12 @@
-ghost use Rattle.std.specs.Prelude.{◌≡◌, ◌≢◌, ◌≤◌, ◌<◌, ◌+◌, ◌⊎◌, ◌↔◌, List, ℕ, map, string_bytes, length, IfSome, IsTrue};
+ghost use Rattle.std.specs.Prelude.{◌≡◌, ◌≢◌, ◌≤◌, ◌<◌, ◌+◌, ◌^◌, ◌⊎◌, ◌↔◌, List, ℕ, map, string_bytes, length, IfSome, IsTrue};
 ghost use Rattle.std.specs.Io.KnownBytes.{IsAtEnd};
 ghost use Rattle.fpl_outside.specs.Outside.{Rose, Takes};
-ghost use Rattle.fpl_outside.specs.Whole.{WrotePrefix};
 ghost use Rattle.fplsa.specs.declared.words.Command.{Command};
 ghost use Rattle.fplsa.specs.Words.{IsCommand, IsNoCommand, IsInRange};
-ghost use Rattle.fplsa.specs.Reply.{Reply, read_fault, IsFree, IsPlain, status_of, text_of, line_of};
+ghost use Rattle.fplsa.specs.Reply.{Reply, read_fault, IsFree, status_of, line_of};
 ghost use Rattle.fplsa.specs.Answer.{Answers, AnswersCommand, AnswersText, AnswersCheckpoint, IsUnread, IsMarked, IsCheckpoint};
 ghost use Rattle.fplsa.specs.Outcome.{reply_of};
-ghost use Rattle.fplsa.specs.Run.{Settles, ReadsNothing, Says, IsReplied, HasTable, IsPartOf, CostsAtMost};
+ghost use Rattle.fplsa.specs.Run.{ReadsNothing, Says, IsReplied, HasTable, IsPartOf, TakesFront, MayPut, Ends, CostsAtMost};
 
 use crate::line::put_line;
 use crate::outcome::{Outcome, Refusal};
@@ -16,7 +15,7 @@ use crate::status::Status;
 use crate::walk::{Begin, of_start};
 use crate::words::{Command, View};
 use fpl_checkpoint::{ScanError, scan_head};
-use fpl_outside::{ReadError, Sink, Source, read_whole, write_whole};
+use fpl_outside::{ReadError, Sink, Source, read_whole};
 use fpl_reader::{ReaderError, read};
 use fpl_steps::Steps;
 use std::alloc::Global;
@@ -48,10 +47,18 @@ fn is_checkpoint(c: Command, bytes: &[u8]) -> bool
     matches!(c.view, View::Check) || is_marked(bytes)
 }
 
-fn of_text<L: Ledger>(alloc: Global, c: Command, bytes: &[u8], steps: &mut Steps<L>) -> Outcome
+fn of_text<O: Sink, L: Ledger>(
+    alloc: Global,
+    c: Command,
+    bytes: &[u8],
+    out: &mut O,
+    steps: &mut Steps<L>,
+) -> Outcome
     requires range { IsInRange c }
     requires plain { IsCheckpoint c bytes.now → ⊥ }
-    ensures reply { Settles (AnswersText c bytes.now) (reply_of result) }
+    ensures reply { Ends (AnswersText c bytes.now) (O.taken out.old) (O.taken out.new) (reply_of result) }
+    ensures fault { status_of (reply_of result) ≡ Status.WriteFault → Rose (O.faults out.old) (O.faults out.new) }
+    ensures nothing { (MayPut c.view (status_of (reply_of result)) → ⊥) → O.taken out.new ≡ O.taken out.old }
     ensures cost { CostsAtMost c bytes.now steps.old steps.new }
 {
     if bytes.len() > MOST_TEXT {
@@ -68,7 +75,7 @@ fn of_text<L: Ledger>(alloc: Global, c: Command, bytes: &[u8], steps: &mut Steps
                 place: 0,
                 stored: false,
             };
-            of_start(alloc, c, begin, b"", steps)
+            of_start(alloc, c, begin, b"", out, steps)
         }
         Err(ReaderError::Refused { place, reason }) => Outcome::Refused {
             place,
@@ -78,15 +85,18 @@ fn of_text<L: Ledger>(alloc: Global, c: Command, bytes: &[u8], steps: &mut Steps
     }
 }
 
-fn of_checkpoint<L: Ledger>(
+fn of_checkpoint<O: Sink, L: Ledger>(
     alloc: Global,
     c: Command,
     bytes: &[u8],
+    out: &mut O,
     steps: &mut Steps<L>,
 ) -> Outcome
     requires range { IsInRange c }
     requires checkpoint { IsCheckpoint c bytes.now }
-    ensures reply { Settles (AnswersCheckpoint c bytes.now) (reply_of result) }
+    ensures reply { Ends (AnswersCheckpoint c bytes.now) (O.taken out.old) (O.taken out.new) (reply_of result) }
+    ensures fault { status_of (reply_of result) ≡ Status.WriteFault → Rose (O.faults out.old) (O.faults out.new) }
+    ensures nothing { (MayPut c.view (status_of (reply_of result)) → ⊥) → O.taken out.new ≡ O.taken out.old }
     ensures cost { CostsAtMost c bytes.now steps.old steps.new }
 {
     match scan_head(alloc, bytes) {
@@ -97,35 +107,46 @@ fn of_checkpoint<L: Ledger>(
                 place: head.end,
                 stored: true,
             };
-            of_start(alloc, c, begin, bytes, steps)
+            of_start(alloc, c, begin, bytes, out, steps)
         }
         Err(ScanError::Bad(bad)) => Outcome::BadBytes(bad),
         Err(ScanError::NoMemory) => Outcome::NoMemory,
     }
 }
 
-fn of_bytes<L: Ledger>(alloc: Global, c: Command, bytes: &[u8], steps: &mut Steps<L>) -> Outcome
-    requires range { IsInRange c }
-    requires read { IsUnread c.view → ⊥ }
-    requires short { length bytes.now ≤ MOST_BYTES }
-    ensures reply { Settles (AnswersCommand c bytes.now) (reply_of result) }
-    ensures cost { CostsAtMost c bytes.now steps.old steps.new }
-{
-    if is_checkpoint(c, bytes) {
-        return of_checkpoint(alloc, c, bytes, steps);
-    }
-    of_text(alloc, c, bytes, steps)
-}
-
-fn of_command<I: Source, L: Ledger>(
+fn of_bytes<O: Sink, L: Ledger>(
     alloc: Global,
     c: Command,
-    input: &mut I,
+    bytes: &[u8],
+    out: &mut O,
     steps: &mut Steps<L>,
 ) -> Outcome
     requires range { IsInRange c }
-    ensures reply { IfSome (I.left input.old) (λ bytes. (reply_of result ≡ read_fault) ⊎ Settles (AnswersCommand c bytes) (reply_of result)) }
-    ensures plain { IsPlain (reply_of result) }
+    requires read { IsUnread c.view → ⊥ }
+    requires short { length bytes.now ≤ MOST_BYTES }
+    ensures reply { Ends (AnswersCommand c bytes.now) (O.taken out.old) (O.taken out.new) (reply_of result) }
+    ensures fault { status_of (reply_of result) ≡ Status.WriteFault → Rose (O.faults out.old) (O.faults out.new) }
+    ensures nothing { (MayPut c.view (status_of (reply_of result)) → ⊥) → O.taken out.new ≡ O.taken out.old }
+    ensures cost { CostsAtMost c bytes.now steps.old steps.new }
+{
+    if is_checkpoint(c, bytes) {
+        return of_checkpoint(alloc, c, bytes, out, steps);
+    }
+    of_text(alloc, c, bytes, out, steps)
+}
+
+fn of_command<I: Source, O: Sink, L: Ledger>(
+    alloc: Global,
+    c: Command,
+    input: &mut I,
+    out: &mut O,
+    steps: &mut Steps<L>,
+) -> Outcome
+    requires range { IsInRange c }
+    ensures command { status_of (reply_of result) ≢ Status.Usage }
+    ensures reply { IfSome (I.left input.old) (λ bytes. (reply_of result ≡ read_fault) ⊎ Ends (AnswersCommand c bytes) (O.taken out.old) (O.taken out.new) (reply_of result)) }
+    ensures fault { status_of (reply_of result) ≡ Status.WriteFault → Rose (O.faults out.old) (O.faults out.new) }
+    ensures nothing { (MayPut c.view (status_of (reply_of result)) → ⊥) → O.taken out.new ≡ O.taken out.old }
     ensures cost { IfSome (I.left input.old) (λ bytes. CostsAtMost c bytes steps.old steps.new) }
     ensures unread { IsUnread c.view → input.new ≡ input.old }
     ensures idle { IsUnread c.view → steps.new ≡ steps.old }
@@ -136,7 +157,7 @@ fn of_command<I: Source, L: Ledger>(
         return Outcome::NotBuilt;
     }
     match read_whole(alloc, input, MOST_BYTES) {
-        Ok(bytes) => of_bytes(alloc, c, &bytes, steps),
+        Ok(bytes) => of_bytes(alloc, c, &bytes, out, steps),
         Err(ReadError::TooLong) => Outcome::Refused {
             place: MOST_BYTES as u64,
             why: Refusal::TooLong,
@@ -146,49 +167,35 @@ fn of_command<I: Source, L: Ledger>(
     }
 }
 
-// What words and an input come to, before anything is written.
-fn answer<I: Source, L: Ledger>(
+// What words and an input come to. The view's text is written then.
+fn answer<I: Source, O: Sink, L: Ledger>(
     alloc: Global,
     words: &Vec<String>,
     input: &mut I,
+    out: &mut O,
     steps: &mut Steps<L>,
 ) -> Outcome
     ensures usage { (status_of (reply_of result) ≡ Status.Usage) ↔ IsNoCommand (map string_bytes words.now.items) }
-    ensures reply { IfSome (I.left input.old) (λ bytes. (reply_of result ≡ read_fault) ⊎ Settles (Answers (map string_bytes words.now.items) bytes) (reply_of result)) }
+    ensures reply { IfSome (I.left input.old) (λ bytes. (reply_of result ≡ read_fault) ⊎ Ends (Answers (map string_bytes words.now.items) bytes) (O.taken out.old) (O.taken out.new) (reply_of result)) }
+    ensures nothing { ((c : Command) → IsCommand (map string_bytes words.now.items) c → MayPut c.view (status_of (reply_of result)) → ⊥) → O.taken out.new ≡ O.taken out.old }
     ensures unread { ReadsNothing (map string_bytes words.now.items) → input.new ≡ input.old }
     ensures idle { ReadsNothing (map string_bytes words.now.items) → steps.new ≡ steps.old }
     ensures cost { IfSome (I.left input.old) (λ bytes. (c : Command) → IsCommand (map string_bytes words.now.items) c → CostsAtMost c bytes steps.old steps.new) }
     ensures read { status_of (reply_of result) ≡ Status.ReadFault → Rose (I.faults input.old) (I.faults input.new) }
-    ensures write { status_of (reply_of result) ≢ Status.WriteFault }
+    ensures write { status_of (reply_of result) ≡ Status.WriteFault → Rose (O.faults out.old) (O.faults out.new) }
     ensures end { status_of (reply_of result) ≡ Status.Done → IsAtEnd (I.left input.new) }
 {
     match command(words) {
-        Some(c) => of_command(alloc, c, input, steps),
+        Some(c) => of_command(alloc, c, input, out, steps),
         None => Outcome::Usage,
-    }
-}
-
-// Writes the text of an outcome, where it has one.
-fn write_text<O: Sink>(out: &mut O, outcome: Outcome) -> Outcome
-    requires { status_of (reply_of outcome) ≢ Status.WriteFault }
-    ensures same { status_of (reply_of result) ≢ Status.WriteFault → reply_of result ≡ reply_of outcome }
-    ensures whole { status_of (reply_of result) ≢ Status.WriteFault → Takes (O.taken out.old) (O.taken out.new) (text_of (reply_of outcome)) }
-    ensures nothing { status_of (reply_of outcome) ≢ Status.Done → O.taken out.new ≡ O.taken out.old }
-    ensures done { status_of (reply_of result) ≡ Status.WriteFault → status_of (reply_of outcome) ≡ Status.Done }
-    ensures part { status_of (reply_of result) ≡ Status.WriteFault → WrotePrefix (O.taken out.old) (O.taken out.new) (text_of (reply_of outcome)) }
-    ensures fault { status_of (reply_of result) ≡ Status.WriteFault → Rose (O.faults out.old) (O.faults out.new) }
-{
-    match outcome {
-        Outcome::Done(text) => match write_whole(out, &text) {
-            Ok(()) => Outcome::Done(text),
-            Err(_) => Outcome::WriteFault,
-        },
-        other => other,
     }
 }
 
 /// Answers words and an input: writes the view's text to `out`, or a line that says why not to `err`. It is all
 /// that the program does. A step is one row given to an elimination.
+///
+/// A checkpoint is written as it is made: its head first, and each section as soon as its weight is complete. Where
+/// a fault stops the run, or memory runs out, what was written stands. Every other text is made first.
 pub fn run<I: Source, O: Sink, E: Sink, L: Ledger>(
     alloc: Global,
     words: &Vec<String>,
@@ -206,10 +213,13 @@ pub fn run<I: Source, O: Sink, E: Sink, L: Ledger>(
     // A faulty input or output alone gives these, and a prefix of the text stands in the output.
     ensures read { result ≡ Status.ReadFault → Rose (I.faults input.old) (I.faults input.new) }
     ensures write { result ≡ Status.WriteFault → Rose (O.faults out.old) (O.faults out.new) }
-    ensures part { result ≡ Status.WriteFault → IfSome (I.left input.old) (λ bytes. IsPartOf (map string_bytes words.now.items) bytes (O.taken out.old) (O.taken out.new)) }
-    ensures nothing { result ≢ Status.Done → result ≢ Status.WriteFault → O.taken out.new ≡ O.taken out.old }
+    ensures part { result ≡ Status.WriteFault → IfSome (I.left input.old) (λ bytes. IsPartOf (Answers (map string_bytes words.now.items) bytes) (O.taken out.old) (O.taken out.new)) }
 
-    // Where there is a table within the limits and no stream fails, it is written, but for want of memory.
+    // Where memory ran out, a checkpoint may have its head and first sections. Else the output is as before.
+    ensures front { result ≡ Status.NoMemory → IfSome (I.left input.old) (λ bytes. TakesFront (Answers (map string_bytes words.now.items) bytes) (O.taken out.old) (O.taken out.new)) }
+    ensures nothing { ((c : Command) → IsCommand (map string_bytes words.now.items) c → MayPut c.view result → ⊥) → O.taken out.new ≡ O.taken out.old }
+
+    // Where there is a table within the limits and no stream fails, its view is written, but for want of memory.
     ensures complete { IfSome (I.left input.old) (λ bytes. HasTable (map string_bytes words.now.items) bytes → (Rose (I.faults input.old) (I.faults input.new) → ⊥) → (Rose (O.faults out.old) (O.faults out.new) → ⊥) → (result ≡ Status.Done) ⊎ (result ≡ Status.NoMemory)) }
 
     ensures end { result ≡ Status.Done → IsAtEnd (I.left input.new) }
@@ -219,7 +229,7 @@ pub fn run<I: Source, O: Sink, E: Sink, L: Ledger>(
     // What a command costs, whatever the answer.
     ensures cost { IfSome (I.left input.old) (λ bytes. (c : Command) → IsCommand (map string_bytes words.now.items) c → CostsAtMost c bytes steps.old steps.new) }
 {
-    let outcome = write_text(out, answer(alloc, words, input, steps));
+    let outcome = answer(alloc, words, input, out, steps);
     let _ = put_line(err, &outcome);
     outcome.status()
 }

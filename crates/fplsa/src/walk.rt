@@ -1,23 +1,29 @@
 //! The run through the weights of what was read.
-ghost use Rattle.std.specs.Prelude.{◌≡◌, ◌≤◌, ◌<◌, ◌+◌, ◌⊎◌, [], length, None, Err, OnOk, IfErr};
+ghost use Rattle.std.specs.Prelude.{◌≡◌, ◌≤◌, ◌<◌, ◌+◌, ◌^◌, ◌⊎◌, [], length, None, Err, OnOk, IfErr};
 ghost use Rattle.fpl_model.specs.Sound.{IsSound};
+ghost use Rattle.fpl_canonical.specs.Canonical.{canonical_of};
+ghost use Rattle.fpl_outside.specs.Outside.{Rose};
 ghost use Rattle.fpl_resume.specs.Walk as plain;
 ghost use Rattle.fpl_resume.specs.Walk.{Stage, Fault, failed, walk_of, cost_of};
 ghost use Rattle.fpl_resume.specs.Stops.{IsStop, stored_in};
 ghost use Rattle.fplsa.specs.declared.words.View.{View};
 ghost use Rattle.fplsa.specs.Words.{IsInRange};
-ghost use Rattle.fplsa.specs.Reply.{no_memory, stopped};
+ghost use Rattle.fplsa.specs.Reply.{no_memory, stopped, status_of};
 ghost use Rattle.fplsa.specs.Start.{does_compute, cost_for};
 ghost use Rattle.fplsa.specs.Answer.{AnswersStart};
 ghost use Rattle.fplsa.specs.Outcome.{reply_of};
-ghost use Rattle.fplsa.specs.Run.{Settles};
-ghost use Rattle.fplsa.specs.Begin.{start_in, HasStopped, HasChecked};
+ghost use Rattle.fplsa.specs.Run.{MayPut, Ends};
+ghost use Rattle.fplsa.specs.Begin.{start_in, HasStopped, IsChecked};
 
 use crate::check_text::check_text;
 use crate::outcome::Outcome;
+use crate::put::put_whole;
+use crate::status::Status;
+use crate::stream::stream;
 use crate::words::{Command, View};
 use fpl_model::Presentation;
 use fpl_numbers::Kind;
+use fpl_outside::Sink;
 use fpl_print::table_text;
 use fpl_resume::{Run, Stop};
 use fpl_scalar::{Field, Fraction, Residue};
@@ -34,7 +40,7 @@ pub(crate) struct Begin {
     pub stored: bool,
 }
 
-fn does_compute(view: View) -> bool
+pub(crate) fn does_compute(view: View) -> bool
     ensures { result ≡ does_compute view }
 {
     !matches!(view, View::Check)
@@ -67,9 +73,10 @@ fn walk<F: Field, L: Ledger>(
 }
 
 // What a stop comes to, but for the end of what is stored.
-fn ending(stop: Stop) -> Outcome
+pub(crate) fn ending(stop: Stop) -> Outcome
     ensures memory { stop ≡ Stop.NoMemory → reply_of result ≡ no_memory }
     ensures reply { (f : Fault) → IsStop {X = Stage} stop (Err (failed f)) → (stop ≡ Stop.NoMemory → ⊥) → reply_of result ≡ stopped [] f }
+    ensures write { status_of (reply_of result) ≡ Status.WriteFault → ⊥ }
 {
     match stop {
         Stop::TooMany { weight, count } => Outcome::Limit { weight, count },
@@ -81,12 +88,13 @@ fn ending(stop: Stop) -> Outcome
     }
 }
 
-fn table_through<F: Field, L: Ledger>(
+fn table_through<F: Field, O: Sink, L: Ledger>(
     alloc: Global,
     field: F,
     c: Command,
     begin: Begin,
     bytes: &[u8],
+    out: &mut O,
     steps: &mut Steps<L>,
 ) -> Outcome
     requires kind { F.kind_of field ≡ begin.presentation.field }
@@ -94,7 +102,9 @@ fn table_through<F: Field, L: Ledger>(
     requires version { (begin.version ≡ 1) ⊎ (begin.version ≡ 2) }
     requires view { c.view ≡ View.Table }
     requires range { IsInRange c }
-    ensures reply { Settles (AnswersStart c (start_in begin bytes.now)) (reply_of result) }
+    ensures reply { Ends (AnswersStart c (start_in begin bytes.now)) (O.taken out.old) (O.taken out.new) (reply_of result) }
+    ensures fault { status_of (reply_of result) ≡ Status.WriteFault → Rose (O.faults out.old) (O.faults out.new) }
+    ensures nothing { (MayPut c.view (status_of (reply_of result)) → ⊥) → O.taken out.new ≡ O.taken out.old }
     ensures rises { steps.old ≤ steps.new }
     ensures cost { steps.new ≤ steps.old + cost_for c (start_in begin bytes.now) }
 {
@@ -109,52 +119,62 @@ fn table_through<F: Field, L: Ledger>(
         return Outcome::NoMemory;
     };
     match walk(&mut run, bytes, c, steps) {
-        Ok(()) => match table_text(alloc, run.state().presentation(), run.state().table()) {
-            Ok(text) => Outcome::Done(text),
-            Err(_) => Outcome::NoMemory,
-        },
+        Ok(()) => {
+            let made = table_text(alloc, run.state().presentation(), run.state().table());
+            put_whole(out, made)
+        }
         Err(stop) => ending(stop),
     }
 }
 
-// The text of a check that found nothing wrong.
-fn checked<F: Field>(alloc: Global, run: &Run<F>, c: Command, bytes: &[u8]) -> Outcome
+// Writes the text of a check that found nothing wrong.
+fn checked<F: Field, O: Sink>(
+    alloc: Global,
+    run: &Run<F>,
+    c: Command,
+    bytes: &[u8],
+    out: &mut O,
+) -> Outcome
     requires { IsInRange c }
-    ensures { HasChecked run.now c bytes.now (reply_of result) }
+    ensures reply { Ends (IsChecked run.now c bytes.now) (O.taken out.old) (O.taken out.new) (reply_of result) }
+    ensures fault { status_of (reply_of result) ≡ Status.WriteFault → Rose (O.faults out.old) (O.faults out.new) }
+    ensures nothing { (MayPut c.view (status_of (reply_of result)) → ⊥) → O.taken out.new ≡ O.taken out.old }
 {
     let field = run.state().presentation().field;
     let rest = bytes.len().saturating_sub(run.place()) as u64;
-    match check_text(alloc, field, c.limit, run.weight(), rest) {
-        Ok(text) => Outcome::Done(text),
-        Err(_) => Outcome::NoMemory,
-    }
+    put_whole(out, check_text(alloc, field, c.limit, run.weight(), rest))
 }
 
 // What a check comes to that stopped: the end of what is stored is no fault.
-fn checked_to<F: Field>(
+fn checked_to<F: Field, O: Sink>(
     alloc: Global,
     run: &Run<F>,
     c: Command,
     bytes: &[u8],
     stop: Stop,
+    out: &mut O,
 ) -> Outcome
     requires { IsInRange c }
-    ensures ended { stop ≡ Stop.Ended → HasChecked run.now c bytes.now (reply_of result) }
+    ensures ended { stop ≡ Stop.Ended → Ends (IsChecked run.now c bytes.now) (O.taken out.old) (O.taken out.new) (reply_of result) }
     ensures memory { stop ≡ Stop.NoMemory → reply_of result ≡ no_memory }
     ensures reply { (f : Fault) → IsStop {X = Stage} stop (Err (failed f)) → (stop ≡ Stop.NoMemory → ⊥) → reply_of result ≡ stopped [] f }
+    ensures untouched { (stop ≡ Stop.Ended → ⊥) → O.taken out.new ≡ O.taken out.old }
+    ensures fault { status_of (reply_of result) ≡ Status.WriteFault → Rose (O.faults out.old) (O.faults out.new) }
+    ensures nothing { (MayPut c.view (status_of (reply_of result)) → ⊥) → O.taken out.new ≡ O.taken out.old }
 {
     match stop {
-        Stop::Ended => checked(alloc, run, c, bytes),
+        Stop::Ended => checked(alloc, run, c, bytes, out),
         _ => ending(stop),
     }
 }
 
-fn check_through<F: Field, L: Ledger>(
+fn check_through<F: Field, O: Sink, L: Ledger>(
     alloc: Global,
     field: F,
     c: Command,
     begin: Begin,
     bytes: &[u8],
+    out: &mut O,
     steps: &mut Steps<L>,
 ) -> Outcome
     requires kind { F.kind_of field ≡ begin.presentation.field }
@@ -162,7 +182,9 @@ fn check_through<F: Field, L: Ledger>(
     requires version { (begin.version ≡ 1) ⊎ (begin.version ≡ 2) }
     requires view { c.view ≡ View.Check }
     requires range { IsInRange c }
-    ensures reply { Settles (AnswersStart c (start_in begin bytes.now)) (reply_of result) }
+    ensures reply { Ends (AnswersStart c (start_in begin bytes.now)) (O.taken out.old) (O.taken out.new) (reply_of result) }
+    ensures fault { status_of (reply_of result) ≡ Status.WriteFault → Rose (O.faults out.old) (O.faults out.new) }
+    ensures nothing { (MayPut c.view (status_of (reply_of result)) → ⊥) → O.taken out.new ≡ O.taken out.old }
     ensures rises { steps.old ≤ steps.new }
     ensures cost { steps.new ≤ steps.old + cost_for c (start_in begin bytes.now) }
 {
@@ -177,53 +199,96 @@ fn check_through<F: Field, L: Ledger>(
         return Outcome::NoMemory;
     };
     match walk(&mut run, bytes, c, steps) {
-        Ok(()) => checked(alloc, &run, c, bytes),
-        Err(stop) => checked_to(alloc, &run, c, bytes, stop),
+        Ok(()) => checked(alloc, &run, c, bytes, out),
+        Err(stop) => checked_to(alloc, &run, c, bytes, stop, out),
     }
 }
 
-fn through_field<F: Field, L: Ledger>(
+fn checkpoint_through<F: Field, O: Sink, L: Ledger>(
     alloc: Global,
     field: F,
     c: Command,
     begin: Begin,
     bytes: &[u8],
+    out: &mut O,
     steps: &mut Steps<L>,
 ) -> Outcome
     requires kind { F.kind_of field ≡ begin.presentation.field }
     requires sound { IsSound begin.presentation }
+    requires short { length (canonical_of begin.presentation) < 2 ^ 32 }
+    requires version { (begin.version ≡ 1) ⊎ (begin.version ≡ 2) }
+    requires view { c.view ≡ View.Checkpoint }
+    requires range { IsInRange c }
+    ensures reply { Ends (AnswersStart c (start_in begin bytes.now)) (O.taken out.old) (O.taken out.new) (reply_of result) }
+    ensures fault { status_of (reply_of result) ≡ Status.WriteFault → Rose (O.faults out.old) (O.faults out.new) }
+    ensures nothing { (MayPut c.view (status_of (reply_of result)) → ⊥) → O.taken out.new ≡ O.taken out.old }
+    ensures rises { steps.old ≤ steps.new }
+    ensures cost { steps.new ≤ steps.old + cost_for c (start_in begin bytes.now) }
+{
+    let Ok(mut run) = Run::start(
+        alloc,
+        field,
+        begin.presentation,
+        begin.version,
+        begin.place,
+        begin.stored,
+    ) else {
+        return Outcome::NoMemory;
+    };
+    stream(alloc, &mut run, bytes, c, out, steps)
+}
+
+fn through_field<F: Field, O: Sink, L: Ledger>(
+    alloc: Global,
+    field: F,
+    c: Command,
+    begin: Begin,
+    bytes: &[u8],
+    out: &mut O,
+    steps: &mut Steps<L>,
+) -> Outcome
+    requires kind { F.kind_of field ≡ begin.presentation.field }
+    requires sound { IsSound begin.presentation }
+    requires short { length (canonical_of begin.presentation) < 2 ^ 32 }
     requires version { (begin.version ≡ 1) ⊎ (begin.version ≡ 2) }
     requires range { IsInRange c }
-    ensures reply { Settles (AnswersStart c (start_in begin bytes.now)) (reply_of result) }
+    ensures reply { Ends (AnswersStart c (start_in begin bytes.now)) (O.taken out.old) (O.taken out.new) (reply_of result) }
+    ensures fault { status_of (reply_of result) ≡ Status.WriteFault → Rose (O.faults out.old) (O.faults out.new) }
+    ensures nothing { (MayPut c.view (status_of (reply_of result)) → ⊥) → O.taken out.new ≡ O.taken out.old }
     ensures rises { steps.old ≤ steps.new }
     ensures cost { steps.new ≤ steps.old + cost_for c (start_in begin bytes.now) }
 {
     match c.view {
-        View::Table => table_through(alloc, field, c, begin, bytes, steps),
-        View::Check => check_through(alloc, field, c, begin, bytes, steps),
+        View::Table => table_through(alloc, field, c, begin, bytes, out, steps),
+        View::Checkpoint => checkpoint_through(alloc, field, c, begin, bytes, out, steps),
+        View::Check => check_through(alloc, field, c, begin, bytes, out, steps),
         _ => Outcome::NotBuilt,
     }
 }
 
 /// What a command comes to for what was read. Sections are stored in `bytes`.
-pub(crate) fn of_start<L: Ledger>(
+pub(crate) fn of_start<O: Sink, L: Ledger>(
     alloc: Global,
     c: Command,
     begin: Begin,
     bytes: &[u8],
+    out: &mut O,
     steps: &mut Steps<L>,
 ) -> Outcome
     requires sound { IsSound begin.presentation }
+    requires short { length (canonical_of begin.presentation) < 2 ^ 32 }
     requires version { (begin.version ≡ 1) ⊎ (begin.version ≡ 2) }
     requires range { IsInRange c }
-    ensures reply { Settles (AnswersStart c (start_in begin bytes.now)) (reply_of result) }
+    ensures reply { Ends (AnswersStart c (start_in begin bytes.now)) (O.taken out.old) (O.taken out.new) (reply_of result) }
+    ensures fault { status_of (reply_of result) ≡ Status.WriteFault → Rose (O.faults out.old) (O.faults out.new) }
+    ensures nothing { (MayPut c.view (status_of (reply_of result)) → ⊥) → O.taken out.new ≡ O.taken out.old }
     ensures rises { steps.old ≤ steps.new }
     ensures cost { steps.new ≤ steps.old + cost_for c (start_in begin bytes.now) }
 {
     match begin.presentation.field {
-        Kind::Rational => through_field(alloc, Fraction, c, begin, bytes, steps),
+        Kind::Rational => through_field(alloc, Fraction, c, begin, bytes, out, steps),
         Kind::Prime(prime) => match Residue::of(prime) {
-            Some(field) => through_field(alloc, field, c, begin, bytes, steps),
+            Some(field) => through_field(alloc, field, c, begin, bytes, out, steps),
             None => Outcome::NotBuilt,
         },
     }

@@ -1,18 +1,21 @@
 use Rattle.std.proofs.Common.{◌∙◌, sym}
-use Rattle.fplsa.proofs.Replies.{replied, says, part_of}
-use Rattle.fplsa.proofs.Complete.{completes, fault_read}
+use Rattle.fplsa.proofs.Replies.{replied, says, part_of, front_of}
+use Rattle.fplsa.proofs.Complete.{completes}
 use Rattle.fplsa.proofs.run.run.Goals as goal
 
 pub returns-clause-reply : goal.returns-clause-reply
 returns-clause-reply g c =
-    rw c.status.ensures (replied _ _ _ _ _ _ _ _ _ _ c.answer.ensures.reply c.write_text-outcome.ensures.same c.write_text-outcome.ensures.whole
+    rw c.status.ensures (replied _ _ _ _ _ _ _ _ _ c.answer-outcome.ensures.reply
     (says c.put_line.result _ _ _ _ _ c.put_line.ensures.whole c.put_line.ensures.part c.put_line.ensures.fault))
 
 pub returns-clause-complete : goal.returns-clause-complete
 returns-clause-complete g c =
     completes _ _ c.status.result _ _ _ _ _ _ _ _ (returns-clause-reply g c)
-    (λ e. fault_read _ _ _ c.write_text-outcome.ensures.same c.answer.ensures.read (sym c.status.ensures ∙ e))
-    (λ e. c.write_text-outcome.ensures.fault (sym c.status.ensures ∙ e))
+    (λ e. c.answer-outcome.ensures.read (sym c.status.ensures ∙ e))
+    (λ e. c.answer-outcome.ensures.write (sym c.status.ensures ∙ e))
 
 pub returns-clause-part : goal.returns-clause-part
-returns-clause-part g c = λ e. part_of _ _ _ _ _ _ c.answer.ensures.reply c.write_text-outcome.ensures.done c.write_text-outcome.ensures.part (sym c.status.ensures ∙ e)
+returns-clause-part g c = λ e. part_of _ _ _ _ _ c.answer-outcome.ensures.reply (sym c.status.ensures ∙ e)
+
+pub returns-clause-front : goal.returns-clause-front
+returns-clause-front g c = λ e. front_of _ _ _ _ _ c.answer-outcome.ensures.reply (sym c.status.ensures ∙ e)

@@ -1,0 +1,27 @@
+-- Texts that are put.
+use Rattle.std.proofs.Common.{◌≡◌, ℕ, inl, List, [], length, Ok, Err, None, Some, refl, sym, ap, subst, ◌∙◌, arith}
+use Rattle.std.specs.Prelude.{IfErr}
+use Rattle.std.specs.declared.option.Option.{Option}
+use Rattle.std.specs.declared.result.Result.{Result}
+use Rattle.fpl_outside.specs.Outside.{Takes}
+use Rattle.fpl_outside.specs.Whole.{WrotePrefix}
+use Rattle.fplsa.specs.declared.status.Status.TheVariants.{WriteFault}
+use Rattle.fplsa.specs.declared.words.View.{View}
+use Rattle.fplsa.specs.declared.put.Cut.{Cut}
+use Rattle.fplsa.specs.declared.put.Cut.TheVariants as cut
+use Rattle.fplsa.specs.Reply.{Reply, done, status_of}
+use Rattle.fplsa.specs.Run.{MayPut, Ends}
+use Rattle.fplsa.specs.Put.{Puts, cut_reply}
+
+-- a view's whole text
+pub cut_ends : {X : Type 0} (text : List ℕ) (a b : Option (List ℕ)) (x : Cut) → Puts {X} text a b (Err x) → Ends (λ r. r ≡ done text) a b (cut_reply x)
+cut_ends text a b cut.NoMemory h = inl h
+cut_ends text a b cut.WriteFault h = record { reply = done text; answers = refl; put = tt; part = h }
+
+pub cut_nothing : (view : View) (a b : Option (List ℕ)) (x : Cut) → (x ≡ cut.NoMemory → b ≡ a) → (MayPut view (status_of (cut_reply x)) → ⊥) → b ≡ a
+cut_nothing view a b cut.NoMemory h no = h refl
+cut_nothing view a b cut.WriteFault h no = absurd (no tt)
+
+pub cut_fault : (R : Type 0) (x : Cut) → (x ≡ cut.WriteFault → R) → status_of (cut_reply x) ≡ WriteFault → R
+cut_fault R cut.NoMemory h e = cc
+cut_fault R cut.WriteFault h e = h refl
