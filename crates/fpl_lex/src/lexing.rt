@@ -5,6 +5,8 @@ ghost use Rattle.fpl_lex.specs.Machine.{class_of, with_digit, begun_by, ends_bef
 use crate::{LexError, Token, TokenKind, Tokens};
 use std::alloc::Global;
 
+// What finds the next token is inlined: modes and tokens are large, and a call hands them over in memory.
+
 const MOST_NAME: usize = 32;
 /// The greatest number that a text may write.
 const MOST_NUMBER: u128 = 170141183460469231731687303715884105727;
@@ -31,6 +33,7 @@ enum Class {
     Other,
 }
 
+#[inline(always)]
 fn class_of(b: u8) -> Class
     ensures { result ≡ class_of b }
 {
@@ -58,6 +61,7 @@ enum Advance {
 }
 
 // What ends before this place: a token, or the text.
+#[inline(always)]
 fn finish(mode: Mode, at: usize) -> Result<Option<Token>, LexError>
     requires { IsBefore mode at }
     ensures { IsFinished mode at result }
@@ -83,6 +87,7 @@ fn finish(mode: Mode, at: usize) -> Result<Option<Token>, LexError>
 }
 
 // What a byte begins.
+#[inline(always)]
 fn begin(at: usize, b: u8, class: Class) -> Advance
     requires { at < 2 ^ 64 - 1 }
     ensures { result ≡ begun_by at b class }
@@ -116,6 +121,7 @@ fn with_digit(n: u128, digit: u8) -> Option<u128>
 }
 
 // What a byte does.
+#[inline(always)]
 fn take_byte(mode: Mode, at: usize, b: u8) -> Advance
     requires before { IsBefore mode at }
     requires fits { at < 2 ^ 64 - 1 }
@@ -138,6 +144,7 @@ fn take_byte(mode: Mode, at: usize, b: u8) -> Advance
 }
 
 // A byte ends what was begun.
+#[inline(always)]
 fn end_before(mode: Mode, at: usize) -> Advance
     requires { IsBefore mode at }
     ensures { result ≡ ends_before mode at }
@@ -150,6 +157,7 @@ fn end_before(mode: Mode, at: usize) -> Advance
 }
 
 /// The first token that begins at this place or after it, `None` where no more follow, or the first fault.
+#[inline(always)]
 pub fn next_token(text: &[u8], from: usize) -> Result<Option<Token>, LexError>
     requires { from ≤ length text.now }
     ensures { IsNext text.now from result }

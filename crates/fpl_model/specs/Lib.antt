@@ -1,4 +1,5 @@
 pub mod Meaning
+pub mod Scalars
 pub mod Sound
 pub mod Mono
 pub mod Degrees

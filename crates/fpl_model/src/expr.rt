@@ -9,7 +9,7 @@ pub type Exprs = Items<Expr>;
 
 /// A bracket expression over the generators of a presentation.
 ///
-/// Each variant takes two words at most, so that a long sum takes little more memory than its text.
+/// Each variant takes two words at most beside its tag, since a text of n bytes may have n / 2 terms.
 #[derive(Drop)]
 pub enum Expr {
     /// A generator, by its number in order of declaration, from 1.

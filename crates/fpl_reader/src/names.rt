@@ -13,6 +13,7 @@ use crate::symbols::symbol_of;
 use fpl_numbers::Kind;
 use fpl_syntax::{Scope, number_of};
 
+#[inline(always)]
 fn unknown_in(scope: &Scope, event: Option<Event>) -> Option<usize>
     ensures { result ≡ unknown_if (sight scope.now) event }
 {
@@ -55,6 +56,7 @@ fn is_zero_in(kind: Kind, d: u128) -> bool
     }
 }
 
+#[inline(always)]
 fn zero_in(kind: Kind, event: Option<Event>) -> Option<usize>
     requires { IsTrue (is_field kind) }
     ensures { result ≡ zero_if kind event }

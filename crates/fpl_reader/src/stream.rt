@@ -32,6 +32,7 @@ impl<'a> Stream<'a> {
         Stream { text, at: 0 }
     }
 
+    #[inline(always)]
     pub fn next(&mut self) -> Option<Token>
         ensures { MatchOption result ((self.old ≡ []) × (self.new ≡ [])) (λ t. self.old ≡ t ∷ self.new) }
     {

@@ -55,7 +55,8 @@ pub enum Track {
     AfterSlash,
 }
 
-/// What a symbol is, and where the next one stands.
+/// What a symbol is, and where the next one stands. Inlined, since the answer is large.
+#[inline(always)]
 pub fn note(track: Track, symbol: Symbol) -> (Option<Event>, Track)
     ensures { (result.0, result.1) ≡ note track symbol }
 {
@@ -86,6 +87,7 @@ pub fn note(track: Track, symbol: Symbol) -> (Option<Event>, Track)
     }
 }
 
+#[inline(always)]
 fn named(place: usize, name: FieldName) -> (Option<Event>, Track)
     ensures { (result.0, result.1) ≡ named_field place name }
 {
@@ -93,6 +95,7 @@ fn named(place: usize, name: FieldName) -> (Option<Event>, Track)
     (Some(Event::FieldNamed(field)), Track::Outside)
 }
 
+#[inline(always)]
 fn declared(parity: Parity, word: Word, weight: Option<Numeral>) -> Option<Event>
     ensures { result ≡ some_declared word parity weight }
 {
@@ -110,6 +113,7 @@ pub struct Survey {
     pub declared: Items<DeclaredName>,
 }
 
+#[inline(always)]
 fn record(event: Option<Event>, survey: &mut Survey) -> Result<(), AllocError>
     ensures fields { OnOk result (survey.new.fields ≡ survey.old.fields ++ fields_in (event_list event)) }
     ensures declared { OnOk result (survey.new.declared ≡ survey.old.declared ++ declared_in (event_list event)) }

@@ -9,26 +9,31 @@ fn word_symbol(word: &[u8], start: usize, end: usize) -> Symbol
     ensures { result ≡ word_symbol word.now start end }
 {
     if word == b"field".as_slice() {
-        Symbol::Field(start)
-    } else if word == b"even".as_slice() {
-        Symbol::Declare(Parity::Even)
-    } else if word == b"odd".as_slice() {
-        Symbol::Declare(Parity::Odd)
-    } else if word == b"relation".as_slice() {
-        Symbol::Claim(ClaimKind::Relation, start)
-    } else if word == b"ideal".as_slice() {
-        Symbol::Claim(ClaimKind::Ideal, start)
-    } else if word == b"equal".as_slice() {
-        Symbol::Claim(ClaimKind::Equal, start)
-    } else {
-        Symbol::Name(Word {
-            start,
-            end,
-            rationals: word == b"Q".as_slice(),
-        })
+        return Symbol::Field(start);
     }
+    if word == b"even".as_slice() {
+        return Symbol::Declare(Parity::Even);
+    }
+    if word == b"odd".as_slice() {
+        return Symbol::Declare(Parity::Odd);
+    }
+    if word == b"relation".as_slice() {
+        return Symbol::Claim(ClaimKind::Relation, start);
+    }
+    if word == b"ideal".as_slice() {
+        return Symbol::Claim(ClaimKind::Ideal, start);
+    }
+    if word == b"equal".as_slice() {
+        return Symbol::Claim(ClaimKind::Equal, start);
+    }
+    Symbol::Name(Word {
+        start,
+        end,
+        rationals: word == b"Q".as_slice(),
+    })
 }
 
+#[inline(always)]
 fn mark_symbol(b: u8) -> Symbol
     ensures { result ≡ mark_symbol b }
 {
@@ -50,6 +55,7 @@ fn mark_symbol(b: u8) -> Symbol
 
 /// The symbol of a token of a text.
 #[tactic(auto, unfolding(crate::specs::Symbols::symbol_of))]
+#[inline(always)]
 pub fn symbol_of(text: &[u8], token: Token) -> Symbol
     ensures { result ≡ symbol_of text.now token }
 {

@@ -24,6 +24,7 @@ pub fn lexical_fault(text: &[u8]) -> Option<LexError>
     }
 }
 
+#[inline(always)]
 fn opens(kind: TokenKind) -> u64
     ensures value { result ≡ opens kind }
     ensures small { result ≤ 1 }
@@ -34,6 +35,7 @@ fn opens(kind: TokenKind) -> u64
     }
 }
 
+#[inline(always)]
 fn closes(kind: TokenKind) -> u64
     ensures value { result ≡ closes kind }
     ensures small { result ≤ 1 }
