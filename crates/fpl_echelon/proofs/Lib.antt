@@ -1,3 +1,4 @@
 pub mod IndexLemmas
 pub mod Contracts
 pub mod ClosedLeads
+pub mod Passing
