@@ -38,7 +38,7 @@ pub fn close_place<F: Field>(
             let mut terms = Terms::new(alloc);
             sweep_below(field, closed, s, &mut row, &mut terms)?;
             let step = steps.len() as u64 + 1;
-            closed.push(Pivot::of(s + 1, step, row))?;
+            closed.push(Pivot::of(s + 1, step, row.pack(alloc, field)))?;
             let of = pivot.step();
             steps.push(Step::Close { of, terms })?;
             Ok(())

@@ -15,6 +15,7 @@ use std::alloc::Global;
 
 /// Scales what is left of a row to lead 1, and keeps it.
 pub fn keep<F: Field>(
+    alloc: Global,
     field: &F,
     pivots: &mut Pivots<F>,
     steps: &mut StepList,
@@ -38,7 +39,7 @@ pub fn keep<F: Field>(
         terms,
         scale,
     })?;
-    match pivots.push(Pivot::of(lead, step, row)) {
+    match pivots.push(Pivot::of(lead, step, row.pack(alloc, field))) {
         Ok(()) => Ok(()),
         Err(_) => {
             steps.pop();
@@ -79,7 +80,7 @@ pub fn put_in<F: Field>(
             Ok(Outcome::Dependent)
         }
         Some(lead) => {
-            keep(field, pivots, steps, lead, row, origin, terms)?;
+            keep(alloc, field, pivots, steps, lead, row, origin, terms)?;
             Ok(Outcome::Pivot(lead))
         }
     }

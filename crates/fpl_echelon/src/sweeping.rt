@@ -1,4 +1,5 @@
-ghost use Rattle.std.specs.Prelude.{◌≡◌, ◌<◌, ◌≤◌, ◌+◌, ◌^◌, length, All, OnOk};
+ghost use Rattle.std.specs.Prelude.{◌≡◌, ◌<◌, ◌≤◌, ◌+◌, ◌^◌, false, length, slice_index_or, All, OnOk};
+ghost use Rattle.fpl_numbers.specs.Numbers.{is_nought, residue};
 ghost use Rattle.fpl_numbers.specs.Results.{Gives};
 ghost use Rattle.fpl_scalar.specs.Vectors.{AreElements};
 ghost use Rattle.fpl_elimination.specs.Plain.{IsPivotRow, sweep_at, sweep_of};
@@ -8,7 +9,7 @@ use fpl_log::{Term, Terms};
 use fpl_rows::Row;
 use fpl_scalar::{Fault, Field};
 
-/// Takes the pivot row at position `s + 1` off, where the row is not 0 there.
+/// Takes the pivot row at position `s + 1` off, if there is one.
 pub fn sweep_place<F: Field>(
     field: &F,
     pivots: &Pivots<F>,
@@ -18,6 +19,7 @@ pub fn sweep_place<F: Field>(
 ) -> Result<(), Fault>
     requires place { s < length row.old }
     requires fits { s + 1 < 2 ^ 32 }
+    requires nonzero { is_nought (slice_index_or row.old s (residue 0)) ≡ false }
     requires elements { AreElements (F.kind_of field.now) row.old }
     requires pivots { All (IsPivotRow (F.kind_of field.now) (length row.old)) pivots.now }
     ensures value { Gives result (record { row = row.new; terms = terms.new }) (sweep_at (F.kind_of field.now) pivots.now s (record { row = row.old; terms = terms.old })) }
@@ -25,9 +27,6 @@ pub fn sweep_place<F: Field>(
     ensures length { length row.new ≡ length row.old }
 {
     let factor = row.at(s + 1);
-    if field.is_zero(factor) {
-        return Ok(());
-    }
     match pivots.find(s + 1) {
         None => Ok(()),
         Some(pivot) => {
@@ -56,10 +55,14 @@ pub fn sweep_below<F: Field>(
     ensures elements { OnOk result (AreElements (F.kind_of field.now) row.new) }
     ensures length { length row.new ≡ length row.old }
 {
-    let mut s = from;
-    while s > 0 {
-        s -= 1;
-        sweep_place(field, pivots, s, row, terms)?;
+    let mut most = from;
+    // a position that is 0 changes nothing
+    while let Some(s) = row.lead_within(most) {
+        most = s - 1;
+        match sweep_place(field, pivots, most, row, terms) {
+            Ok(()) => {}
+            Err(fault) => return Err(fault),
+        }
     }
     Ok(())
 }

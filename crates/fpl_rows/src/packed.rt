@@ -157,6 +157,16 @@ impl<F: Field> Packed<F> {
         })
     }
 
+    pub fn copy(&self, alloc: Global) -> Result<Packed<F>, AllocError>
+        ensures { IfOk result (λ packed. packed ≡ self.now) }
+    {
+        Ok(Packed {
+            size: self.size,
+            places: Vec::from_slice(alloc, &self.places)?,
+            numbers: Vec::from_slice(alloc, &self.numbers)?,
+        })
+    }
+
     pub fn len(&self) -> u32
         ensures value { result ≡ length self.now }
         ensures range { length self.now < 2 ^ 32 }

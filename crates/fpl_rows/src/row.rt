@@ -57,11 +57,14 @@ impl<F: Field> Row<F> {
     pub fn copy(&self, alloc: Global) -> Result<Row<F>, AllocError>
         ensures { IfOk result (λ r. r ≡ self.now) }
     {
-        let numbers = match &self.form {
-            Form::Dense(numbers) => Vec::from_slice(alloc, numbers)?,
-            Form::Sparse(packed) => packed.unpacked(&self.field)?,
+        let form = match &self.form {
+            Form::Dense(numbers) => Form::Dense(Vec::from_slice(alloc, numbers)?),
+            Form::Sparse(packed) => Form::Sparse(packed.copy(alloc)?),
         };
-        Ok(Row::from_vec(&self.field, numbers))
+        Ok(Row {
+            field: self.field,
+            form,
+        })
     }
 
     pub fn len(&self) -> u32
