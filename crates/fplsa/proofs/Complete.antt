@@ -143,8 +143,8 @@ module _ (words : List (List ℕ)) (bytes : List ℕ) (h : HasTable words bytes)
   text_table _ (presentation l q k r a) = start_table r (subst (λ (x : Presentation). AnswersStart h.command (of_text x) r) (one_presentation bytes q p k h.said) a)
 
   apart : (v : View) → IsOfTable v → (w : View) → v ≡ w → (Table ≡ w → ⊥) → (Checkpoint ≡ w → ⊥) → ⊥
-  apart v (inl e) w k table checkpoint = table (sym e ∙ k)
-  apart v (inr e) w k table checkpoint = checkpoint (sym e ∙ k)
+  apart v (inl e) w k f g = f (sym e ∙ k)
+  apart v (inr e) w k f g = g (sym e ∙ k)
 
   plain : IsCheckpoint h.command bytes → ⊥
   plain (inl e) = apart h.command.view h.view Check e (λ k. cc) (λ k. cc)

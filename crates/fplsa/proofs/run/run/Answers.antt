@@ -1,4 +1,5 @@
-use Rattle.std.proofs.Common.{◌∙◌, sym}
+use Rattle.std.proofs.Common.{◌∙◌, sym, subst}
+use Rattle.fplsa.specs.Run.{MayPut}
 use Rattle.fplsa.proofs.Replies.{replied, says, part_of, front_of}
 use Rattle.fplsa.proofs.Complete.{completes}
 use Rattle.fplsa.proofs.run.run.Goals as goal
@@ -19,3 +20,6 @@ returns-clause-part g c = λ e. part_of _ _ _ _ _ c.answer-outcome.ensures.reply
 
 pub returns-clause-front : goal.returns-clause-front
 returns-clause-front g c = λ e. front_of _ _ _ _ _ c.answer-outcome.ensures.reply (sym c.status.ensures ∙ e)
+
+pub returns-clause-nothing : goal.returns-clause-nothing
+returns-clause-nothing g c = λ none. c.answer-outcome.ensures.nothing (λ d is may. none d is (subst (λ s. MayPut d.view s) (sym c.status.ensures) may))
