@@ -1,5 +1,5 @@
 -- The head of a stream, what follows it, and the laws of own streams.
-use Rattle.std.proofs.Common.{◌≡◌, ℕ, ◌+◌, ◌-◌, ◌≤◌, ◌⊎◌, inl, inr, true, false, List, [], ◌++◌, length, take, refl, sym, subst, ◌∙◌, arith}
+use Rattle.std.proofs.Common.{◌≡◌, ℕ, ◌+◌, ◌-◌, ◌≤◌, ◌⊎◌, inl, inr, true, false, List, [], ◌++◌, length, take, refl, sym, ap, subst, ◌∙◌, arith}
 use Rattle.std.specs.List.{flat_map}
 use Rattle.fpl_model.specs.declared.presentation.Presentation.{Presentation}
 use Rattle.fpl_canonical.specs.Canonical.{canonical_of}
@@ -13,30 +13,30 @@ use Rattle.fpl_checkpoint.specs.declared.head.Head.{Head}
 use Rattle.fpl_checkpoint.specs.Heads.{head_bytes_of}
 use Rattle.fpl_checkpoint.specs.Scans.{HasHead}
 use Rattle.fpl_checkpoint.proofs.OneHead.{head_again, one_head}
-use Rattle.fpl_streams.specs.Streams.{plain_walk, number_of, sections_in, IsStreamOf}
-use Rattle.fpl_streams.specs.Laws.{GiveSame, HaveHeads, walk_from, OwnStreamsGive, PassesWith, OwnStreamsPass}
+use Rattle.fpl_streams.specs.Streams.{plain_walk, version_number, sections_in, IsStreamOf}
+use Rattle.fpl_streams.specs.Laws.{GiveSame, HaveHeads, HeadsAreOf, walk_from, OwnStreamsGive, PassesWith, OwnStreamsPass}
 use Rattle.fpl_streams.proofs.CutFrames.{take_past}
 use Rattle.fpl_streams.proofs.Walking.{Follow, gives, passes}
 
-known : (version : Version) → (number_of version ≡ 1) ⊎ (number_of version ≡ 2)
+known : (version : Version) → (version_number version ≡ 1) ⊎ (version_number version ≡ 2)
 known One = inl refl
 known Two = inr refl
 
 module _ (p : Presentation) (bytes : List ℕ) (s : IsStreamOf p bytes) where
   abbrev the_head : List ℕ
-  the_head = head_bytes_of (number_of s.version) p
+  the_head = head_bytes_of (version_number s.version) p
 
   abbrev after : List ℕ
   after = take (s.end - length the_head) (flat_map (section_bytes_of s.version p.field) (sections_in s.version p s.through (start_of p)))
 
   abbrev head_of : Head
-  head_of = record { presentation = p; version = number_of s.version; end = 9 + length (canonical_of p) }
+  head_of = record { presentation = p; version = version_number s.version; end = 9 + length (canonical_of p) }
 
   split : bytes ≡ the_head ++ after
   split = s.front ∙ take_past the_head (flat_map (section_bytes_of s.version p.field) (sections_in s.version p s.through (start_of p))) s.end s.head
 
   pub has_head : HasHead bytes head_of
-  has_head = subst (λ (b : List ℕ). HasHead b head_of) (sym split) (head_again (number_of s.version) p after (known s.version) (has_presentation p s.sound) s.text)
+  has_head = subst (λ (b : List ℕ). HasHead b head_of) (sym split) (head_again (version_number s.version) p after (known s.version) (has_presentation p s.sound) s.text)
 
   pub head_is : (h : Head) → HasHead bytes h → head_of ≡ h
   head_is h is = one_head bytes head_of h has_head is
@@ -55,7 +55,10 @@ module _ (p : Presentation) (bytes : List ℕ) (s : IsStreamOf p bytes) where
       (passes s.version p bytes entries most limit s.through (start_of p) [] (9 + length (canonical_of p)) (start_holds p s.sound) (omega (arith, range)) s.sections follow)
 
 pub have_heads : HaveHeads
-have_heads p bytes s = (head_of p bytes s, has_head p bytes s, refl)
+have_heads p bytes s = (head_of p bytes s, has_head p bytes s)
+
+pub heads_are_of : HeadsAreOf
+heads_are_of p bytes h s is = sym (ap (λ (g : Head). g.presentation) (head_is p bytes s h is))
 
 pub own_streams_give : OwnStreamsGive
 own_streams_give p bytes h entries limit s is most range = stream_gives p bytes s h entries limit is most range

@@ -80,7 +80,7 @@ equations_counted (q ∷ qs) =
 pub relations_few : (p : Presentation) → IsSound p → length p.relations < 2 ^ 32
 relations_few p sound = omega (arith, equations_counted p.relations, sound.small)
 
-pub origins_few : (T : PlainTable) (p : Presentation) → IsSound p → length T.basis ≤ 2000000 → length (origins_of T p) < 2 ^ 64
+pub origins_few : (T : PlainTable) (p : Presentation) → IsSound p → length T.basis ≤ 2000000 → length (origins_of T p) ≤ 2 ^ 63 + 2 ^ 33
 origins_few T p sound few =
     omega (
       arith,

@@ -28,7 +28,7 @@ use Rattle.fpl_sections.specs.Spelling.{payload_bytes, frame_bytes, section_byte
 use Rattle.fpl_sections.proofs.Framed.{frame_found}
 use Rattle.fpl_sections.proofs.Bodies.{payload_again}
 use Rattle.fpl_resume.specs.Walk.{Stored, Stage, Stop, failed, too_many, Walked, adopted, formed, framed, weighed, computed_as, walk_on, walk_of}
-use Rattle.fpl_streams.specs.Streams.{nothing, number_of, section_in, sections_on, sections_in, HasBytes}
+use Rattle.fpl_streams.specs.Streams.{nothing, version_number, section_in, sections_on, sections_in, HasBytes}
 use Rattle.fpl_streams.specs.Laws.{GiveSame, PassesWith}
 use Rattle.fpl_streams.proofs.OriginCounts.{symbols_counted}
 use Rattle.fpl_streams.proofs.CutFrames.{take_past, frame_cut, frame_none, payload_there}
@@ -37,7 +37,7 @@ use Rattle.fpl_streams.proofs.Sections.{StandsFor, section_stands}
 abbrev pub here : PlainTable → List Section → ℕ → Bool → Stage
 here T sections place stored = record { table = T; sections = sections; place = place; stored = stored }
 
-version_again : (version : Version) → version_of (number_of version) ≡ version
+version_again : (version : Version) → version_of (version_number version) ≡ version
 version_again One = refl
 version_again Two = refl
 
@@ -74,7 +74,7 @@ tested_passes V stage w count r false passes = passes refl
 
 module _ (version : Version) (p : Presentation) (bytes : List ℕ) where
   abbrev pub stream : Stored
-  stream = record { version = number_of version; bytes = bytes }
+  stream = record { version = version_number version; bytes = bytes }
 
   abbrev spelled : List Section → List ℕ
   spelled sections = flat_map (section_bytes_of version p.field) sections
@@ -100,7 +100,7 @@ module _ (version : Version) (p : Presentation) (bytes : List ℕ) where
       let whole : bytes ≡ before ++ (frame_bytes w payload ++ after) = are ∙ ap (λ (v : ℕ). before ++ (frame_bytes v payload ++ after)) stands.weight in
       let found : frame_of bytes place w ≡ Ok (Whole from to) = ap₂ (λ (b : List ℕ) (n : ℕ). frame_of b n w) whole there ∙ frame_found before payload after w small fits.payload in
       let range : slice_range bytes from to ≡ payload = ap (λ (b : List ℕ). slice_range b from to) whole ∙ payload_there before payload after w in
-      let read : payload_at (version_of (number_of version)) p.field w to (slice_range bytes from to) ≡ Ok s =
+      let read : payload_at (version_of (version_number version)) p.field w to (slice_range bytes from to) ≡ Ok s =
       ap₂ (λ (v : Version) (b : List ℕ). payload_at v p.field w to b) (version_again version) range ∙ payload_again version p.field w to s fits.parts stands.weight in
       ap (framed computes p stream stage) found ∙ ap (formed stage p to) read ∙ ap (adopted stage p s to) stands.accepted
       ∙ ap₂ (λ (S : PlainTable) (x : Section). Ok (here S (sections ++ x ∷ []) to true)) stands.table stands.kept

@@ -2,20 +2,30 @@
 --
 --   nothing                  nothing is stored
 --   plain_walk e p n         the run through n weights of a presentation for which nothing is stored
---   number_of version        the number of a version
+--   version_number v         the number of a version
 --   section_in v T p h       the section of a computed weight in a version: in the second as it is kept, without the steps of dependent origins; in the first
 --                            as it was recorded, with these
 --   sections_in v p n T      those of the n weights after a table's, or of as many as come before an operation that does not fit
 --   stream_of v p sections   the head of a version, and then sections, one after another
 --   HasBytes v kind s        the parts of a section, and the length of its payload, are as bytes of the version can hold them
+--   IsSmallSection kind s    no step of a section is of a cube; over the fractions the parts of each of its numbers are below 2^63; the length of its payload
+--                            in the first version fits its bytes
 --   IsStreamOf p bytes       the bytes are a stream of p in either version, through any weight, whole or cut at any byte after its head
 --
--- A version has a stream through a weight where each of its sections has bytes. In the first version that asks that no origin be a cube, and that each
--- number of a section have parts of at most 9223372036854775807; it asks nothing of the numbers that were only met on the way.
+-- A version has a stream through a weight where each of its sections has bytes. In the second version each has that a run comes to; in the first each that
+-- is small (RunsWriteStreams, SmallStreams). So the first version asks something of the numbers of a section, and nothing of those that were only met on
+-- the way.
 use Rattle.std.specs.Prelude.{ℕ, zero, suc, ◌≡◌, ◌≤◌, ◌<◌, ◌^◌, List, [], ◌∷◌, ◌++◌, length, take, All, true, false, None, Result, Ok, Err}
 use Rattle.std.specs.List.{flat_map}
+use Rattle.fpl_numbers.specs.declared.number.Num.{Num}
 use Rattle.fpl_numbers.specs.declared.number.Kind.{Kind}
+use Rattle.fpl_numbers.specs.declared.number.Kind.TheVariants.{Rational, Prime}
 use Rattle.fpl_numbers.specs.declared.number.Unfit.{Unfit}
+use Rattle.fpl_numbers.specs.Numbers.{IsSmall}
+use Rattle.fpl_log.specs.declared.step.Origin.{Origin}
+use Rattle.fpl_log.specs.declared.step.Origin.TheVariants.{Relation, Jacobi, Cube, Row}
+use Rattle.fpl_log.specs.declared.step.Step.{Step}
+use Rattle.fpl_log.specs.declared.step.Step.TheVariants.{Insert, Close}
 use Rattle.fpl_log.specs.declared.section.Section.{Section}
 use Rattle.fpl_elimination.specs.Plain.{Held, rows_of}
 use Rattle.fpl_model.specs.declared.presentation.Presentation.{Presentation}
@@ -40,9 +50,9 @@ nothing = record { version = 2; bytes = [] }
 abbrev pub plain_walk : (entries : ℕ) → Presentation → ℕ → Walked
 plain_walk entries p n = walk_of true entries p nothing n (begun p 0 false)
 
-abbrev pub number_of : Version → ℕ
-number_of One = 1
-number_of Two = 2
+abbrev pub version_number : Version → ℕ
+version_number One = 1
+version_number Two = 2
 
 abbrev pub section_in : Version → PlainTable → Presentation → Held → Section
 section_in One T p h = whole_section T None h
@@ -57,11 +67,30 @@ sections_in version p zero T = []
 sections_in version p (suc n) T = sections_on (section_in version T p) (λ h. sections_in version p n (push_of T (rows_of h.pivots))) (close_weight T p)
 
 abbrev pub stream_of : Version → Presentation → List Section → List ℕ
-stream_of version p sections = head_bytes_of (number_of version) p ++ flat_map (section_bytes_of version p.field) sections
+stream_of version p sections = head_bytes_of (version_number version) p ++ flat_map (section_bytes_of version p.field) sections
 
 pub record HasBytes (version : Version) (kind : Kind) (s : Section) : Type 0 where
   pub parts : IsStoredSection version kind s
   pub payload : length (payload_bytes version kind s) < 2 ^ 64
+
+abbrev pub IsSmallIn : Kind → Num → Type 0
+IsSmallIn Rational a = IsSmall a
+IsSmallIn (Prime q) a = Unit {0}
+
+abbrev pub IsNoCube : Origin → Type 0
+IsNoCube (Relation r) = Unit {0}
+IsNoCube (Jacobi i j k) = Unit {0}
+IsNoCube (Cube i) = ⊥
+IsNoCube (Row n) = Unit {0}
+
+abbrev pub IsSmallStep : Kind → Step → Type 0
+IsSmallStep kind (Insert origin terms scale) = IsNoCube origin × IsSmallIn kind scale × All (λ t. IsSmallIn kind t.factor) terms
+IsSmallStep kind (Close of terms) = All (λ t. IsSmallIn kind t.factor) terms
+
+pub record IsSmallSection (kind : Kind) (s : Section) : Type 0 where
+  pub steps : All (IsSmallStep kind) s.steps
+  pub closed : All (λ row. All (λ c. IsSmallIn kind c.number) row) s.closed
+  pub payload : length (payload_bytes One kind s) < 2 ^ 64
 
 pub record IsStreamOf (p : Presentation) (bytes : List ℕ) : Type 0 where
   pub sound : IsSound p
@@ -70,5 +99,5 @@ pub record IsStreamOf (p : Presentation) (bytes : List ℕ) : Type 0 where
   pub through : ℕ
   pub sections : All (HasBytes version p.field) (sections_in version p through (start_of p))
   pub end : ℕ
-  pub head : length (head_bytes_of (number_of version) p) ≤ end
+  pub head : length (head_bytes_of (version_number version) p) ≤ end
   pub front : bytes ≡ take end (stream_of version p (sections_in version p through (start_of p)))
