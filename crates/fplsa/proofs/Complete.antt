@@ -145,8 +145,8 @@ module _ (words : List (List ℕ)) (bytes : List ℕ) (h : HasTable words bytes)
   start_table _ (check_done a e) = refl
 
   apart : (v : View) → IsOfTable v → (w : View) → v ≡ w → (Table ≡ w → ⊥) → (Checkpoint ≡ w → ⊥) → ⊥
-  apart v (inl e) w k table checkpoint = table (sym e ∙ k)
-  apart v (inr e) w k table checkpoint = checkpoint (sym e ∙ k)
+  apart v (inl e) w k f g = f (sym e ∙ k)
+  apart v (inr e) w k f g = g (sym e ∙ k)
 
   no_check : h.command.view ≡ Check → ⊥
   no_check e = apart h.command.view h.view Check e (λ k. cc) (λ k. cc)

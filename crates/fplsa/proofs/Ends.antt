@@ -68,7 +68,7 @@ module _ (c : Command) (s : Start) (stop : code.Stop) (stage : Stage) (r : Reply
       (f : Fault) → (walk_for c s).stop ≡ Some (failed f) → r ≡ stopped [] f → Ends (AnswersStart c s) a b r
   at_fault built quiet same f e is =
       let before = written_before c.view s.presentation (walk_for c s).stage.sections in
-      subst (λ x. Ends (AnswersStart c s) a b x) (sym is) (before, (failed_at built f e, nothing_taken a b before quiet same))
+      subst (λ x. Ends (AnswersStart c s) a b x) (sym is) (before, failed_at built f e, nothing_taken a b before quiet same)
 
   pub table_stopped : c.view ≡ Table → b ≡ a → HasStopped stop stage (walk_for c s) → Ends (AnswersStart c s) a b r
   table_stopped view same (inl e) = at_memory same e

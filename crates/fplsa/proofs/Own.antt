@@ -19,7 +19,7 @@ use Rattle.fplsa.specs.declared.status.Status.TheVariants.{Done, Limit}
 use Rattle.fplsa.specs.declared.words.View.{View}
 use Rattle.fplsa.specs.declared.words.View.TheVariants.{Table, Series, Gap, Log, Checkpoint, Centre, Lcs, Ideal, Cohomology, Equal, Check, Sample}
 use Rattle.fplsa.specs.declared.words.Command.{Command}
-use Rattle.fplsa.specs.Words.{IsCommand, IsInRange}
+use Rattle.fplsa.specs.Words.{IsCommand}
 use Rattle.fplsa.specs.Reply.{Reply, done, stopped, IsFree, fault_status, status_of}
 use Rattle.fplsa.specs.Start.{of_text, of_head, does_compute, walk_for}
 use Rattle.fplsa.specs.Stream.{stream_text}
@@ -67,13 +67,13 @@ stream_marked p bytes stream = subst IsMarked (sym stream.front) (marked_front _
 table_along : (p q : Presentation) (n : ℕ) (S T : PlainTable) → p ≡ q → S ≡ T → IsTableOf p n S → IsTableOf q n T
 table_along p q n S T e f t = subst (λ (x : Presentation). IsTableOf x n T) e (subst (λ (X : PlainTable). IsTableOf p n X) f t)
 
-module _ (c : Command) (p : Presentation) (bytes : List ℕ) (own : IsOwn p bytes) (range : IsInRange c) where
+module _ (c : Command) (p : Presentation) (bytes : List ℕ) (own : IsOwn p bytes) (range : (c.limit ≤ 1000) × (c.entries ≤ 2000000)) where
   held : (h : Head) → HasHead bytes h → h.presentation ≡ p
   held h has = let g = have_heads p bytes own.1 in ap (λ (x : Head). x.presentation) (one_head bytes h g.0 has g.1) ∙ g.2
 
   same_walks : (c.view ≡ Check → ⊥) → (h : Head) → HasHead bytes h → GiveSame (walk_for c (of_head bytes h)) (walk_for c (of_text p))
   same_walks view h has =
-      let same : GiveSame (walk_from true c.entries bytes h c.limit) (plain_walk c.entries p c.limit) = own_streams_give p bytes h c.entries c.limit own.1 has range.2 range.1 in
+      let same : GiveSame (walk_from true c.entries bytes h c.limit) (plain_walk c.entries p c.limit) = own_streams_give p bytes h c.entries c.limit own.1 has range.1 range.0 in
       rw computes c.view view same
 
   alone : (c.view ≡ Check → ⊥) → (h : Head) → HasHead bytes h → (r : Reply) → AnswersStart c (of_head bytes h) r → AnswersStart c (of_text p) r
@@ -103,7 +103,7 @@ module _ (c : Command) (p : Presentation) (bytes : List ℕ) (own : IsOwn p byte
   start_passes : c.view ≡ Check → (h : Head) → HasHead bytes h → (r : Reply) → AnswersStart c (of_head bytes h) r → (status_of r ≡ Done) ⊎ (status_of r ≡ Limit)
   start_passes e h has _ (view_not_built a) = absurd (a (inr (inr e)))
   start_passes e h has _ (failed_at a f k) =
-      let pass : PassesWith (walk_from false c.entries bytes h c.limit).stop = own_streams_pass p bytes h c.entries c.limit own.1 has range.2 range.1 in
+      let pass : PassesWith (walk_from false c.entries bytes h c.limit).stop = own_streams_pass p bytes h c.entries c.limit own.1 has range.1 range.0 in
       let stop : (walk_from (does_compute c.view) c.entries bytes h c.limit).stop ≡ Some (failed f) = k in
       let checked : (walk_from false c.entries bytes h c.limit).stop ≡ Some (failed f) =
       subst (λ (b : Bool). (walk_from b c.entries bytes h c.limit).stop ≡ Some (failed f)) (ap does_compute e) stop in
@@ -119,17 +119,14 @@ module _ (c : Command) (p : Presentation) (bytes : List ℕ) (own : IsOwn p byte
   command_passes e _ (text u l m r a) = absurd (m (inr (stream_marked p bytes own.1)))
 
 module _ (words : List (List ℕ)) (c : Command) (is : IsCommand words c) (p : Presentation) (bytes : List ℕ) (own : IsOwn p bytes) where
-  range_of : IsInRange c
-  range_of = command_in_range words c is
-
   of_words : (r : Reply) → Answers words bytes r → AnswersCommand c bytes r
   of_words _ (no_command none) = absurd (none c is)
   of_words _ (command d is' r a) = subst (λ (x : Command). AnswersCommand x bytes r) (one_command words d c is' is) a
 
   own_replied : (result : Status) (oo on eo en : Option (List ℕ)) (before now : ℕ) → IsReplied (Answers words bytes) result oo on eo en before now → IsOwnReplied c p result oo on eo en before now
   own_replied result oo on eo en before now h = record {
-    checked = λ e. subst (λ (x : Status). (x ≡ Done) ⊎ (x ≡ Limit)) h.status (command_passes c p bytes own range_of e h.reply (of_words h.reply h.answers));
-    replied = λ view. record { reply = h.reply; answers = alone_of c p bytes own range_of view h.reply (of_words h.reply h.answers); status = h.status; text = h.text; line = h.line };
+    checked = λ e. subst (λ (x : Status). (x ≡ Done) ⊎ (x ≡ Limit)) h.status (command_passes c p bytes own (command_in_range words c is) e h.reply (of_words h.reply h.answers));
+    replied = λ view. record { reply = h.reply; answers = alone_of c p bytes own (command_in_range words c is) view h.reply (of_words h.reply h.answers); status = h.status; text = h.text; line = h.line };
   }
 
 pub own_streams : (words : List (List ℕ)) (left : Option (List ℕ)) (result : Status) (oo on eo en : Option (List ℕ)) (before now : ℕ) →

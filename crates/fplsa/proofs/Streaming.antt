@@ -12,23 +12,28 @@ use Rattle.fpl_outside.specs.Whole.{WrotePrefix}
 use Rattle.fpl_resume.specs.declared.stop.Stop as code
 use Rattle.fpl_resume.specs.declared.stop.Stop.TheVariants as told
 use Rattle.fpl_resume.specs.Stops.{IsStop}
-use Rattle.fpl_resume.specs.Walk.{Stage, Fault, too_many, bad_bytes, bad_section, overflow, Stop, ended, failed, Walked, stopped as ends}
+use Rattle.fpl_resume.specs.Walk.{Stored, Stage, Fault, too_many, bad_bytes, bad_section, overflow, Stop, ended, failed, Walked, walk_of, stopped as ends}
 use Rattle.fplsa.specs.declared.words.View.{View}
 use Rattle.fplsa.specs.declared.words.View.TheVariants.{Checkpoint}
 use Rattle.fplsa.specs.declared.words.Command.{Command}
 use Rattle.fplsa.specs.declared.put.Cut.{Cut}
 use Rattle.fplsa.specs.declared.put.Cut.TheVariants as cut
 use Rattle.fplsa.specs.Reply.{Reply, done, usage, refused, stopped, no_memory, read_fault, write_fault, not_built, fault_status, status_of, text_of, IsPut}
-use Rattle.fplsa.specs.Start.{Start, walk_for}
+use Rattle.fplsa.specs.Start.{Start, does_compute, walk_for}
 use Rattle.fplsa.specs.Stream.{stream_text}
 use Rattle.fplsa.specs.Answer.{AnswersStart, written_before}
 use Rattle.fplsa.specs.Answer.AnswersStart.{view_not_built, failed_at, table_done, checkpoint_done, check_done}
 use Rattle.fplsa.specs.Run.{MayPut, Ends}
 use Rattle.fplsa.specs.Begin.{HasStopped, IsStreamed}
 use Rattle.fplsa.specs.Begin.IsStreamed.{to_the_limit, to_a_fault}
-use Rattle.fplsa.specs.Put.{Puts, cut_reply}
+use Rattle.fplsa.specs.Put.{IsCut, cut_reply}
 use Rattle.fplsa.proofs.Streams.{stream_put, front_of, head_part, part_within, section_part}
+use Rattle.fplsa.proofs.Walks.{never_ends}
 use Rattle.fplsa.proofs.Ends.{memory_or}
+
+-- a checkpoint computes what isn't stored
+pub goes_on : (v : View) → v ≡ Checkpoint → (e : ℕ) (p : Presentation) (at : Stored) (n : ℕ) (stage : Stage) → (walk_of (does_compute v) e p at n stage).stop ≡ Some ended → ⊥
+goes_on v view e p at n stage h = never_ends e p at n stage (subst (λ (x : View). (walk_of (does_compute x) e p at n stage).stop ≡ Some ended) view h)
 
 -- a walk that stops, and not at the end of what is stored
 module _ (p : Presentation) (w : Walked) (going : w.stop ≡ Some ended → ⊥) (a b : Option (List ℕ)) where
@@ -68,7 +73,7 @@ module _ (p : Presentation) (w : Walked) (going : w.stop ≡ Some ended → ⊥)
     part = rw whole.text (part_within p a b ss rest all e t);
   }
 
-  pub head_cut : (x : Cut) → Puts (head_bytes_of VERSION p) a b (Err x) → Ends (IsStreamed p w) a b (cut_reply x)
+  pub head_cut : (x : Cut) → IsCut (head_bytes_of VERSION p) a b x → Ends (IsStreamed p w) a b (cut_reply x)
   head_cut cut.NoMemory h = inl h
   head_cut cut.WriteFault h = part_streamed [] all refl (head_part p a b h)
 
@@ -83,7 +88,7 @@ module _ (p : Presentation) (w : Walked) (going : w.stop ≡ Some ended → ⊥)
       at full ended same k = absurd (going (ap (λ (v : Walked). v.stop) same))
       at full (failed f) same k =
           let here : stream_text p stage.sections ≡ stream_text p all = ap (λ (v : Walked). stream_text p v.stage.sections) (sym same) in
-          subst (λ x. Ends (IsStreamed p w) a b x) (sym (known f k full)) (stream_text p all, (to_a_fault f (ap (λ (v : Walked). v.stop) same), subst (λ x. Takes a b x) here t))
+          subst (λ x. Ends (IsStreamed p w) a b x) (sym (known f k full)) (stream_text p all, to_a_fault f (ap (λ (v : Walked). v.stop) same), subst (λ x. Takes a b x) here t)
 
       go : (stop ≡ told.NoMemory → ⊥) → HasStopped stop stage w → Ends (IsStreamed p w) a b r
       go full (inl n) = absurd (full n)
@@ -92,11 +97,11 @@ module _ (p : Presentation) (w : Walked) (going : w.stop ≡ Some ended → ⊥)
   pub limit_streamed : (stage : Stage) → w ≡ ends stage None → Takes a b (stream_text p stage.sections) → Ends (IsStreamed p w) a b (done [])
   limit_streamed stage same t =
       let here : stream_text p stage.sections ≡ stream_text p all = ap (λ (v : Walked). stream_text p v.stage.sections) (sym same) in
-      (stream_text p all, (to_the_limit (ap (λ (v : Walked). v.stop) same), subst (λ x. Takes a b x) here t))
+      (stream_text p all, to_the_limit (ap (λ (v : Walked). v.stop) same), subst (λ x. Takes a b x) here t)
 
 -- memory ran out, or a put failed, at a section after others
 pub section_cut : (p : Presentation) (w : Walked) (going : w.stop ≡ Some ended → ⊥) (a b c : Option (List ℕ)) (ss : List Section) (s : Section) (rest : List Section) → w.stage.sections ≡ (ss ++ s ∷ []) ++ rest →
-    Takes a b (stream_text p ss) → (x : Cut) → Puts (section_bytes_of Two p.field s) b c (Err x) → Ends (IsStreamed p w) a c (cut_reply x)
+    Takes a b (stream_text p ss) → (x : Cut) → IsCut (section_bytes_of Two p.field s) b c x → Ends (IsStreamed p w) a c (cut_reply x)
 section_cut p w going a b c ss s rest e t cut.NoMemory h =
     front_streamed p w going a c ss (s ∷ rest) (e ∙ append_assoc ss (s ∷ []) rest) (subst (λ o. Takes a o (stream_text p ss)) (sym h) t)
 section_cut p w going a b c ss s rest e t cut.WriteFault h = part_streamed p w going a c (ss ++ s ∷ []) rest e (section_part p a b c ss s t h)
@@ -107,7 +112,8 @@ streamed_start c s p w view is same _ (to_the_limit e) =
     let text : stream_text s.presentation (walk_for c s).stage.sections ≡ stream_text p w.stage.sections = rw (is, same) refl in
     subst (λ x. AnswersStart c s (done x)) text (checkpoint_done view (ap (λ (v : Walked). v.stop) (sym same) ∙ e))
 streamed_start c s p w view is same _ (to_a_fault f e) =
-    let text : written_before c.view s.presentation (walk_for c s).stage.sections ≡ stream_text p w.stage.sections = rw (view, is, same) refl in
+    let all : stream_text s.presentation (walk_for c s).stage.sections ≡ stream_text p w.stage.sections = rw (is, same) refl in
+    let text : written_before c.view s.presentation (walk_for c s).stage.sections ≡ stream_text p w.stage.sections = ap (λ (v : View). written_before v s.presentation (walk_for c s).stage.sections) view ∙ all in
     subst (λ x. AnswersStart c s (stopped x f)) text (failed_at (inr (inl view)) f (ap (λ (v : Walked). v.stop) (sym same) ∙ e))
 
 fault_may_put : (v : View) (f : Fault) → v ≡ Checkpoint → MayPut v (fault_status f)

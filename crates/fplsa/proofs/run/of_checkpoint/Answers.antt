@@ -19,4 +19,4 @@ returns-in-Ok-clause-cost g c =
 pub returns-in-Err-Bad-clause-reply : goal.returns-in-Err-Bad-clause-reply
 returns-in-Err-Bad-clause-reply g c =
     rw c.in-Err-Bad.field-0-is
-    ([], (no_head _ (rw c.in-Err-Bad.field-0-is at c.in-Err-Bad.ensures.head), takes_nothing _))
+    ([], no_head _ (rw c.in-Err-Bad.field-0-is at c.in-Err-Bad.ensures.head), takes_nothing _)

@@ -13,7 +13,7 @@ pub of_start-requires-clause-short : goal.of_start-requires-clause-short
 of_start-requires-clause-short g c = omega (arith, canonical_short c.args.bytes.now c.in-Ok.presentation c.in-Ok.ensures.read)
 
 pub returns-then-bytes-gt-MOST_TEXT-clause-reply : goal.returns-then-bytes-gt-MOST_TEXT-clause-reply
-returns-then-bytes-gt-MOST_TEXT-clause-reply g c = ([], (text_too_long (omega arith), takes_nothing _))
+returns-then-bytes-gt-MOST_TEXT-clause-reply g c = ([], text_too_long (omega arith), takes_nothing _)
 
 pub returns-in-Ok-clause-reply : goal.returns-in-Ok-clause-reply
 returns-in-Ok-clause-reply g c =
@@ -24,7 +24,7 @@ pub returns-in-Err-Refused-clause-reply : goal.returns-in-Err-Refused-clause-rep
 returns-in-Err-Refused-clause-reply g c =
     let short : length c.args.bytes.now ≤ most_text = omega arith in
     rw c.in-Err-Refused.field-0-is
-    ([], (no_presentation short _ _ (rw c.in-Err-Refused.field-0-is at c.in-Err-Refused.ensures.read), takes_nothing _))
+    ([], no_presentation short _ _ (rw c.in-Err-Refused.field-0-is at c.in-Err-Refused.ensures.read), takes_nothing _)
 
 pub returns-in-Ok-clause-cost : goal.returns-in-Ok-clause-cost
 returns-in-Ok-clause-cost g c = costs_start c.args.c c.args.bytes.now (of_text c.in-Ok.presentation) c.args.steps.now c.of_start.new.steps (from_text c.requires.plain c.in-Ok.presentation c.in-Ok.ensures.read) c.of_start.ensures.rises c.of_start.ensures.cost

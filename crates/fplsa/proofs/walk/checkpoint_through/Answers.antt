@@ -13,4 +13,4 @@ returns-clause-reply g c =
     (streamed_start c.args.c s _ _ c.requires.view (ap (λ r. r.presentation) c.in-Ok.ensures) (sym (walk_begun c.args.c c.args.begin c.args.bytes.now c.in-Ok.run' c.in-Ok.ensures))) _ _ _ c.stream.ensures.reply
 
 pub returns-clause-nothing : goal.returns-clause-nothing
-returns-clause-nothing g c = λ no. absurd (no (checkpoint_may_put c.args.c (start_in c.args.begin c.args.bytes.now) c.requires.view _ _ _ (returns-clause-reply g c)))
+returns-clause-nothing g c = λ none. absurd (none (checkpoint_may_put c.args.c (start_in c.args.begin c.args.bytes.now) c.requires.view _ _ _ (returns-clause-reply g c)))

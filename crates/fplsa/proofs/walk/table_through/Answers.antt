@@ -37,3 +37,6 @@ returns-clause-reply g c =
     let stage = c.walk.new.run.stage in
     table_stopped c.args.c (start_in b bytes) c.in-Err.stop stage _ c.ending.ensures.memory c.ending.ensures.reply _ _ c.requires.view refl
     (subst (λ (w : Walked). HasStopped c.in-Err.stop stage w) (sym (walk_begun c.args.c b bytes c.in-Ok.run' c.in-Ok.ensures)) c.in-Err.ensures.stop)
+
+pub returns-in-Ok-walk-clause-nothing : goal.returns-in-Ok-walk-clause-nothing
+returns-in-Ok-walk-clause-nothing g c = c.put_whole.ensures.nothing c.args.c.view

@@ -5,4 +5,4 @@ use Rattle.fplsa.proofs.walk.through_field.Goals as goal
 
 pub returns-in_default-clause-reply : goal.returns-in_default-clause-reply
 returns-in_default-clause-reply g c =
-    ([], (view_not_built (λ b. elim b [ inl e ↦ c.in_default.not-Table e | inr other ↦ elim other [ inl e ↦ c.in_default.not-Checkpoint e | inr e ↦ c.in_default.not-Check e ] ]), takes_nothing _))
+    ([], view_not_built (λ b. elim b [ inl e ↦ c.in_default.not-Table e | inr other ↦ elim other [ inl e ↦ c.in_default.not-Checkpoint e | inr e ↦ c.in_default.not-Check e ] ]), takes_nothing _)
