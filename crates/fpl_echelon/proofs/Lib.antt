@@ -2,5 +2,4 @@ pub mod IndexLemmas
 pub mod Contracts
 pub mod LeadIndex
 pub mod PlaceSweeps
-pub mod ClosedLeads
 pub mod Passing
