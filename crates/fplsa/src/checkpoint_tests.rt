@@ -2,6 +2,7 @@
 ghost use Rattle.std.specs.Prelude.{◌≤◌};
 
 use crate::Status;
+use crate::stream_tests::ODD;
 use crate::tests::run_on;
 use std::alloc::{AllocError, Global};
 use std::test::Fail;
@@ -27,14 +28,20 @@ const LARGE: &[u8] =
 
 const NONE_LEFT: &str = "table Q through 1\nbasis 0\nimages 2\nx = 0\ny = 0\nbrackets 0\nend\n";
 
-// Bytes with some of them changed.
-fn forged(alloc: Global, changes: &[(usize, u8)]) -> Result<Vec<u8>, AllocError> {
-    let mut bytes = STORED.to_vec(alloc)?;
+// Bytes with some of them changed, and some more after them.
+fn forged(
+    alloc: Global,
+    from: &[u8],
+    changes: &[(usize, u8)],
+    more: &[u8],
+) -> Result<Vec<u8>, AllocError> {
+    let mut bytes = from.to_vec(alloc)?;
     for (place, byte) in changes {
         if *place < bytes.len() {
             bytes[*place] = *byte;
         }
     }
+    bytes.extend_from_slice(more)?;
     Ok(bytes)
 }
 
@@ -99,12 +106,93 @@ fn refuses_forged_checkpoints(rt: HostRuntime) -> Result<(), Fail> {
         ),
     ];
     for (changes, want) in cases {
-        let bytes = forged(alloc, &changes)?;
+        let bytes = forged(alloc, STORED, &changes, b"")?;
         let ended = run_on(alloc, "table 3", &bytes, 64, 0, 0)?;
         assert_eq!(rt; ended.status, Status::BadCheckpoint, "{want}");
         assert_eq!(rt; ended.out.bytes().len(), 0, "{want}");
         let line = format!(in alloc; "bad checkpoint{want}\n")?;
         assert_eq!(rt; ended.err.bytes(), line.as_bytes(), "{want}");
+    }
+    Ok(())
+}
+
+#[test]
+fn refuses_forged_counts(rt: HostRuntime) -> Result<(), Fail> {
+    let alloc = rt.alloc();
+    let most = [
+        (39, 0xff),
+        (40, 0xff),
+        (41, 0xff),
+        (42, 0xff),
+        (43, 0xff),
+        (44, 0xff),
+        (45, 0xff),
+        (46, 0xff),
+    ];
+    let cases = [
+        (forged(alloc, STORED, &most, b"")?, " at byte 47: bad tag"),
+        (
+            forged(alloc, STORED, &[(86, 0x3c)], b"\x00")?,
+            " at byte 146: unread bytes",
+        ),
+        (
+            forged(alloc, ODD, &[(102, 0x44)], b"\x00")?,
+            " at byte 170: unread bytes",
+        ),
+    ];
+    for (bytes, want) in cases {
+        let ended = run_on(alloc, "table 3", &bytes, 64, 0, 0)?;
+        assert_eq!(rt; ended.status, Status::BadCheckpoint, "{want}");
+        assert_eq!(rt; ended.out.bytes().len(), 0, "{want}");
+        let line = format!(in alloc; "bad checkpoint{want}\n")?;
+        assert_eq!(rt; ended.err.bytes(), line.as_bytes(), "{want}");
+    }
+    Ok(())
+}
+
+#[test]
+fn refuses_forged_checkpoints_of_version_2(rt: HostRuntime) -> Result<(), Fail> {
+    let alloc = rt.alloc();
+    let none = (1000, 0);
+    let cases = [
+        ([(1, 0), none], " at byte 1: not a checkpoint"),
+        ([(4, 1), none], " at byte 51: unread bytes"),
+        ([(4, 7), none], " at byte 4: unknown version"),
+        ([(8, 0xff), none], " at byte 170: head cut"),
+        ([(26, 0x20), none], " at byte 9: head text"),
+        ([(30, 2), none], " at byte 27: section weight"),
+        ([(38, 0x13), none], " at byte 55: field cut"),
+        ([(54, 1), none], " at byte 55: bad tag"),
+        ([(136, 7), none], " at byte 133: bad number"),
+        ([(136, 0), none], " at byte 133: bad number"),
+        ([(132, 2), none], " in weight 3, step 1: bad origin"),
+        (
+            [(136, 4), none],
+            " in weight 3, closed row 1: stored 1, concluded 5 at symbol 1",
+        ),
+        (
+            [(149, 2), none],
+            " in weight 3, step 2: bad citation of step 2",
+        ),
+        ([(165, 2), none], " in weight 3, closed row 1: row form"),
+        ([(169, 0), none], " in weight 3, closed row 1: row form"),
+        (
+            [(136, 4), (169, 5)],
+            " in weight 3, closed row 1: not closed at symbol 1",
+        ),
+        ([(110, 2), none], " in weight 3: 2 origins stored, 1 found"),
+    ];
+    for (changes, want) in cases {
+        let bytes = forged(alloc, ODD, &changes, b"")?;
+        let ended = run_on(alloc, "table 3", &bytes, 64, 0, 0)?;
+        assert_eq!(rt; ended.status, Status::BadCheckpoint, "{want}");
+        assert_eq!(rt; ended.out.bytes().len(), 0, "{want}");
+        let line = format!(in alloc; "bad checkpoint{want}\n")?;
+        assert_eq!(rt; ended.err.bytes(), line.as_bytes(), "{want}");
+        // what is wrong past the limit isn't read
+        let lower = run_on(alloc, "table 2", &bytes, 64, 0, 0)?;
+        let in_third = changes[0].0 > 102;
+        assert_eq!(rt; lower.status == Status::Done, in_third, "{want}");
     }
     Ok(())
 }
