@@ -1,10 +1,10 @@
-use Rattle.std.proofs.Common.{◌≡◌, ◌≤◌, ◌<◌, ◌+◌, ◌-◌, ◌++◌, Ok, Some, None, refl, sym, ap, ◌∙◌, subst, arith}
+use Rattle.std.proofs.Common.{◌≡◌, ◌≤◌, ◌<◌, ◌-◌, ◌++◌, Ok, Some, refl, sym, ap, ◌∙◌, subst, arith}
 use Rattle.fpl_bytes.specs.declared.version.Version.TheVariants.{Two}
 use Rattle.fpl_sections.specs.Spelling.{section_bytes_of}
 use Rattle.fpl_checkpoint.specs.Heads.{VERSION, head_bytes_of}
 use Rattle.fpl_outside.specs.Outside.{Takes}
-use Rattle.fpl_resume.specs.Walk.{Stage, ended, Walked, step_of, step_cost, walk_of, cost_of}
-use Rattle.fpl_resume.specs.Stops.{PlainRun, IsStop, stored_in}
+use Rattle.fpl_resume.specs.Walk.{ended, Walked, step_of, walk_of, cost_of}
+use Rattle.fpl_resume.specs.Stops.{IsStop, stored_in}
 use Rattle.fplsa.specs.Start.{does_compute}
 use Rattle.fplsa.specs.Stream.{stream_text}
 use Rattle.fplsa.specs.Run.{Ends}
@@ -139,8 +139,8 @@ returns-in-Err-put_last_section-clause-reply g c =
     let left : w ≡ walk_of computes entries start.presentation at (limit - new.stage.table.weight) new.stage = i.left ∙ walk_left computes entries start.presentation at limit run.stage new.stage low step in
     subst (λ r. Ends (IsStreamed start.presentation w) old after r) (sym c.outcome-in-Err-put_last_section.ensures)
     (section_cut start.presentation w (goes_on c.args.c.view c.requires.view entries start.presentation at limit start.stage) old before after run.stage.sections added.0 keeps.0
-        (ap (λ (v : Walked). v.stage.sections) left ∙ keeps.1 ∙ ap (λ ss. ss ++ keeps.0) added.1) i.taken c.in-Err-put_last_section.cut
-        (subst (λ q. IsCut (section_bytes_of Two q.field added.0) before after c.in-Err-put_last_section.cut) kept (c.in-Err-put_last_section.ensures.puts run.stage.sections added.0 added.1)))
+    (ap (λ (v : Walked). v.stage.sections) left ∙ keeps.1 ∙ ap (λ ss. ss ++ keeps.0) added.1) i.taken c.in-Err-put_last_section.cut
+    (subst (λ q. IsCut (section_bytes_of Two q.field added.0) before after c.in-Err-put_last_section.cut) kept (c.in-Err-put_last_section.ensures.puts run.stage.sections added.0 added.1)))
 
 pub returns-in-Err-put_last_section-clause-cost : goal.returns-in-Err-put_last_section-clause-cost
 returns-in-Err-put_last_section-clause-cost g c =

@@ -1,7 +1,7 @@
-use Rattle.std.proofs.Common.{◌≡◌, ◌-◌, ◌⊎◌, inl, inr, length, None, Some, ap, ◌∙◌, sym, subst}
+use Rattle.std.proofs.Common.{◌≡◌, ◌-◌, inl, inr, length, None, ap, ◌∙◌, sym, subst}
 use Rattle.fpl_model.specs.declared.presentation.Presentation.{Presentation}
-use Rattle.fpl_resume.specs.Walk.{Walked, ended, stopped}
-use Rattle.fplsa.specs.Reply.{Reply, done}
+use Rattle.fpl_resume.specs.Walk.{Walked, stopped}
+use Rattle.fplsa.specs.Reply.{done}
 use Rattle.fplsa.specs.CheckText.{check_text}
 use Rattle.fplsa.specs.Start.{walk_for}
 use Rattle.fplsa.specs.Answer.{AnswersStart}
@@ -33,6 +33,6 @@ returns-clause-reply g c =
     let stops : HasStopped c.in-Err.stop new.stage (walk_for c.args.c s) = subst (λ (w : Walked). HasStopped c.in-Err.stop new.stage w) (sym (walk_begun c.args.c b bytes c.in-Ok.run' c.in-Ok.ensures)) c.in-Err.ensures.stop in
     check_stopped c.args.c s c.in-Err.stop new.stage _ c.checked_to.ensures.memory c.checked_to.ensures.reply _ _ c.requires.view c.checked_to.ensures.untouched
     (λ whole e. ends_through (IsChecked new c.args.c bytes) (AnswersStart c.args.c s)
-        (λ r is. subst (λ x. AnswersStart c.args.c s x) (sym (is ∙ ap (λ (q : Presentation). done (check_text q.field c.args.c.limit new.stage.table.weight (length bytes - new.stage.place))) same))
-            (check_written c.args.c s new.stage c.requires.view (ap (λ (w : Walked). w.stage) whole) (inr (ap (λ (w : Walked). w.stop) whole)))) _ _ _ (c.checked_to.ensures.ended e))
+    (λ r is. subst (λ x. AnswersStart c.args.c s x) (sym (is ∙ ap (λ (q : Presentation). done (check_text q.field c.args.c.limit new.stage.table.weight (length bytes - new.stage.place))) same))
+    (check_written c.args.c s new.stage c.requires.view (ap (λ (w : Walked). w.stage) whole) (inr (ap (λ (w : Walked). w.stop) whole)))) _ _ _ (c.checked_to.ensures.ended e))
     stops
