@@ -1,7 +1,7 @@
 mod Runs
 mod Closing
 mod Weighing
-mod Writable
+pub mod Writable
 mod Raising
 mod Onward
 mod Coefficients

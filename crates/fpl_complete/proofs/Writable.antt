@@ -244,6 +244,11 @@ rows_writable kind n small (row ∷ rows) h =
     let first = all_head (IsRowOf kind n) row rows h in
     all_cons (IsWritableRow kind) (coefficients_from 1 row) (closed_list rows) (row_writable kind row first.elements (let l = first.length_is in omega arith)) (rows_writable kind n small rows (all_tail (IsRowOf kind n) row rows h))
 
+-- the steps that a weight's run records, those of dependent origins among them
+pub recorded_writable : (p : Presentation) (T : PlainTable) → Holds p T → length (symbols_in T) ≤ 2000000 → (h : Held) → close_weight T p ≡ Ok h → All (IsStorableStep T.kind) h.steps
+recorded_writable p T holds few h run =
+    with_rows p T holds (All (IsStorableStep T.kind) h.steps) (λ is_field vector reads. (steps_writable T p (length (symbols_in T)) (omega (arith, few)) is_field vector reads refl h run).0)
+
 pub section_writable : (p : Presentation) (T : PlainTable) → Holds p T → length (symbols_in T) ≤ 2000000 → (h : Held) → close_weight T p ≡ Ok h → IsWritable p.field (section_of T p h)
 section_writable p T holds few h run =
     subst (λ k. IsWritable k (section_of T p h)) holds.kind

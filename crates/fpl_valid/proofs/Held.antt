@@ -123,12 +123,18 @@ all_coefficients kind n [] all = λ i d l. absurd (omega (arith, l))
 all_coefficients kind n (row ∷ rows) all =
     all_cons (AreCoefficientsOf kind) (coefficients_from 1 row) (closed_list rows) (coefficients_are kind 1 row (all_head (IsRowOf kind n) row rows all).elements) (all_coefficients kind n rows (all_tail (IsRowOf kind n) row rows all))
 
+-- a weight has no more closed rows than symbols
+pub few_closed : (p : Presentation) (T : PlainTable) (h : Held) → Holds p T → close_weight T p ≡ Ok h → length (closed_list (rows_of h.pivots)) ≤ length (symbols_in T)
+few_closed p T h holds run =
+    let up = as_few 0 (length (symbols_in T)) h.pivots (ascending T p (is_field p T holds) (have_rows p T holds) h run).up in
+    let long : length (closed_list (rows_of h.pivots)) ≡ length h.pivots = length-map (rows_of h.pivots) (coefficients_from 1) ∙ length-map h.pivots (λ q. q.row) in
+    omega (arith, up, long)
+
 pub section_is_for : SectionIsFor
 section_is_for p T s holds few e =
     let c = computed p T holds s e in
     let rows = rows_of c.held.pivots in
-    let up = as_few 0 (length (symbols_in T)) c.held.pivots (ascending T p (is_field p T holds) (have_rows p T holds) c.held c.run).up in
-    let long : length (closed_list rows) ≡ length c.held.pivots = length-map rows (coefficients_from 1) ∙ length-map c.held.pivots (λ q. q.row) in
+    let closed = few_closed p T c.held holds c.run in
     subst (IsSectionFor T) (sym c.is)
     (record {
       weight = refl;
@@ -136,7 +142,7 @@ section_is_for p T s holds few e =
         steps = slim_numbers T.kind [] 0 c.held.steps (run_numbers T p (is_field p T holds) (have_rows p T holds) c.held c.run);
         closed = all_coefficients T.kind (length (symbols_in T)) rows (rows_closed T p (is_field p T holds) (have_rows p T holds) c.held c.run).are_rows;
       };
-      few = omega (arith, up, few, long);
+      few = omega (arith, closed, few);
     })
 
 pub section_is_slim : SectionIsSlim

@@ -31,14 +31,17 @@ use Rattle.fplsa.specs.declared.words.View.TheVariants.{Table, Checkpoint, Check
 use Rattle.fplsa.specs.declared.words.Command.{Command}
 use Rattle.fplsa.specs.Reply.{Reply, IsFree, status_of}
 use Rattle.fplsa.specs.Start.{of_text, does_compute, begun_for}
-use Rattle.fplsa.specs.Answer.{Answers, AnswersCommand, AnswersText, AnswersStart, IsCheckpoint, IsBuilt}
+use Rattle.fpl_reader.specs.Reading.{HasPresentation}
+use Rattle.fplsa.specs.Answer.{Answers, AnswersCommand, AnswersText, AnswersStart, IsCheckpoint, IsBuilt, most_text}
 use Rattle.fplsa.specs.Answer.AnswersStart.{view_not_built, failed_at, table_done, checkpoint_done, check_done}
 use Rattle.fplsa.specs.Answer.AnswersText.{text_too_long, no_presentation, presentation}
 use Rattle.fplsa.specs.Answer.AnswersCommand.{unread, input_too_long, checkpoint, text}
 use Rattle.fplsa.specs.Answer.Answers.{no_command, command}
-use Rattle.fplsa.specs.Run.{IsReplied, IsOfTable, HasTable}
+use Rattle.fplsa.specs.Run.{IsReplied, IsOfTable, IsInput, HasTable}
+use Rattle.fplsa.specs.Run.IsInput.{as_text, as_stream}
 use Rattle.fplsa.proofs.Names.{one_command, command_in_range}
 use Rattle.fplsa.proofs.Marks.{no_mark}
+use Rattle.fplsa.proofs.Own.{alone_of}
 use Rattle.fplsa.proofs.Parts.{counts_through}
 
 free_cases : (s : Status) → IsFree s → (s ≡ NoMemory) ⊎ ((s ≡ ReadFault) ⊎ (s ≡ WriteFault))
@@ -65,12 +68,16 @@ computed_next : (e : ℕ) (p : Presentation) (at : Stored) (stage : Stage) → s
     step_of true e p at stage ≡ computed_as stage p (close_weight stage.table p)
 computed_next e p at stage a b = rw (b, a) refl
 
+input_sound : (p : Presentation) (bytes : List ℕ) → IsInput p bytes → IsSound p
+input_sound p bytes (as_text short said) = presentation_sound bytes p (omega (arith, short)) said
+input_sound p bytes (as_stream own) = own.1.sound
+
 module _ (words : List (List ℕ)) (bytes : List ℕ) (h : HasTable words bytes) where
   abbrev p : Presentation
   p = h.presentation
 
   sound : IsSound p
-  sound = presentation_sound bytes p (omega (arith, h.short)) h.said
+  sound = input_sound p bytes h.input
 
   range : (h.command.limit ≤ 1000) × (h.command.entries ≤ 2000000)
   range = command_in_range words h.command h.spelled
@@ -137,32 +144,40 @@ module _ (words : List (List ℕ)) (bytes : List ℕ) (h : HasTable words bytes)
   start_table _ (checkpoint_done a e) = refl
   start_table _ (check_done a e) = refl
 
-  text_table : (r : Reply) → AnswersText h.command bytes r → status_of r ≡ Done
-  text_table _ (text_too_long l) = absurd (omega (arith, l, h.short))
-  text_table _ (no_presentation l place reason k) = absurd (not_both bytes p place reason h.said k)
-  text_table _ (presentation l q k r a) = start_table r (subst (λ (x : Presentation). AnswersStart h.command (of_text x) r) (one_presentation bytes q p k h.said) a)
-
   apart : (v : View) → IsOfTable v → (w : View) → v ≡ w → (Table ≡ w → ⊥) → (Checkpoint ≡ w → ⊥) → ⊥
   apart v (inl e) w k f g = f (sym e ∙ k)
   apart v (inr e) w k f g = g (sym e ∙ k)
 
-  plain : IsCheckpoint h.command bytes → ⊥
-  plain (inl e) = apart h.command.view h.view Check e (λ k. cc) (λ k. cc)
-  plain (inr m) = no_mark bytes p h.said m
+  no_check : h.command.view ≡ Check → ⊥
+  no_check e = apart h.command.view h.view Check e (λ k. cc) (λ k. cc)
 
-  command_table : (r : Reply) → AnswersCommand h.command bytes r → status_of r ≡ Done
-  command_table _ (unread u) = absurd (apart h.command.view h.view Sample u (λ k. cc) (λ k. cc))
-  command_table _ (input_too_long u l) = absurd (omega (arith, l, h.short))
-  command_table _ (checkpoint u l m r a) = absurd (plain m)
-  command_table _ (text u l m r a) = text_table r a
+  module _ (short : length bytes ≤ most_text) (said : HasPresentation bytes p) where
+    text_table : (r : Reply) → AnswersText h.command bytes r → status_of r ≡ Done
+    text_table _ (text_too_long l) = absurd (omega (arith, l, short))
+    text_table _ (no_presentation l place reason k) = absurd (not_both bytes p place reason said k)
+    text_table _ (presentation l q k r a) = start_table r (subst (λ (x : Presentation). AnswersStart h.command (of_text x) r) (one_presentation bytes q p k said) a)
+
+    plain : IsCheckpoint h.command bytes → ⊥
+    plain (inl e) = no_check e
+    plain (inr m) = no_mark bytes p said m
+
+    from_text : (r : Reply) → AnswersCommand h.command bytes r → status_of r ≡ Done
+    from_text _ (unread u) = absurd (apart h.command.view h.view Sample u (λ k. cc) (λ k. cc))
+    from_text _ (input_too_long u l) = absurd (omega (arith, l, short))
+    from_text _ (checkpoint u l m r a) = absurd (plain m)
+    from_text _ (text u l m r a) = text_table r a
+
+  command_table : IsInput p bytes → (r : Reply) → AnswersCommand h.command bytes r → status_of r ≡ Done
+  command_table (as_text short said) r a = from_text short said r a
+  command_table (as_stream own) r a = start_table r (alone_of h.command p bytes own (command_in_range words h.command h.spelled) no_check r a)
 
   -- the reply to words and bytes that have a table is its text
   table_reply : (r : Reply) → Answers words bytes r → status_of r ≡ Done
   table_reply _ (no_command none) = absurd (none h.command h.spelled)
-  table_reply _ (command c is r a) = command_table r (subst (λ (x : Command). AnswersCommand x bytes r) (one_command words c h.command is h.spelled) a)
+  table_reply _ (command c is r a) = command_table h.input r (subst (λ (x : Command). AnswersCommand x bytes r) (one_command words c h.command is h.spelled) a)
 
 pub completes : (words : List (List ℕ)) (left : Option (List ℕ)) (result : Status) (oo on eo en : Option (List ℕ)) (before now : ℕ) (R W : Type 0) →
-    IsFree result ⊎ IfSome left (λ bytes. IsReplied words bytes result oo on eo en before now) → (result ≡ ReadFault → R) → (result ≡ WriteFault → W) →
+    IsFree result ⊎ IfSome left (λ bytes. IsReplied (Answers words bytes) result oo on eo en before now) → (result ≡ ReadFault → R) → (result ≡ WriteFault → W) →
     IfSome left (λ bytes. HasTable words bytes → (R → ⊥) → (W → ⊥) → (result ≡ Done) ⊎ (result ≡ NoMemory))
 completes words None result oo on eo en before now R W reply read write = tt
 completes words (Some bytes) result oo on eo en before now R W (inl free) read write = λ h no_read no_write. elim (free_cases result free) [

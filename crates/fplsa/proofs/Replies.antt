@@ -170,7 +170,7 @@ module _ (words : List (List ℕ)) (oo on : Option (List ℕ)) where
 
 module _ (words : List (List ℕ)) (oo on eo en : Option (List ℕ)) (before now : ℕ) where
   abbrev IsFreeOrReplied : List ℕ → Reply → Type 0
-  IsFreeOrReplied bytes r = IsFree (status_of r) ⊎ IsReplied words bytes (status_of r) oo on eo en before now
+  IsFreeOrReplied bytes r = IsFree (status_of r) ⊎ IsReplied (Answers words bytes) (status_of r) oo on eo en before now
 
   replied_with : (bytes : List ℕ) (r : Reply) → EndsWith (Answers words bytes) oo on r → Says eo en before now (line_of r) → IsFreeOrReplied bytes r
   replied_with bytes r h l = inr (record {
@@ -192,7 +192,7 @@ module _ (words : List (List ℕ)) (oo on eo en : Option (List ℕ)) (before now
   replied_to bytes not_built h l = replied_with bytes not_built h l
 
   pub replied : (left : Option (List ℕ)) (r : Reply) → IfSome left (λ bytes. (r ≡ read_fault) ⊎ Ends (Answers words bytes) oo on r) → Says eo en before now (line_of r) →
-      IsFree (status_of r) ⊎ IfSome left (λ bytes. IsReplied words bytes (status_of r) oo on eo en before now)
+      IsFree (status_of r) ⊎ IfSome left (λ bytes. IsReplied (Answers words bytes) (status_of r) oo on eo en before now)
   replied None r h l = inr tt
   replied (Some bytes) r (inl e) l = inl (rw e tt)
   replied (Some bytes) r (inr h) l = replied_to bytes r h l

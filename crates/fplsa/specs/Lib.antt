@@ -12,3 +12,4 @@ pub mod Run
 pub mod Begin
 pub mod Put
 pub mod OneReply
+pub mod Written

@@ -1,10 +1,14 @@
 -- What a run does to its streams.
 --   ReadsNothing: the words are no command, or one of a view that reads no input yet
 --   Says: a line was appended, or its writing had a fault after a prefix of it
---   IsReplied: the status is that of the reply to the words and the bytes, whose text was appended to the output and whose line to the error output
+--   IsReplied: the status is that of one of these replies, whose text was appended to the output and whose line to the error output
 --   IsOfTable: a view of the table that is written, or of the sections that it was raised by
---   HasTable: the words ask for such a view of a presentation, which is what the bytes are; its symbols stay within the entries, and over fractions
+--   IsOwn: a stream of a presentation's own, as a run writes it, whole or cut after its head, and no longer than an input may be
+--   IsInput: what the bytes are for a presentation: its text, or a stream of its own
+--   HasTable: the words ask for such a view of a presentation, which the bytes are an input for; its symbols stay within the entries, and over fractions
 --   each weight's operations fit
+--   IsOwnReplied: a stream of a presentation's own passed a check, but for the number of symbols; and for a view that computes the reply is that to the
+--   presentation itself
 --   IsStart: what the bytes are for a command: a presentation, or a checkpoint's head and what stands after it
 --   CostsAtMost: a number rose by at most the number of origins of the weights that a run computes; it stayed where the bytes are no start
 --   MayPut: something may stand in the output of a view that has ended with this status: its text after Done, a part of it after a failing put; of a
@@ -29,13 +33,14 @@ use Rattle.fpl_completion.specs.Section.{FitsAt}
 use Rattle.fpl_checkpoint.specs.declared.head.Head.{Head}
 use Rattle.fpl_checkpoint.specs.Scans.{HasHead}
 use Rattle.fplsa.specs.declared.words.View.{View}
-use Rattle.fplsa.specs.declared.words.View.TheVariants.{Table, Checkpoint}
+use Rattle.fplsa.specs.declared.words.View.TheVariants.{Table, Checkpoint, Check}
 use Rattle.fplsa.specs.declared.words.Command.{Command}
 use Rattle.fplsa.specs.Words.{IsCommand, IsNoCommand}
 use Rattle.fplsa.specs.Reply.{Reply, no_memory, write_fault, status_of, text_of, with_text, IsPut, line_of}
 use Rattle.fplsa.specs.Stream.{IsFrontOf}
 use Rattle.fplsa.specs.Start.{Start, of_text, of_head, cost_for}
-use Rattle.fplsa.specs.Answer.{Answers, IsUnread, IsCheckpoint, most_text}
+use Rattle.fpl_streams.specs.Streams.{IsStreamOf}
+use Rattle.fplsa.specs.Answer.{AnswersStart, IsUnread, IsCheckpoint, most_bytes, most_text}
 
 abbrev pub ReadsNothing : List (List ℕ) → Type 0
 ReadsNothing words = IsNoCommand words ⊎ ((c : Command) × IsCommand words c × IsUnread c.view)
@@ -43,9 +48,9 @@ ReadsNothing words = IsNoCommand words ⊎ ((c : Command) × IsCommand words c �
 abbrev pub Says : Option (List ℕ) → Option (List ℕ) → ℕ → ℕ → List ℕ → Type 0
 Says old new before now line = Takes old new line ⊎ (Rose before now × WrotePrefix old new line)
 
-pub record IsReplied (words : List (List ℕ)) (bytes : List ℕ) (result : Status) (out_old out_new err_old err_new : Option (List ℕ)) (before now : ℕ) : Type 0 where
+pub record IsReplied (A : Reply → Type 0) (result : Status) (out_old out_new err_old err_new : Option (List ℕ)) (before now : ℕ) : Type 0 where
   pub reply : Reply
-  pub answers : Answers words bytes reply
+  pub answers : A reply
   pub status : status_of reply ≡ result
   pub text : Takes out_old out_new (text_of reply)
   pub line : Says err_old err_new before now (line_of reply)
@@ -53,17 +58,27 @@ pub record IsReplied (words : List (List ℕ)) (bytes : List ℕ) (result : Stat
 abbrev pub IsOfTable : View → Type 0
 IsOfTable view = (view ≡ Table) ⊎ (view ≡ Checkpoint)
 
+abbrev pub IsOwn : Presentation → List ℕ → Type 0
+IsOwn p bytes = (length bytes ≤ most_bytes) × IsStreamOf p bytes
+
+pub data IsInput (p : Presentation) (bytes : List ℕ) : Type 0 where
+  as_text : length bytes ≤ most_text → HasPresentation bytes p → IsInput p bytes
+  as_stream : IsOwn p bytes → IsInput p bytes
+
 pub record HasTable (words : List (List ℕ)) (bytes : List ℕ) : Type 0 where
   pub command : Command
   pub spelled : IsCommand words command
   pub view : IsOfTable command.view
-  pub short : length bytes ≤ most_text
   pub presentation : Presentation
-  pub said : HasPresentation bytes presentation
+  pub input : IsInput presentation bytes
   pub table : PlainTable
   pub standard : IsTableOf presentation command.limit table
   pub within : (w : ℕ) → w ≤ command.limit → count_through table w ≤ command.entries
   pub fits : presentation.field ≡ Rational → (w : ℕ) → 1 ≤ w → w ≤ command.limit → FitsAt presentation w
+
+pub record IsOwnReplied (c : Command) (p : Presentation) (result : Status) (out_old out_new err_old err_new : Option (List ℕ)) (before now : ℕ) : Type 0 where
+  pub checked : c.view ≡ Check → (result ≡ Done) ⊎ (result ≡ Limit)
+  pub replied : (c.view ≡ Check → ⊥) → IsReplied (AnswersStart c (of_text p)) result out_old out_new err_old err_new before now
 
 pub data IsStart (c : Command) (bytes : List ℕ) : Start → Type 0 where
   from_text : (IsCheckpoint c bytes → ⊥) → (p : Presentation) → HasPresentation bytes p → IsStart c bytes (of_text p)

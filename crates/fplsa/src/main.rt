@@ -24,7 +24,7 @@ mod words;
 
 use fpl_outside::{Sink, Source, StdSink, StdSource};
 use fpl_steps::Steps;
-pub use laws::one_reply;
+pub use laws::{one_reply, written_checkpoints};
 pub use spelling::command;
 pub use status::Status;
 use std::alloc::{AllocError, Global};

@@ -1,12 +1,13 @@
 ghost use Rattle.std.specs.Prelude.{◌≡◌, ◌≢◌, ◌≤◌, ◌<◌, ◌+◌, ◌^◌, ◌⊎◌, ◌↔◌, List, ℕ, map, string_bytes, length, IfSome, IsTrue};
 ghost use Rattle.std.specs.Io.KnownBytes.{IsAtEnd};
 ghost use Rattle.fpl_outside.specs.Outside.{Rose, Takes};
+ghost use Rattle.fpl_model.specs.declared.presentation.Presentation.{Presentation};
 ghost use Rattle.fplsa.specs.declared.words.Command.{Command};
 ghost use Rattle.fplsa.specs.Words.{IsCommand, IsNoCommand, IsInRange};
 ghost use Rattle.fplsa.specs.Reply.{Reply, read_fault, IsFree, status_of, line_of};
 ghost use Rattle.fplsa.specs.Answer.{Answers, AnswersCommand, AnswersText, AnswersCheckpoint, IsUnread, IsMarked, IsCheckpoint};
 ghost use Rattle.fplsa.specs.Outcome.{reply_of};
-ghost use Rattle.fplsa.specs.Run.{ReadsNothing, Says, IsReplied, HasTable, IsPartOf, TakesFront, MayPut, Ends, CostsAtMost};
+ghost use Rattle.fplsa.specs.Run.{ReadsNothing, Says, IsReplied, IsOwn, IsOwnReplied, HasTable, IsPartOf, TakesFront, MayPut, Ends, CostsAtMost};
 
 use crate::line::put_line;
 use crate::outcome::{Outcome, Refusal};
@@ -207,7 +208,7 @@ pub fn run<I: Source, O: Sink, E: Sink, L: Ledger>(
     ensures usage { (result ≡ Status.Usage) ↔ IsNoCommand (map string_bytes words.now.items) }
 
     // Where the input tells its bytes, the words and the bytes decide all of it, but for want of memory and faults.
-    ensures reply { IsFree result ⊎ IfSome (I.left input.old) (λ bytes. IsReplied (map string_bytes words.now.items) bytes result (O.taken out.old) (O.taken out.new) (E.taken err.old) (E.taken err.new) (E.faults err.old) (E.faults err.new)) }
+    ensures reply { IsFree result ⊎ IfSome (I.left input.old) (λ bytes. IsReplied (Answers (map string_bytes words.now.items) bytes) result (O.taken out.old) (O.taken out.new) (E.taken err.old) (E.taken err.new) (E.faults err.old) (E.faults err.new)) }
     ensures line { (reply : Reply) × (status_of reply ≡ result) × Says (E.taken err.old) (E.taken err.new) (E.faults err.old) (E.faults err.new) (line_of reply) }
 
     // A faulty input or output alone gives these, and a prefix of the text stands in the output.
@@ -218,6 +219,9 @@ pub fn run<I: Source, O: Sink, E: Sink, L: Ledger>(
     // Where memory ran out, a checkpoint may have its head and first sections. Else the output is as before.
     ensures front { result ≡ Status.NoMemory → IfSome (I.left input.old) (λ bytes. TakesFront (Answers (map string_bytes words.now.items) bytes) (O.taken out.old) (O.taken out.new)) }
     ensures nothing { ((c : Command) → IsCommand (map string_bytes words.now.items) c → MayPut c.view result → ⊥) → O.taken out.new ≡ O.taken out.old }
+
+    // A checkpoint that a run wrote for a presentation, whole or cut after its head, has the reply of that presentation, and passes a check.
+    ensures own { IfSome (I.left input.old) (λ bytes. (c : Command) (p : Presentation) → IsCommand (map string_bytes words.now.items) c → IsOwn p bytes → IsFree result ⊎ IsOwnReplied c p result (O.taken out.old) (O.taken out.new) (E.taken err.old) (E.taken err.new) (E.faults err.old) (E.faults err.new)) }
 
     // Where there is a table within the limits and no stream fails, its view is written, but for want of memory.
     ensures complete { IfSome (I.left input.old) (λ bytes. HasTable (map string_bytes words.now.items) bytes → (Rose (I.faults input.old) (I.faults input.new) → ⊥) → (Rose (O.faults out.old) (O.faults out.new) → ⊥) → (result ≡ Status.Done) ⊎ (result ≡ Status.NoMemory)) }
