@@ -1,6 +1,6 @@
 -- A run is complete: where there is a table and nothing fails, it writes it.
 use Rattle.std.proofs.Common.{◌≡◌, ℕ, zero, suc, ◌+◌, ◌≤◌, ◌<◌, ◌⊎◌, inl, inr, List, length, Bool, true, false, Ok, Err, refl, sym, ap, ◌∙◌, subst, None, Some, arith}
-use Rattle.std.specs.Prelude.{◌≢◌, IfSome, nat_lt}
+use Rattle.std.specs.Prelude.{IfSome, nat_lt}
 use Rattle.std.specs.declared.option.Option.{Option}
 use Rattle.std.specs.declared.result.Result.{Result}
 use Rattle.fpl_numbers.specs.declared.number.Unfit.{Unfit}

@@ -1,5 +1,5 @@
 -- A text that begins with the mark of a checkpoint has no presentation, since no piece of a text begins so.
-use Rattle.std.proofs.Common.{◌≡◌, ℕ, ◌<◌, ◌++◌, List, [], ◌∷◌, length, Ok, Err, IsTrue, refl, sym, ap, ◌∙◌, subst, arith}
+use Rattle.std.proofs.Common.{◌≡◌, ℕ, ◌++◌, List, [], ◌∷◌, length, Ok, IsTrue, refl, sym, ap, ◌∙◌, subst, arith}
 use Rattle.std.specs.Prelude.{slice_index}
 use Rattle.fpl_text.specs.Bytes.{is_blank, is_letter, is_digit, is_mark}
 use Rattle.fpl_lex.specs.declared.token.Token.{Token}

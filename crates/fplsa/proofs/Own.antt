@@ -9,11 +9,11 @@ use Rattle.fpl_table.specs.Standard.{IsTableOf}
 use Rattle.fpl_print.specs.TableText.{table_text, names_of}
 use Rattle.fpl_checkpoint.specs.declared.head.Head.{Head}
 use Rattle.fpl_checkpoint.specs.Scans.{HasHead}
-use Rattle.fpl_checkpoint.proofs.OneHead.{one_head, not_bad}
-use Rattle.fpl_resume.specs.Walk.{Stop, Fault, ended, failed, too_many, bad_bytes, bad_section, overflow, Walked}
-use Rattle.fpl_streams.specs.Streams.{IsStreamOf, plain_walk}
+use Rattle.fpl_checkpoint.proofs.OneHead.{not_bad}
+use Rattle.fpl_resume.specs.Walk.{Stop, Fault, ended, failed, too_many, bad_bytes, bad_section, overflow, begun, walk_of}
+use Rattle.fpl_streams.specs.Streams.{IsStreamOf, nothing}
 use Rattle.fpl_streams.specs.Laws.{GiveSame, PassesWith, walk_from}
-use Rattle.fpl_streams.proofs.Heads.{have_heads, own_streams_give, own_streams_pass}
+use Rattle.fpl_streams.proofs.Heads.{have_heads, heads_are_of, own_streams_give, own_streams_pass}
 use Rattle.fplsa.specs.declared.status.Status.{Status}
 use Rattle.fplsa.specs.declared.status.Status.TheVariants.{Done, Limit}
 use Rattle.fplsa.specs.declared.words.View.{View}
@@ -32,18 +32,18 @@ use Rattle.fplsa.specs.Run.{IsReplied, IsOwn, IsOwnReplied}
 use Rattle.fplsa.proofs.Names.{one_command, command_in_range}
 
 computes : (v : View) → (v ≡ Check → ⊥) → does_compute v ≡ true
-computes Table no = refl
-computes Series no = refl
-computes Gap no = refl
-computes Log no = refl
-computes Checkpoint no = refl
-computes Centre no = refl
-computes Lcs no = refl
-computes Ideal no = refl
-computes Cohomology no = refl
-computes Equal no = refl
-computes Check no = absurd (no refl)
-computes Sample no = refl
+computes Table other = refl
+computes Series other = refl
+computes Gap other = refl
+computes Log other = refl
+computes Checkpoint other = refl
+computes Centre other = refl
+computes Lcs other = refl
+computes Ideal other = refl
+computes Cohomology other = refl
+computes Equal other = refl
+computes Check other = absurd (other refl)
+computes Sample other = refl
 
 unbuilt : (v : View) → v ≡ Sample → IsBuilt v → ⊥
 unbuilt v e (inl k) = let no : Table ≡ Sample = sym k ∙ e in cc
@@ -69,12 +69,12 @@ table_along p q n S T e f t = subst (λ (x : Presentation). IsTableOf x n T) e (
 
 module _ (c : Command) (p : Presentation) (bytes : List ℕ) (own : IsOwn p bytes) (range : (c.limit ≤ 1000) × (c.entries ≤ 2000000)) where
   held : (h : Head) → HasHead bytes h → h.presentation ≡ p
-  held h has = let g = have_heads p bytes own.1 in ap (λ (x : Head). x.presentation) (one_head bytes h g.0 has g.1) ∙ g.2
+  held h has = heads_are_of p bytes h own.1 has
 
   same_walks : (c.view ≡ Check → ⊥) → (h : Head) → HasHead bytes h → GiveSame (walk_for c (of_head bytes h)) (walk_for c (of_text p))
   same_walks view h has =
-      let same : GiveSame (walk_from true c.entries bytes h c.limit) (plain_walk c.entries p c.limit) = own_streams_give p bytes h c.entries c.limit own.1 has range.1 range.0 in
-      rw computes c.view view same
+      subst (λ (b : Bool). GiveSame (walk_from b c.entries bytes h c.limit) (walk_of b c.entries p nothing c.limit (begun p 0 false))) (sym (computes c.view view))
+      (own_streams_give p bytes h c.entries c.limit own.1 has range.1 range.0)
 
   alone : (c.view ≡ Check → ⊥) → (h : Head) → HasHead bytes h → (r : Reply) → AnswersStart c (of_head bytes h) r → AnswersStart c (of_text p) r
   alone view h has _ (view_not_built a) = view_not_built a

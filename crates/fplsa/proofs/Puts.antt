@@ -1,15 +1,11 @@
 -- Texts that are put.
-use Rattle.std.proofs.Common.{◌≡◌, ℕ, inl, List, [], length, Ok, Err, None, Some, refl, sym, ap, subst, ◌∙◌, arith}
-use Rattle.std.specs.Prelude.{IfErr}
+use Rattle.std.proofs.Common.{◌≡◌, ℕ, inl, List, refl}
 use Rattle.std.specs.declared.option.Option.{Option}
-use Rattle.std.specs.declared.result.Result.{Result}
-use Rattle.fpl_outside.specs.Outside.{Takes}
-use Rattle.fpl_outside.specs.Whole.{WrotePrefix}
 use Rattle.fplsa.specs.declared.status.Status.TheVariants.{WriteFault}
 use Rattle.fplsa.specs.declared.words.View.{View}
 use Rattle.fplsa.specs.declared.put.Cut.{Cut}
 use Rattle.fplsa.specs.declared.put.Cut.TheVariants as cut
-use Rattle.fplsa.specs.Reply.{Reply, done, status_of}
+use Rattle.fplsa.specs.Reply.{done, status_of}
 use Rattle.fplsa.specs.Run.{MayPut, Ends}
 use Rattle.fplsa.specs.Put.{IsCut, cut_reply}
 

@@ -7,11 +7,10 @@ use Rattle.std.specs.Io.KnownBytes.{IsAtEnd}
 use Rattle.std.proofs.lemmas.List.{append-nil}
 use Rattle.fpl_outside.specs.Outside.{Gives, Takes, Rose}
 use Rattle.fpl_outside.specs.Whole.{PassedMax, WrotePrefix}
-use Rattle.fplsa.specs.declared.status.Status.{Status}
-use Rattle.fplsa.specs.declared.status.Status.TheVariants.{Done, Usage, NoMemory, ReadFault, WriteFault}
+use Rattle.fplsa.specs.declared.status.Status.TheVariants.{Usage, NoMemory, ReadFault, WriteFault}
 use Rattle.fplsa.specs.declared.words.Command.{Command}
 use Rattle.fplsa.specs.Words.{IsCommand}
-use Rattle.fplsa.specs.Reply.{Reply, done, usage, refused, stopped, no_memory, read_fault, write_fault, not_built, IsFree, fault_status, status_of, text_of, with_text, line_of}
+use Rattle.fplsa.specs.Reply.{Reply, done, usage, refused, stopped, no_memory, read_fault, write_fault, not_built, IsFree, fault_status, status_of, with_text, line_of}
 use Rattle.fpl_resume.specs.Walk.{Fault, too_many, bad_bytes, bad_section, overflow}
 use Rattle.fplsa.specs.Start.{Start, of_text, of_head}
 use Rattle.fplsa.specs.Answer.{Answers, AnswersCommand, AnswersText, AnswersCheckpoint, AnswersStart}
@@ -20,7 +19,7 @@ use Rattle.fplsa.specs.Answer.AnswersText.{text_too_long, no_presentation, prese
 use Rattle.fplsa.specs.Answer.AnswersCheckpoint.{no_head, head}
 use Rattle.fplsa.specs.Answer.AnswersCommand.{unread, input_too_long, checkpoint, text}
 use Rattle.fplsa.specs.Answer.Answers.{command}
-use Rattle.fplsa.specs.Run.{Says, IsReplied, IsPartOf, HasFront, TakesFront, EndsWith, Ends}
+use Rattle.fplsa.specs.Run.{Says, IsReplied, IsPartOf, TakesFront, EndsWith, Ends}
 
 -- an ending that is told of a part of the input, told of the whole
 module _ (A B : Reply → Type 0) (f : (r : Reply) → A r → B r) (oo on : Option (List ℕ)) where

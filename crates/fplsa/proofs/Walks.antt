@@ -2,7 +2,6 @@
 use Rattle.std.proofs.Common.{◌≡◌, ℕ, zero, suc, ◌+◌, ◌-◌, ◌<◌, ◌≤◌, ◌⊎◌, inl, inr, List, [], ◌∷◌, ◌++◌, append_assoc, Bool, true, false, Ok, Err, None, Some, refl, sym, ap, ◌∙◌, arith}
 use Rattle.std.specs.Prelude.{nat_lt, if◌then◌else◌}
 use Rattle.std.specs.declared.result.Result.{Result}
-use Rattle.std.specs.declared.option.Option.{Option}
 use Rattle.fpl_numbers.specs.declared.number.Num.{Num}
 use Rattle.fpl_numbers.specs.declared.number.Unfit.{Unfit}
 use Rattle.fpl_log.specs.declared.section.Section.{Section}
@@ -26,7 +25,7 @@ use Rattle.fpl_resume.specs.declared.stop.Stop.TheVariants as told
 use Rattle.fpl_complete.specs.State.{unfit_of, slimmed}
 use Rattle.fpl_resume.specs.Stops.{PlainRun, stored_in, IsStop}
 use Rattle.fplsa.specs.Begin.{HasStopped}
-use Rattle.fpl_resume.specs.Walk.{Stored, Stage, Fault, too_many, bad_bytes, bad_section, overflow, Stop, ended, failed, Walked, next_weight, adopted, formed, computed_as, computed, framed, weighed, step_of, stopped, walk_on, walk_of, step_cost, cost_on, cost_of}
+use Rattle.fpl_resume.specs.Walk.{Stored, Stage, too_many, bad_bytes, bad_section, overflow, Stop, ended, failed, Walked, next_weight, adopted, formed, computed_as, computed, framed, weighed, step_of, stopped, walk_on, walk_of, step_cost, cost_on, cost_of}
 
 -- a step raises the table by one weight, and adds its section
 abbrev Grows : Stage → Result Stage Stop → Type 0

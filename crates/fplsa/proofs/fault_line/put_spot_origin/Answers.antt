@@ -1,4 +1,4 @@
-use Rattle.std.proofs.Common.{◌++◌, codes, decimal}
+use Rattle.std.proofs.Common.{codes}
 use Rattle.fpl_outside.proofs.Pieces.{wrote_front}
 use Rattle.fplsa.specs.Faults.{origin_text}
 use Rattle.fplsa.proofs.Lines.{on_err, on_err_after}

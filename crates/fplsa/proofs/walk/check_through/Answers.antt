@@ -1,7 +1,7 @@
-use Rattle.std.proofs.Common.{◌≡◌, ◌-◌, ◌⊎◌, inl, inr, length, None, Some, ap, ◌∙◌, sym, subst}
+use Rattle.std.proofs.Common.{◌≡◌, ◌-◌, inl, inr, length, None, ap, ◌∙◌, sym, subst}
 use Rattle.fpl_model.specs.declared.presentation.Presentation.{Presentation}
-use Rattle.fpl_resume.specs.Walk.{Walked, ended, stopped}
-use Rattle.fplsa.specs.Reply.{Reply, done}
+use Rattle.fpl_resume.specs.Walk.{Walked, stopped}
+use Rattle.fplsa.specs.Reply.{done}
 use Rattle.fplsa.specs.CheckText.{check_text}
 use Rattle.fplsa.specs.Start.{walk_for}
 use Rattle.fplsa.specs.Answer.{AnswersStart}

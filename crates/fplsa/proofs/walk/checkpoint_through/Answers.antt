@@ -1,7 +1,7 @@
-use Rattle.std.proofs.Common.{◌≡◌, ap, sym}
+use Rattle.std.proofs.Common.{ap, sym}
 use Rattle.fplsa.specs.Answer.{AnswersStart}
 use Rattle.fplsa.specs.Begin.{start_in}
-use Rattle.fplsa.proofs.Ends.{walk_begun, cost_begun}
+use Rattle.fplsa.proofs.Ends.{walk_begun}
 use Rattle.fplsa.proofs.Replies.{ends_through}
 use Rattle.fplsa.proofs.Streaming.{streamed_start, checkpoint_may_put}
 use Rattle.fplsa.proofs.walk.checkpoint_through.Goals as goal

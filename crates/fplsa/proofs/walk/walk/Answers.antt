@@ -1,5 +1,5 @@
-use Rattle.std.proofs.Common.{◌≡◌, ◌≤◌, ◌<◌, ◌+◌, ◌-◌, Ok, sym, ap, ◌∙◌, subst, arith, rules}
-use Rattle.fpl_resume.specs.Walk.{Stage, step_of, step_cost, walk_of, cost_of}
+use Rattle.std.proofs.Common.{◌≡◌, ◌≤◌, ◌<◌, Ok, sym, ap, ◌∙◌, subst, arith}
+use Rattle.fpl_resume.specs.Walk.{step_of}
 use Rattle.fpl_resume.specs.Stops.{PlainRun, IsStop, stored_in}
 use Rattle.fplsa.specs.Start.{does_compute}
 use Rattle.fplsa.proofs.Walks.{step_raises, walk_left, cost_left, cost_stops, walk_over, stored_as, step_as, cost_as, stopped_at}
