@@ -37,15 +37,15 @@ impl<F: Field> Table<F> {
         }
     }
 
-    fn zero_numbers(&self, alloc: Global) -> Result<Vec<F::Elem>, AllocError>
+    /// 0 at each basis number, with room for `more` numbers.
+    fn zero_numbers(&self, alloc: Global, more: usize) -> Result<Vec<F::Elem>, AllocError>
         ensures value { IfOk result (λ v. map F.number v.items ≡ zero_row (length self.now.basis)) }
         ensures elements { IfOk result (λ v. AreElements self.now.kind (map F.number v.items)) }
         ensures shape { HasShape self.now }
     {
-        let mut numbers = Vec::new(alloc);
-        for _ in 0..self.basis_len() {
-            numbers.push(self.field().zero())?;
-        }
+        let count = self.basis_len() as usize;
+        let mut numbers = Vec::with_capacity(alloc, count.saturating_add(more))?;
+        numbers.resize(count, self.field().zero())?;
         Ok(numbers)
     }
 
@@ -64,11 +64,12 @@ impl<F: Field> Table<F> {
         ensures whole { IfOk result (λ row. IsRowUpTo self.now.kind (length self.now.basis + length free.now) row) }
     {
         let lead = leads[s];
-        let mut numbers = self.zero_numbers(alloc)?;
+        let mut numbers = self.zero_numbers(alloc, free.len())?;
         for t in free {
             numbers.push(self.number_solved(rows, lead, s as u32, *t))?;
         }
-        Ok(Row::from_vec(self.field(), numbers))
+        let row = Row::from_vec(self.field(), numbers);
+        Ok(row.pack(alloc, self.field()))
     }
 
     /// Whether the generator at place `g` is of the next weight.

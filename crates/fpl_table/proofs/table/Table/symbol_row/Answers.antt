@@ -19,8 +19,8 @@ loop-t-preserved g c =
       elements = rw (c.in_ok-push.ensures.items, map-append) (all_push (IsElement c.args.self.now.kind) _ _ c.loop-t.invariant.elements c.number_solved.ensures.element);
     }
 
-pub from_vec-requires : goal.from_vec-requires
-from_vec-requires g c =
+pub from_vec-row-requires : goal.from_vec-row-requires
+from_vec-row-requires g c =
     let whole = take_all c.args.free.now c.loop-t.t-index c.loop-t-test.false in
     let count = simp (length-map, length-append, length-replicate) at (ap length (rw whole at c.loop-t.invariant.value)) in
     let free = ap length c.requires.solved.free_is in
@@ -32,4 +32,4 @@ pub returns-clause-value : goal.returns-clause-value
 returns-clause-value g c =
     let whole = take_all c.args.free.now c.loop-t.t-index c.loop-t-test.false in
     let row = c.requires.solved.are_leads.rows_are c.args.s c.requires.place in
-    rw (c.from_vec.ensures, c.loop-t.invariant.value, whole, c.requires.solved.free_is, row, solved_is) refl
+    rw (c.pack.ensures, c.from_vec-row.ensures, c.loop-t.invariant.value, whole, c.requires.solved.free_is, row, solved_is) refl
