@@ -39,7 +39,7 @@ loop-s-preserved g c =
       elements = c.in-Ok.ensures.elements;
       same = same ∙ c.loop-s.invariant.same;
       left = c.loop-s.invariant.left ∙ to_lead kind c.args.pivots.now c.loop-s.most c.in-Some.s (record { row = c.loop-s.row; terms = c.loop-s.terms }) c.in-Some.ensures
-        ∙ ap (and_then (λ y. sweep_of kind c.args.pivots.now (c.in-Some.s - 1) y)) c.in-Ok.ensures.value;
+          ∙ ap (and_then (λ y. sweep_of kind c.args.pivots.now (c.in-Some.s - 1) y)) c.in-Ok.ensures.value;
     }
 
 pub returns-in-Err-clause-value : goal.returns-in-Err-clause-value
