@@ -5,3 +5,4 @@ pub mod Onward
 pub mod Relations
 pub mod Thirds
 pub mod TriplesInOrder
+pub mod Spreading

@@ -123,14 +123,13 @@ fn add_terms<F: Field>(
     ensures elements { OnOk result (AreElements table.now.kind row.new) }
     ensures whole { length row.new ≡ length row.old }
 {
-    for t in 0..entry.len() {
-        let c = entry.at(t + 1);
-        if !table.field().is_zero(c) {
-            match add_term(table, symbols, beside, negated, t + 1, c, row) {
-                Ok(()) => {}
-                Err(fault) => return Err(fault),
-            }
+    let mut after = 0;
+    while let Some(t) = entry.next(after) {
+        match add_term(table, symbols, beside, negated, t, entry.at(t), row) {
+            Ok(()) => {}
+            Err(fault) => return Err(fault),
         }
+        after = t;
     }
     Ok(())
 }
