@@ -2,3 +2,4 @@ pub mod Trees
 pub mod Terms
 pub mod Entries
 pub mod OneText
+pub mod Walks

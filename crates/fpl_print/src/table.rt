@@ -110,8 +110,10 @@ fn push_combination<F: Field>(out: &mut Vec<u8>, field: &F, row: &Row<F>) -> Res
     ensures { OnOk result (out.new.items ≡ out.old.items ++ combination_text basis_name row.now) }
 {
     let mut first = true;
-    for s in 0..row.len() {
-        first = push_term(out, field, first, row.at(s + 1), s + 1)?;
+    let mut after = 0;
+    while let Some(s) = row.next(after) {
+        first = push_term(out, field, first, row.at(s), s)?;
+        after = s;
     }
     if first {
         return out.extend_from_slice(b"0");
