@@ -50,13 +50,7 @@ fn least(first: Option<u32>, second: Option<u32>) -> Option<u32>
     ensures { result ≡ least_of first second }
 {
     match (first, second) {
-        (Some(s), Some(t)) => {
-            if s <= t {
-                Some(s)
-            } else {
-                Some(t)
-            }
-        }
+        (Some(s), Some(t)) => { if s <= t { Some(s) } else { Some(t) } }
         (Some(s), None) => Some(s),
         (None, other) => other,
     }

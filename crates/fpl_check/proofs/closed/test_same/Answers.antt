@@ -1,4 +1,4 @@
-use Rattle.std.proofs.Common.{◌≡◌, ◌≤◌, ◌∙◌, sym, ap₂, arith, length}
+use Rattle.std.proofs.Common.{◌∙◌, sym, ap₂, arith}
 use Rattle.fpl_check.specs.Filled.{least_of}
 use Rattle.fpl_check.proofs.Loops.{differ, number_element, found_same, found_other}
 use Rattle.fpl_check.proofs.Filled.{least_found, same_until, same_to_end, same_at_next, same_at_stop}
@@ -59,7 +59,7 @@ symbols-preserved g c =
     record {
       within = least.within;
       done = c.symbols.invariant.done
-      ∙ same_until (g.F.Field.kind_of c.args.field.now) (g.met.F.Field.is_field c.args.field.now) c.args.k c.args.stored.now c.args.concluded.now c.requires.stored.elements c.requires.concluded.elements len c.symbols.after c.in-Some.s least
-      ∙ same_at_next c.args.k c.in-Some.s c.args.stored.now c.args.concluded.now (number c.at-left.result) (number c.at-right.result) (omega arith) least.within len c.at-left.ensures c.at-right.ensures
-      (found_same c.same.result (number c.at-left.result) (number c.at-right.result) c.same.ensures c.if-not-same.false);
+          ∙ same_until (g.F.Field.kind_of c.args.field.now) (g.met.F.Field.is_field c.args.field.now) c.args.k c.args.stored.now c.args.concluded.now c.requires.stored.elements c.requires.concluded.elements len c.symbols.after c.in-Some.s least
+          ∙ same_at_next c.args.k c.in-Some.s c.args.stored.now c.args.concluded.now (number c.at-left.result) (number c.at-right.result) (omega arith) least.within len c.at-left.ensures c.at-right.ensures
+          (found_same c.same.result (number c.at-left.result) (number c.at-right.result) c.same.ensures c.if-not-same.false);
     }
