@@ -2,6 +2,7 @@ mod Composed
 pub mod Loops
 pub mod ListedOrigins
 mod Marks
+mod Filled
 pub mod StoredRows
 mod Weighed
 mod Tested

@@ -7,4 +7,5 @@ pub mod Faults
 pub mod Cited
 pub mod Leads
 pub mod Closing
+pub mod Filled
 pub mod Laws

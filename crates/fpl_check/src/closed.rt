@@ -6,11 +6,12 @@ ghost use Rattle.fpl_check.specs.Premises.{IsSectionFor, AreCoefficientsOf};
 ghost use Rattle.fpl_check.specs.ClosedRows.{close_count, test_closes, is_formed, stored_row, close_rows, test_same, test_at, test_conclusions, test_leads, test_apart};
 ghost use Rattle.fpl_check.specs.Steps.{is_close};
 ghost use Rattle.fpl_check.specs.Check.{rows_stored, test_closed};
+ghost use Rattle.fpl_check.specs.Filled.{least_of};
 
 use crate::leads::{test_apart, test_leads};
-use crate::stored::{rows_stored, stored_row, test_forms};
+use crate::stored::{rows_stored, test_forms};
 use crate::{CheckFault, Spot, Why};
-use fpl_log::{ClosedList, Section, Step, StepList};
+use fpl_log::{Section, Step, StepList};
 use fpl_rows::{Row, Rows};
 use fpl_scalar::Field;
 use fpl_table::Table;
@@ -44,6 +45,17 @@ fn test_closes(section: &Section) -> Result<(), CheckFault>
     })
 }
 
+/// The lesser of two positions.
+fn least(first: Option<u32>, second: Option<u32>) -> Option<u32>
+    ensures { result ≡ least_of first second }
+{
+    match (first, second) {
+        (Some(s), Some(t)) => { if s <= t { Some(s) } else { Some(t) } }
+        (Some(s), None) => Some(s),
+        (None, other) => other,
+    }
+}
+
 /// Tests that closed row `k` is a conclusion.
 fn test_same<F: Field>(
     field: &F,
@@ -55,47 +67,46 @@ fn test_same<F: Field>(
     requires concluded { IsRowOf (F.kind_of field.now) (length stored.now) concluded.now }
     ensures { GivesCheck (λ done. done) result (test_same k 1 stored.now concluded.now) }
 {
-    for s in 0..stored.len() {
-        let left = stored.at(s + 1);
-        let right = concluded.at(s + 1);
-        if !field.same(left, right) {
-            return Err(CheckFault::Bad {
-                spot: Spot::Closed(k),
-                why: Why::Differs {
-                    symbol: s + 1,
-                    stored: field.num(left),
-                    concluded: field.num(right),
-                },
-            });
+    // where both are 0 they are the same
+    let mut after = 0;
+    'symbols: loop {
+        match least(stored.next(after), concluded.next(after)) {
+            None => return Ok(()),
+            Some(s) => {
+                let left = stored.at(s);
+                let right = concluded.at(s);
+                if !field.same(left, right) {
+                    return Err(CheckFault::Bad {
+                        spot: Spot::Closed(k),
+                        why: Why::Differs {
+                            symbol: s,
+                            stored: field.num(left),
+                            concluded: field.num(right),
+                        },
+                    });
+                }
+                after = s;
+            }
         }
     }
-    Ok(())
 }
 
 /// Tests that the closed row at place `k` is the conclusion at place `i`, where there are both.
 fn test_conclusion<F: Field>(
-    alloc: Global,
     field: &F,
     n: u32,
-    closed: &ClosedList,
+    rows: &Rows<F>,
     k: usize,
     conclusions: &Rows<F>,
     i: usize,
 ) -> Result<(), CheckFault>
-    requires few { length closed.now < 2 ^ 32 }
-    requires formed { All (λ row. is_formed n 0 row ≡ true) closed.now }
-    requires coefficients { All (AreCoefficientsOf (F.kind_of field.now)) closed.now }
+    requires few { length rows.now < 2 ^ 32 }
+    requires rows { AreRows (F.kind_of field.now) n rows.now }
     requires conclusions { AreRows (F.kind_of field.now) n conclusions.now }
-    ensures { GivesCheck (λ done. done) result (test_at (k + 1) (slice_get (map (stored_row n) closed.now) k) (slice_get conclusions.now i)) }
+    ensures { GivesCheck (λ done. done) result (test_at (k + 1) (slice_get rows.now k) (slice_get conclusions.now i)) }
 {
-    match (closed.get(k), conclusions.get(i)) {
-        (Some(row), Some(concluded)) => {
-            let stored = match stored_row(alloc, field, n, row) {
-                Ok(stored) => stored,
-                Err(_) => return Err(CheckFault::NoMemory),
-            };
-            test_same(field, k as u32 + 1, &stored, concluded)
-        }
+    match (rows.get(k), conclusions.get(i)) {
+        (Some(stored), Some(concluded)) => test_same(field, k as u32 + 1, stored, concluded),
         _ => Ok(()),
     }
 }
@@ -112,22 +123,21 @@ fn is_close(steps: &StepList, i: usize) -> bool
 
 /// Tests that each closed row is the conclusion of its Close step.
 fn test_conclusions<F: Field>(
-    alloc: Global,
     field: &F,
     n: u32,
-    section: &Section,
+    steps: &StepList,
+    rows: &Rows<F>,
     conclusions: &Rows<F>,
 ) -> Result<(), CheckFault>
-    requires few { length section.now.closed < 2 ^ 32 }
-    requires formed { All (λ row. is_formed n 0 row ≡ true) section.now.closed }
-    requires coefficients { All (AreCoefficientsOf (F.kind_of field.now)) section.now.closed }
+    requires few { length rows.now < 2 ^ 32 }
+    requires rows { AreRows (F.kind_of field.now) n rows.now }
     requires conclusions { AreRows (F.kind_of field.now) n conclusions.now }
-    ensures { GivesCheck (λ done. done) result (test_conclusions 1 (map (stored_row n) section.now.closed) (close_rows section.now.steps conclusions.now)) }
+    ensures { GivesCheck (λ done. done) result (test_conclusions 1 rows.now (close_rows steps.now conclusions.now)) }
 {
     let mut k = 0;
-    for i in 0..section.steps.len() {
-        if is_close(&section.steps, i) {
-            match test_conclusion(alloc, field, n, &section.closed, k, conclusions, i) {
+    for i in 0..steps.len() {
+        if is_close(steps, i) {
+            match test_conclusion(field, n, rows, k, conclusions, i) {
                 Ok(()) => {}
                 Err(fault) => return Err(fault),
             }
@@ -174,15 +184,15 @@ pub fn closed_rows<F: Field>(
         Ok(()) => {}
         Err(fault) => return Err(fault),
     }
-    match test_conclusions(alloc, field, n, section, &conclusions) {
-        Ok(()) => {}
-        Err(fault) => return Err(fault),
-    }
-    drop(conclusions);
     let rows = match rows_stored(alloc, field, n, &section.closed) {
         Ok(rows) => rows,
         Err(_) => return Err(CheckFault::NoMemory),
     };
+    match test_conclusions(field, n, &section.steps, &rows, &conclusions) {
+        Ok(()) => {}
+        Err(fault) => return Err(fault),
+    }
+    drop(conclusions);
     match test_rows(alloc, field, n, &rows) {
         Ok(()) => Ok(rows),
         Err(fault) => Err(fault),

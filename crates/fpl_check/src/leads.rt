@@ -78,25 +78,26 @@ fn marking<F: Field>(
 }
 
 /// Tests that row `k` is 0 at the marked symbols but its greatest.
-fn test_crossing<F: Field>(
-    field: &F,
-    k: u32,
-    marks: &[bool],
-    row: &Row<F>,
-) -> Result<(), CheckFault>
+fn test_crossing<F: Field>(k: u32, marks: &[bool], row: &Row<F>) -> Result<(), CheckFault>
     requires { length marks.now ≡ length row.now }
     ensures { GivesCheck (λ done. done) result (test_crossing k (marked marks.now) (lead_or_none row.now) 1 row.now) }
 {
     let lead = row.lead().unwrap_or(0);
-    for s in 0..row.len() {
-        if s + 1 != lead && marks[s as usize] && !field.is_zero(row.at(s + 1)) {
-            return Err(CheckFault::Bad {
-                spot: Spot::Closed(k),
-                why: Why::NotClosed { symbol: s + 1 },
-            });
+    let mut after = 0;
+    'symbols: loop {
+        match row.next(after) {
+            None => return Ok(()),
+            Some(s) => {
+                if s != lead && marks[s as usize - 1] {
+                    return Err(CheckFault::Bad {
+                        spot: Spot::Closed(k),
+                        why: Why::NotClosed { symbol: s },
+                    });
+                }
+                after = s;
+            }
         }
     }
-    Ok(())
 }
 
 /// Tests that each row is 0 at the greatest symbols of the others.
@@ -117,7 +118,7 @@ pub fn test_apart<F: Field>(
     for k in 0..rows.len() {
         match rows.get(k) {
             None => {}
-            Some(row) => match test_crossing(field, k as u32 + 1, &marks, row) {
+            Some(row) => match test_crossing(k as u32 + 1, &marks, row) {
                 Ok(()) => {}
                 Err(fault) => return Err(fault),
             },

@@ -31,6 +31,10 @@ pub fn test_zero<F: Field>(field: &F, spot: Spot, row: &Row<F>) -> Result<(), Ch
     requires { AreElements (F.kind_of field.now) row.now }
     ensures { GivesCheck (λ done. done) result (test_zero spot row.now) }
 {
+    // mostly it is zero, and that is told fastest from the front
+    if row.next(0).is_none() {
+        return Ok(());
+    }
     match row.lead() {
         None => Ok(()),
         Some(symbol) => {

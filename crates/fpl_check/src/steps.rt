@@ -219,7 +219,7 @@ pub fn conclude_all<F: Field>(
             None => {}
             Some(step) => match conclude_tested(alloc, table, p, symbols, steps, &earlier, step) {
                 Err(fault) => return Err(fault),
-                Ok(row) => match earlier.push(row) {
+                Ok(row) => match earlier.push(row.pack(alloc, table.field())) {
                     Ok(()) => {}
                     Err(_) => return Err(CheckFault::NoMemory),
                 },

@@ -1,8 +1,5 @@
 use Rattle.fpl_check.proofs.Tested.{all_formed}
 use Rattle.fpl_check.proofs.closed.closed_rows.Goals as goal
 
-pub test_conclusions-requires-clause-formed : goal.test_conclusions-requires-clause-formed
-test_conclusions-requires-clause-formed g c = all_formed c.args.n 1 c.args.section.now.closed c.in-Ok-test_forms.ensures
-
 pub rows_stored-requires-clause-formed : goal.rows_stored-requires-clause-formed
 rows_stored-requires-clause-formed g c = all_formed c.args.n 1 c.args.section.now.closed c.in-Ok-test_forms.ensures

@@ -1,5 +1,5 @@
-use Rattle.std.proofs.Common.{◌≡◌, ◌+◌, ◌≤◌, ◌∙◌, sym, ap, ap₂, arith, suc, map, drop, length}
-use Rattle.fpl_check.specs.ClosedRows.{stored_row, close_rows, test_conclusions}
+use Rattle.std.proofs.Common.{◌≡◌, ◌+◌, ◌≤◌, ◌∙◌, sym, ap, ap₂, arith, suc, drop, length}
+use Rattle.fpl_check.specs.ClosedRows.{close_rows, test_conclusions}
 use Rattle.fpl_check.proofs.Composed.{same_refusal}
 use Rattle.fpl_check.proofs.Loops.{conclusions_next, conclusions_stop, conclusions_end, rows_other}
 use Rattle.fpl_check.proofs.closed.test_conclusions.Goals.{then-is_close+in-Ok, else-is_close}
@@ -8,15 +8,15 @@ use Rattle.fpl_check.proofs.closed.test_conclusions.Goals as goal
 pub returns-in-Err : goal.returns-in-Err
 returns-in-Err g c =
     same_refusal c.in-Err.fault _ _ c.loop-i.invariant.done
-    (conclusions_stop (c.loop-i.k + 1) c.loop-i.k c.loop-i.i (map (stored_row c.args.n) c.args.section.now.closed) c.args.section.now.steps c.args.conclusions.now (sym c.is_close.ensures ∙ c.if-is_close.true) c.in-Err.fault c.in-Err.ensures)
+    (conclusions_stop (c.loop-i.k + 1) c.loop-i.k c.loop-i.i c.args.rows.now c.args.steps.now c.args.conclusions.now (sym c.is_close.ensures ∙ c.if-is_close.true) c.in-Err.fault c.in-Err.ensures)
 
 pub loop-i-preserved : goal.loop-i-preserved
 loop-i-preserved g c =
     let next : c.loop-i.i + 1 ≡ suc c.loop-i.i = omega arith in
     let after : c.loop-i.k + 1 ≡ suc c.loop-i.k = omega arith in
-    let steps = c.args.section.now.steps in
+    let steps = c.args.steps.now in
     let rows = c.args.conclusions.now in
-    let xs = map (stored_row c.args.n) c.args.section.now.closed in
+    let xs = c.args.rows.now in
     elim c.if-is_close.branch [
       | then-is_close+in-Ok w ↦ record {
         at_most = omega arith;
@@ -34,5 +34,5 @@ loop-i-preserved g c =
 
 pub returns : goal.returns
 returns g c =
-    let past : length c.args.section.now.steps ≤ c.loop-i.i = (let e = c.len-i-end.ensures.value in omega (arith, c.loop-i-test.false)) in
-    c.loop-i.invariant.done ∙ conclusions_end (c.loop-i.k + 1) c.loop-i.i (drop c.loop-i.k (map (stored_row c.args.n) c.args.section.now.closed)) c.args.section.now.steps (drop c.loop-i.i c.args.conclusions.now) past
+    let past : length c.args.steps.now ≤ c.loop-i.i = (let e = c.len-i-end.ensures.value in omega (arith, c.loop-i-test.false)) in
+    c.loop-i.invariant.done ∙ conclusions_end (c.loop-i.k + 1) c.loop-i.i (drop c.loop-i.k c.args.rows.now) c.args.steps.now (drop c.loop-i.i c.args.conclusions.now) past

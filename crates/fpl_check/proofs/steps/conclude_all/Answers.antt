@@ -20,7 +20,7 @@ loop-i-preserved g c =
       | in-Some+in-Ok+in-Ok-push w ↦
           let kind = c.args.table.now.kind in
           let n = length (symbols_in c.args.table.now) in
-          let more : c.match-get.earlier ≡ c.loop-i.earlier ++ w.in-Ok.row ∷ [] = w.earlier-is ∙ w.in-Ok-push.ensures.ok in
+          let more : c.match-get.earlier ≡ c.loop-i.earlier ++ w.in-Ok.row ∷ [] = w.earlier-is ∙ w.in-Ok-push.ensures.ok ∙ ap (λ x. c.loop-i.earlier ++ x ∷ []) w.pack.ensures in
           record {
             rows = subst (AreRows kind n) (sym more) (all_more (IsRowOf kind n) c.loop-i.earlier w.in-Ok.row c.loop-i.invariant.rows w.in-Ok.ensures.row);
             done = c.loop-i.invariant.done
