@@ -1,11 +1,10 @@
 -- What the acceptance of a section tells of its steps and of its number of origins.
-use Rattle.std.specs.Prelude.{ℕ, ◌+◌, ◌-◌, ◌≡◌, ◌<◌, ◌≤◌, List, [], ◌∷◌, ◌++◌, length, slice_get, All, Option, Some, None, IfSome, Result, Ok, Err, Bool, true, false, ◌&&◌, nat_eq, nat_le, nat_lt}
-use mathlib.Core.Path.{refl, sym, subst, ap, ◌∙◌}
+use Rattle.std.specs.Prelude.{ℕ, ◌+◌, ◌-◌, ◌≡◌, List, [], ◌∷◌, ◌++◌, length, slice_get, All, Option, Some, None, IfSome, Ok, Bool, true, ◌&&◌, nat_eq, nat_le, nat_lt}
+use mathlib.Core.Path.{subst}
 use native.Mathlib.Omega.{arith}
 use Rattle.std.proofs.lemmas.List.{length-append}
 use Rattle.std.proofs.lemmas.Bool.Decides.{nat_tests}
 use Rattle.fpl_numbers.specs.declared.number.Num.{Num}
-use Rattle.fpl_numbers.specs.Results.{and_then}
 use Rattle.fpl_rows.proofs.Fits.{all_cons}
 use Rattle.fpl_log.specs.declared.terms.Term.{Term}
 use Rattle.fpl_log.specs.declared.step.Step.{Step}
@@ -17,9 +16,9 @@ use Rattle.fpl_table.specs.Plain.{PlainTable}
 use Rattle.fpl_rewrite.specs.Origins.{origins_of}
 use Rattle.fpl_check.specs.declared.fault.Spot.TheVariants.{Step as AtStep, Whole}
 use Rattle.fpl_check.specs.declared.fault.Why.TheVariants.{BadOrigin, BadCite, OriginCount}
-use Rattle.fpl_check.specs.Refusal.{Refusal, demand, passing}
+use Rattle.fpl_check.specs.Refusal.{demand}
 use Rattle.fpl_check.specs.Steps.{is_insert, is_close, is_origin, names_insert, names_close, test_cites, conclusion_of_step, conclusions_from, conclusions_of}
-use Rattle.fpl_check.specs.Check.{test_count, test_closed, test_origins, rows_stored, Accepts}
+use Rattle.fpl_check.specs.Check.{test_count, test_closed, Accepts}
 use Rattle.fpl_check.proofs.ListedOrigins.{demanded, passing_first}
 use Rattle.fpl_check.proofs.Loops.{both_true, is_below, is_most}
 use Rattle.fpl_check.proofs.PassedTests.{then_first}

@@ -9,7 +9,8 @@ use Rattle.fpl_numbers.specs.declared.number.Num.{Num}
 use Rattle.fpl_numbers.specs.declared.number.Kind.{Kind}
 use Rattle.fpl_numbers.specs.Numbers.{IsField}
 use Rattle.fpl_numbers.specs.Kinds.{field_of, number_of}
-use Rattle.fpl_rows.specs.Meaning.{row_in, vector_in, AreRows, IsClosedList, InSpanOf}
+use Rattle.fpl_scalar.specs.Vectors.{AreElements}
+use Rattle.fpl_rows.specs.Meaning.{row_in, vector_in, IsRowOf, AreRows, IsClosedList, InSpanOf}
 use Rattle.fpl_rows.proofs.Readings.{vector_past}
 use Rattle.fpl_algebra.specs.Tree.{none}
 use Rattle.fpl_algebra.specs.Derives.{Derives, Expression}
@@ -61,6 +62,10 @@ module _ (p : Presentation) (T : PlainTable) (s : Section) (holds : Holds p T) (
   stand : RowsStand p.field vector
   unfolding vector
   stand = rows_stand p T holds.kind holds.generators holds.sound rows weights
+
+  -- the row of an origin is a row over the symbols
+  pub origin_rows : (o : Origin) → Contains (origins_of T p) o → (row : List Num) → row_of_origin T p o ≡ Ok row → IsRowOf T.kind (length (symbols_in T)) row
+  origin_rows o c row e = let h = stand o c row e in record { elements = subst (λ k. AreElements k row) (sym holds.kind) h.elements; length_is = h.long }
 
   -- what the origins' vectors span, the source rows span
   from_sources : (v : Vector (field_of p.field)) → InSpan p.field vector v → Spanned (field_of p.field) (IsSource (field_of p.field) (presentation_in p) (table_in p.field T)) v

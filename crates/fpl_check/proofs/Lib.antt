@@ -7,5 +7,9 @@ mod Weighed
 mod Tested
 pub mod ClosedTests
 pub mod PassedTests
+pub mod StepParts
+pub mod Conclusions
+mod ClosingSteps
+mod StepOrigins
 mod LawsPassed
 pub mod AcceptedSections

@@ -6,4 +6,5 @@ pub mod Check
 pub mod Faults
 pub mod Cited
 pub mod Leads
+pub mod Closing
 pub mod Laws

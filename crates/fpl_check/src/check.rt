@@ -50,7 +50,7 @@ fn checked_rows<F: Field>(
         Ok(()) => {}
         Err(fault) => return Err(fault),
     }
-    match test_origins(alloc, table, p, &symbols, &rows) {
+    match test_origins(alloc, table, p, &symbols, section, &rows) {
         Ok(()) => Ok(rows),
         Err(fault) => Err(fault),
     }

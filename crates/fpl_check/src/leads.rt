@@ -1,10 +1,11 @@
-ghost use Rattle.std.specs.Prelude.{◌≡◌, ◌+◌, ◌<◌, ◌^◌, [], length, IfOk};
+ghost use Rattle.std.specs.Prelude.{◌≡◌, ◌+◌, ◌<◌, ◌^◌, length, IfOk};
 ghost use Rattle.fpl_rows.specs.Meaning.{AreRows, IsRowOf};
 ghost use Rattle.fpl_check.specs.Refusal.{GivesCheck};
 ghost use Rattle.fpl_check.specs.ClosedRows.{lead_or_none, test_lead_at, test_leads, test_crossing, test_apart};
 ghost use Rattle.fpl_check.specs.Leads.{marked, IsMarking};
 ghost use Rattle.fpl_rows.specs.Positions.{lead_of};
 
+use crate::marking::unmarked;
 use crate::{CheckFault, Spot, Why};
 use fpl_rows::{Row, Rows};
 use fpl_scalar::Field;
@@ -53,16 +54,6 @@ pub fn test_leads<F: Field>(field: &F, n: u32, rows: &Rows<F>) -> Result<(), Che
     Ok(())
 }
 
-fn unmarked(alloc: Global, n: u32) -> Result<Vec<bool>, AllocError>
-    ensures { IfOk result (λ marks. IsMarking n [] marks.items) }
-{
-    let mut marks = Vec::with_capacity(alloc, n as usize)?;
-    for _ in 0..n {
-        marks.push(false)?;
-    }
-    Ok(marks)
-}
-
 /// Marks the greatest symbols of rows.
 fn marking<F: Field>(
     alloc: Global,
@@ -73,7 +64,7 @@ fn marking<F: Field>(
     requires { AreRows (F.kind_of field.now) n rows.now }
     ensures { IfOk result (λ marks. IsMarking n rows.now marks.items) }
 {
-    let mut marks = unmarked(alloc, n)?;
+    let mut marks = unmarked(alloc, n as usize)?;
     let mut k = rows.len();
     while k > 0 {
         k -= 1;

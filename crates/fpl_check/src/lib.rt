@@ -4,9 +4,11 @@
 mod check;
 mod cites;
 mod closed;
+mod closing;
 mod fault;
 mod laws;
 mod leads;
+mod marking;
 mod origin;
 mod origins;
 mod remainder;

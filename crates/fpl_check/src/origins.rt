@@ -1,4 +1,4 @@
-ghost use Rattle.std.specs.Prelude.{◌≡◌, length, IfOk, IfSome, Contains};
+ghost use Rattle.std.specs.Prelude.{◌≡◌, true, length, IfOk, IfSome, Contains};
 ghost use Rattle.fpl_numbers.specs.Results.{GivesBy, and_then};
 ghost use Rattle.fpl_rows.specs.Meaning.{IsClosedList, IsRowOf};
 ghost use Rattle.fpl_elimination.specs.Plain.{sweep_rows};
@@ -9,18 +9,22 @@ ghost use Rattle.fpl_next.specs.Holds.{Holds};
 ghost use Rattle.fpl_rewrite.specs.Origins.{origins_of};
 ghost use Rattle.fpl_rewrite.specs.Rows.{row_of_origin};
 ghost use Rattle.fpl_check.specs.Refusal.{GivesCheck};
+ghost use Rattle.fpl_echelon.specs.Leads.{IsLeadIndex};
+ghost use Rattle.fpl_check.specs.Premises.{IsSectionFor};
+ghost use Rattle.fpl_check.specs.Closing.{shows, AreTested};
 ghost use Rattle.fpl_check.specs.Check.{test_count, test_origin, test_origins};
 
+use crate::closing::{inserts, shows};
 use crate::remainder::{fault_of, test_zero};
 use crate::{CheckFault, Spot, Why};
-use fpl_echelon::sweep;
-use fpl_log::Origin;
+use fpl_echelon::{Leads, sweep_by};
+use fpl_log::{Origin, Section, StepList};
 use fpl_model::Presentation;
 use fpl_rewrite::{Origins, origin_row};
 use fpl_rows::{Row, Rows};
 use fpl_scalar::{Fault, Field};
 use fpl_table::{Symbols, Table};
-use std::alloc::Global;
+use std::alloc::{AllocError, Global};
 
 /// The number of origins of the weight after the table's, where it is below 2^64 - 1.
 pub fn count_origins<F: Field>(table: &Table<F>, p: &Presentation) -> Option<u64>
@@ -74,17 +78,19 @@ fn swept<F: Field>(
     p: &Presentation,
     symbols: &Symbols,
     rows: &Rows<F>,
+    leads: &Leads,
     origin: Origin,
 ) -> Result<Row<F>, Fault>
     requires holds { Holds p.now table.now }
     requires symbols { symbols.now.symbols ≡ symbols_in table.now }
     requires listed { Contains (origins_of table.now p.now) origin }
     requires closed { IsClosedList table.now.kind (length (symbols_in table.now)) rows.now }
+    requires leads { IsLeadIndex rows.now leads.now }
     ensures value { GivesBy (λ left. left) result (and_then (sweep_rows table.now.kind rows.now) (row_of_origin table.now p.now origin)) }
     ensures left { IfOk result (λ left. IsRowOf table.now.kind (length (symbols_in table.now)) left) }
 {
     match origin_row(alloc, table, p, symbols, origin) {
-        Ok(row) => sweep(alloc, table.field(), rows, row),
+        Ok(row) => sweep_by(table.field(), rows, leads, row),
         Err(fault) => Err(fault),
     }
 }
@@ -96,41 +102,113 @@ fn test_origin<F: Field>(
     p: &Presentation,
     symbols: &Symbols,
     rows: &Rows<F>,
+    leads: &Leads,
     origin: Origin,
 ) -> Result<(), CheckFault>
     requires holds { Holds p.now table.now }
     requires symbols { symbols.now.symbols ≡ symbols_in table.now }
     requires listed { Contains (origins_of table.now p.now) origin }
     requires closed { IsClosedList table.now.kind (length (symbols_in table.now)) rows.now }
+    requires leads { IsLeadIndex rows.now leads.now }
     ensures { GivesCheck (λ done. done) result (test_origin table.now p.now rows.now origin) }
 {
-    match swept(alloc, table, p, symbols, rows, origin) {
+    match swept(alloc, table, p, symbols, rows, leads, origin) {
         Ok(left) => test_zero(table.field(), Spot::Origin(origin), &left),
         Err(fault) => Err(fault_of(fault)),
     }
 }
 
-/// Tests that the rows of all origins are in the span of closed rows.
+/// The same, but that nothing is formed where the step at place `next`, counted from 0, is of this
+/// origin, and the steps show the rows of their origins. Gives the place of the step to look at for
+/// the next origin.
+fn test_next<F: Field>(
+    alloc: Global,
+    table: &Table<F>,
+    p: &Presentation,
+    symbols: &Symbols,
+    section: &Section,
+    rows: &Rows<F>,
+    leads: &Leads,
+    next: Option<usize>,
+    origin: Origin,
+) -> Result<Option<usize>, CheckFault>
+    requires holds { Holds p.now table.now }
+    requires symbols { symbols.now.symbols ≡ symbols_in table.now }
+    requires section { IsSectionFor table.now section.now }
+    requires tested { AreTested table.now p.now section.now rows.now }
+    requires listed { Contains (origins_of table.now p.now) origin }
+    requires closed { IsClosedList table.now.kind (length (symbols_in table.now)) rows.now }
+    requires leads { IsLeadIndex rows.now leads.now }
+    requires shown { IfSome next (λ k. shows table.now.kind section.now.steps ≡ true) }
+    ensures value { GivesCheck (λ after. tt) result (test_origin table.now p.now rows.now origin) }
+    ensures shown { IfOk result (λ after. IfSome after (λ k. shows table.now.kind section.now.steps ≡ true)) }
+{
+    if let Some(k) = next {
+        if k < section.steps.len() && inserts(&section.steps, k, origin) {
+            return Ok(Some(k + 1));
+        }
+    }
+    match test_origin(alloc, table, p, symbols, rows, leads, origin) {
+        Ok(()) => Ok(next),
+        Err(fault) => Err(fault),
+    }
+}
+
+/// The first place at which a step is looked for, where the steps show the rows of their origins.
+fn first_step<F: Field>(
+    alloc: Global,
+    field: &F,
+    steps: &StepList,
+) -> Result<Option<usize>, AllocError>
+    ensures { IfOk result (λ first. IfSome first (λ k. shows (F.kind_of field.now) steps.now ≡ true)) }
+{
+    if shows(alloc, field, steps)? {
+        Ok(Some(0))
+    } else {
+        Ok(None)
+    }
+}
+
+/// Tests that the rows of all origins are in the span of the closed rows of a section whose other
+/// tests pass.
+///
+/// Steps stand mostly in the order of their origins, so these are met one beside the other; the
+/// row of an origin whose step isn't met is formed and swept.
 pub fn test_origins<F: Field>(
     alloc: Global,
     table: &Table<F>,
     p: &Presentation,
     symbols: &Symbols,
+    section: &Section,
     rows: &Rows<F>,
 ) -> Result<(), CheckFault>
     requires holds { Holds p.now table.now }
     requires symbols { symbols.now.symbols ≡ symbols_in table.now }
+    requires section { IsSectionFor table.now section.now }
+    requires tested { AreTested table.now p.now section.now rows.now }
     requires closed { IsClosedList table.now.kind (length (symbols_in table.now)) rows.now }
     ensures { GivesCheck (λ done. done) result (test_origins table.now p.now rows.now (origins_of table.now p.now)) }
 {
+    let leads = match Leads::of(alloc, symbols.len(), rows) {
+        Ok(leads) => leads,
+        Err(_) => return Err(CheckFault::NoMemory),
+    };
+    let mut step = match first_step(alloc, table.field(), &section.steps) {
+        Ok(step) => step,
+        Err(_) => return Err(CheckFault::NoMemory),
+    };
     let mut origins = Origins::start(table, p, table.weight() + 1);
     'origins: loop {
         match origins.next(table, p) {
             None => return Ok(()),
-            Some(origin) => match test_origin(alloc, table, p, symbols, rows, origin) {
-                Ok(()) => {}
-                Err(fault) => return Err(fault),
-            },
+            Some(origin) => {
+                match test_next(
+                    alloc, table, p, symbols, section, rows, &leads, step, origin,
+                ) {
+                    Ok(after) => step = after,
+                    Err(fault) => return Err(fault),
+                }
+            }
         }
     }
 }

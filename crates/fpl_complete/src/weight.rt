@@ -4,6 +4,7 @@ ghost use Rattle.fpl_rows.specs.Meaning.{IsClosedList};
 ghost use Rattle.fpl_elimination.specs.Plain.{Held, rows_of, sweep_rows};
 ghost use Rattle.fpl_rewrite.specs.Rows.{row_of_origin};
 ghost use Rattle.fpl_echelon.specs.Outcomes.{closed_as};
+ghost use Rattle.fpl_echelon.specs.Leads.{IsLeadIndex};
 ghost use Rattle.fpl_table.specs.Plain.{symbols_in};
 ghost use Rattle.fpl_next.specs.Holds.{Holds};
 ghost use Rattle.fpl_rewrite.specs.Origins.{origins_of};
@@ -13,7 +14,7 @@ ghost use Rattle.fpl_complete.specs.State.{weighed_as};
 
 use crate::section::section_of;
 use crate::weighed::Weighed;
-use fpl_echelon::{Closed, Echelon, sweep};
+use fpl_echelon::{Closed, Echelon, Leads, sweep_by};
 use fpl_log::Origin;
 use fpl_model::Presentation;
 use fpl_rewrite::{Origins, origin_row};
@@ -93,16 +94,18 @@ fn sweep_one<F: Field>(
     p: &Presentation,
     symbols: &Symbols,
     rows: &Rows<F>,
+    leads: &Leads,
     origin: Origin,
 ) -> Result<(), Fault>
     requires holds { Holds p.now table.now }
     requires symbols { symbols.now.symbols ≡ symbols_in table.now }
     requires listed { Contains (origins_of table.now p.now) origin }
     requires closed { IsClosedList table.now.kind (length (symbols_in table.now)) rows.now }
+    requires leads { IsLeadIndex rows.now leads.now }
     ensures value { (h : Held) → Gives result h (and_then (λ row. and_then (λ left. Ok h) (sweep_rows table.now.kind rows.now row)) (row_of_origin table.now p.now origin)) }
 {
     match origin_row(alloc, table, p, symbols, origin) {
-        Ok(row) => match sweep(alloc, table.field(), rows, row) {
+        Ok(row) => match sweep_by(table.field(), rows, leads, row) {
             Ok(_) => Ok(()),
             Err(fault) => Err(fault),
         },
@@ -123,11 +126,15 @@ fn sweep_again<F: Field>(
     requires closed { IsClosedList table.now.kind (length (symbols_in table.now)) rows.now }
     ensures value { (h : Held) → Gives result h (again table.now p.now rows.now (origins_of table.now p.now) h) }
 {
+    let leads = match Leads::of(alloc, symbols.len(), rows) {
+        Ok(leads) => leads,
+        Err(_) => return Err(Fault::NoMemory),
+    };
     let mut origins = Origins::start(table, p, table.weight() + 1);
     'origins: loop {
         match origins.next(table, p) {
             None => return Ok(()),
-            Some(origin) => match sweep_one(alloc, table, p, symbols, rows, origin) {
+            Some(origin) => match sweep_one(alloc, table, p, symbols, rows, &leads, origin) {
                 Ok(()) => {}
                 Err(fault) => return Err(fault),
             },

@@ -1,4 +1,5 @@
 pub mod IndexLemmas
 pub mod Contracts
-pub mod ClosedLeads
+pub mod LeadIndex
+pub mod PlaceSweeps
 pub mod Passing

@@ -4,6 +4,7 @@
 mod close;
 mod echelon;
 mod keep;
+mod leads;
 mod outcome;
 mod pivots;
 mod remainder;
@@ -11,5 +12,6 @@ mod sweeping;
 
 pub use close::Closed;
 pub use echelon::Echelon;
+pub use leads::Leads;
 pub use outcome::Outcome;
-pub use remainder::sweep;
+pub use remainder::{sweep, sweep_by};

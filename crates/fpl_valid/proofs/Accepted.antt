@@ -20,7 +20,7 @@ use Rattle.fpl_check.proofs.ListedOrigins.{demanded, passing_first}
 use Rattle.fpl_check.proofs.StoredRows.{stored_rows}
 use Rattle.fpl_check.proofs.ClosedTests.{are_closed}
 use Rattle.fpl_check.proofs.PassedTests.{then_first, close_among, close_length, all_same, same_count}
-use Rattle.fpl_valid.proofs.Conclusions.{Concludes, are_concluded, conclude_all, HaveRows, step_row, rows_more}
+use Rattle.fpl_check.proofs.Conclusions.{Concludes, are_concluded, conclude_all, HaveRows, step_row, rows_more}
 
 module _ (T : PlainTable) (p : Presentation) (s : Section) where
   pub record AcceptedParts : Type 0 where

@@ -37,8 +37,8 @@ use Rattle.fpl_check.specs.Cited.{named}
 use Rattle.fpl_check.specs.Steps.{is_origin, names_insert, names_close, remainder_at, scale_if, test_zero, test_dependent}
 use Rattle.fpl_check.specs.ClosedRows.{close_rows}
 use Rattle.fpl_check.proofs.ListedOrigins.{contains_rest}
-use Rattle.fpl_valid.proofs.StepParts.{InsertParts, CloseParts}
-use Rattle.fpl_valid.proofs.Conclusions.{HaveRows}
+use Rattle.fpl_check.proofs.StepParts.{InsertParts, CloseParts}
+use Rattle.fpl_check.proofs.Conclusions.{HaveRows}
 use Rattle.fpl_valid.proofs.StepsMore.{step_named, cites_all, close_rows_more, Told, told_more, IsStepOf, all_steps_more, step_last}
 
 -- the terms of a sweep, taken off once more

@@ -40,7 +40,7 @@ use Rattle.fpl_completion.proofs.InOrder.{scale_stays}
 use Rattle.fpl_completion.proofs.Recorded.{put_parts, run_parts}
 use Rattle.fpl_check.proofs.ListedOrigins.{contains_rest}
 use Rattle.fpl_valid.specs.Valid.{insert_count}
-use Rattle.fpl_valid.proofs.Conclusions.{HaveRows}
+use Rattle.fpl_check.proofs.Conclusions.{HaveRows}
 
 -- the Insert steps that stay
 keeps : Step → ℕ

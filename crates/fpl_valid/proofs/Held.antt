@@ -31,7 +31,7 @@ use Rattle.fpl_check.specs.Refusal.{demand}
 use Rattle.fpl_check.specs.Premises.{AreCoefficientsOf, IsSectionFor}
 use Rattle.fpl_check.specs.Check.{test_count, Accepts}
 use Rattle.fpl_valid.specs.Valid.{slimmed, whole_section, TellsOrigins, AcceptedInOrder, SlimIsAccepted, SlimIsFor, SlimIsSlim, WholeIsAccepted, SectionIsAccepted, SectionIsFor, SectionIsSlim, OneStepEach}
-use Rattle.fpl_valid.proofs.Conclusions.{HaveRows}
+use Rattle.fpl_check.proofs.Conclusions.{HaveRows}
 use Rattle.fpl_valid.proofs.Accepted.{accepted_parts, accepts_whole}
 use Rattle.fpl_valid.proofs.InOrder.{accepted_in_order}
 use Rattle.fpl_valid.proofs.Tests.{same_true}

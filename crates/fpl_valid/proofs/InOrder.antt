@@ -37,8 +37,8 @@ use Rattle.fpl_check.specs.Check.{Accepts, rows_stored}
 use Rattle.fpl_check.proofs.Loops.{both_true}
 use Rattle.fpl_check.proofs.ListedOrigins.{named_within, terms_pass}
 use Rattle.fpl_check.proofs.PassedTests.{zero_is}
-use Rattle.fpl_valid.proofs.StepParts.{all_cited, CloseParts}
-use Rattle.fpl_valid.proofs.Conclusions.{Concludes, HaveRows, rows_more}
+use Rattle.fpl_check.proofs.StepParts.{all_cited, CloseParts}
+use Rattle.fpl_check.proofs.Conclusions.{Concludes, HaveRows, rows_more}
 use Rattle.fpl_valid.proofs.Accepted.{accepted_parts, stored_are_concluded, stored_are_closed}
 
 -- an Insert step with scale 0 concludes zero

@@ -1,6 +1,4 @@
 pub mod Tests
-pub mod StepParts
-pub mod Conclusions
 pub mod Accepted
 pub mod InOrder
 pub mod StepsMore

@@ -29,7 +29,7 @@ use Rattle.fpl_completion.specs.Weight.{put_of, gather, close_weight}
 use Rattle.fpl_completion.proofs.Recorded.{put_parts, run_parts}
 use Rattle.fpl_check.specs.Premises.{AreFactorsOf, HasNumbersOf}
 use Rattle.fpl_check.proofs.ListedOrigins.{contains_rest}
-use Rattle.fpl_valid.proofs.Conclusions.{HaveRows}
+use Rattle.fpl_check.proofs.Conclusions.{HaveRows}
 
 module _ (kind : Kind) (listed : IsField kind) (n : ℕ) where
   reads : Reads kind (field_of kind) (number_of kind)

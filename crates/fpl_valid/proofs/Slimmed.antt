@@ -15,7 +15,7 @@ use Rattle.fpl_check.specs.Premises.{HasNumbersOf}
 use Rattle.fpl_check.specs.ClosedRows.{close_count, test_conclusions}
 use Rattle.fpl_check.specs.Check.{test_count, rows_stored}
 use Rattle.fpl_check.proofs.ListedOrigins.{demanded}
-use Rattle.fpl_valid.proofs.Conclusions.{HaveRows}
+use Rattle.fpl_check.proofs.Conclusions.{HaveRows}
 use Rattle.fpl_valid.proofs.Accepted.{AcceptedParts, as_many}
 use Rattle.fpl_check.proofs.PassedTests.{close_length, same_count}
 use Rattle.fpl_valid.proofs.Tests.{same_true}

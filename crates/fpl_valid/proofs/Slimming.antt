@@ -34,8 +34,8 @@ use Rattle.fpl_check.specs.Premises.{AreFactorsOf, HasNumbersOf}
 use Rattle.fpl_check.specs.Steps.{names_insert, names_close, test_zero, scale_if}
 use Rattle.fpl_check.specs.ClosedRows.{close_rows}
 use Rattle.fpl_check.proofs.ListedOrigins.{origin_listed, named_within, terms_pass}
-use Rattle.fpl_valid.proofs.StepParts.{all_cited, InsertParts, CloseParts, StepParts}
-use Rattle.fpl_valid.proofs.Conclusions.{Concludes, HaveRows, rows_more}
+use Rattle.fpl_check.proofs.StepParts.{all_cited, InsertParts, CloseParts, StepParts}
+use Rattle.fpl_check.proofs.Conclusions.{Concludes, HaveRows, rows_more}
 use Rattle.fpl_valid.proofs.InOrder.{dependent_zero, is_there}
 use Rattle.fpl_valid.proofs.StepsMore.{is_sort, named_is, named_sort, cites_all}
 

@@ -21,8 +21,8 @@ use Rattle.fpl_check.specs.Steps.{is_insert, is_close, test_cites}
 use Rattle.fpl_check.specs.ClosedRows.{close_rows}
 use Rattle.fpl_check.proofs.Loops.{both_true, and_true, below_true}
 use Rattle.fpl_valid.proofs.Tests.{most_true}
-use Rattle.fpl_valid.proofs.StepParts.{all_cited, StepParts}
-use Rattle.fpl_valid.proofs.Conclusions.{Concludes}
+use Rattle.fpl_check.proofs.StepParts.{all_cited, StepParts}
+use Rattle.fpl_check.proofs.Conclusions.{Concludes}
 
 -- a step of the sort
 abbrev pub is_sort : Cited → Option Step → Bool

@@ -34,7 +34,7 @@ use Rattle.fpl_check.specs.Steps.{test_zero, remainder_at}
 use Rattle.fpl_check.specs.ClosedRows.{close_count, test_conclusions, test_leads, test_apart}
 use Rattle.fpl_check.specs.Check.{test_origin, test_origins, test_count, rows_stored, Accepts}
 use Rattle.fpl_valid.specs.Valid.{whole_section}
-use Rattle.fpl_valid.proofs.Conclusions.{HaveRows}
+use Rattle.fpl_check.proofs.Conclusions.{HaveRows}
 use Rattle.fpl_valid.proofs.Accepted.{AcceptedParts, accepts_whole}
 use Rattle.fpl_check.proofs.PassedTests.{close_length}
 use Rattle.fpl_valid.proofs.Tests.{same_true}

@@ -14,5 +14,6 @@ origins-preserved g c =
     record {
       weight = c.in-Some.ensures.weight ∙ i.weight;
       listed = λ o h. i.listed o (contains_rest os rest c.in-Some.origin o list h);
-      done = i.done ∙ origins_next T p c.args.rows.now os rest c.in-Some.origin list c.in-Ok.ensures;
+      shown = c.in-Ok-test_next.ensures.shown;
+      done = i.done ∙ origins_next T p c.args.rows.now os rest c.in-Some.origin list c.in-Ok-test_next.ensures.value;
     }

@@ -1,5 +1,5 @@
 use Rattle.std.proofs.Common.{◌≡◌, replicate, false}
-use Rattle.fpl_check.proofs.leads.unmarked.Given as goal
+use Rattle.fpl_check.proofs.marking.unmarked.Given as goal
 
 abbrev pub invariant-loop : goal.invariant-loop
 invariant-loop l = l.marks.items ≡ replicate l.counter false

@@ -21,7 +21,7 @@ use Rattle.fpl_check.specs.Premises.{HasNumbersOf}
 use Rattle.fpl_check.specs.Steps.{scale_if, conclusion_of_step, conclusions_from}
 use Rattle.fpl_check.proofs.ListedOrigins.{origin_listed, named_within, terms_pass}
 use Rattle.fpl_check.proofs.PassedTests.{then_first, concluded_row}
-use Rattle.fpl_valid.proofs.StepParts.{StepParts, step_parts, step_whole}
+use Rattle.fpl_check.proofs.StepParts.{StepParts, step_parts, step_whole}
 
 module _ (T : PlainTable) (p : Presentation) (steps : List Step) where
   -- each step concludes its row
