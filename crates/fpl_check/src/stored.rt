@@ -111,7 +111,7 @@ pub fn rows_stored<F: Field>(
     for k in 0..closed.len() {
         match closed.get(k) {
             None => {}
-            Some(row) => rows.push(stored_row(alloc, field, n, row)?)?,
+            Some(row) => rows.push(stored_row(alloc, field, n, row)?.pack(alloc, field))?,
         }
     }
     Ok(rows)
