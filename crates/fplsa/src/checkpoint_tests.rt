@@ -29,7 +29,7 @@ const LARGE: &[u8] =
 const NONE_LEFT: &str = "table Q through 1\nbasis 0\nimages 2\nx = 0\ny = 0\nbrackets 0\nend\n";
 
 // Bytes with some of them changed, and some more after them.
-fn forged(
+fn changed(
     alloc: Global,
     from: &[u8],
     changes: &[(usize, u8)],
@@ -43,6 +43,15 @@ fn forged(
     }
     bytes.extend_from_slice(more)?;
     Ok(bytes)
+}
+
+fn forged(alloc: Global, changes: &[(usize, u8)]) -> Result<Vec<u8>, AllocError> {
+    changed(alloc, STORED, changes, b"")
+}
+
+// The same of version 2.
+fn forged_anew(alloc: Global, changes: &[(usize, u8)]) -> Result<Vec<u8>, AllocError> {
+    changed(alloc, ODD, changes, b"")
 }
 
 #[test]
@@ -106,7 +115,7 @@ fn refuses_forged_checkpoints(rt: HostRuntime) -> Result<(), Fail> {
         ),
     ];
     for (changes, want) in cases {
-        let bytes = forged(alloc, STORED, &changes, b"")?;
+        let bytes = forged(alloc, &changes)?;
         let ended = run_on(alloc, "table 3", &bytes, 64, 0, 0)?;
         assert_eq!(rt; ended.status, Status::BadCheckpoint, "{want}");
         assert_eq!(rt; ended.out.bytes().len(), 0, "{want}");
@@ -130,13 +139,13 @@ fn refuses_forged_counts(rt: HostRuntime) -> Result<(), Fail> {
         (46, 0xff),
     ];
     let cases = [
-        (forged(alloc, STORED, &most, b"")?, " at byte 47: bad tag"),
+        (changed(alloc, STORED, &most, b"")?, " at byte 47: bad tag"),
         (
-            forged(alloc, STORED, &[(86, 0x3c)], b"\x00")?,
+            changed(alloc, STORED, &[(86, 0x3c)], b"\x00")?,
             " at byte 146: unread bytes",
         ),
         (
-            forged(alloc, ODD, &[(102, 0x44)], b"\x00")?,
+            changed(alloc, ODD, &[(102, 0x44)], b"\x00")?,
             " at byte 170: unread bytes",
         ),
     ];
@@ -183,7 +192,7 @@ fn refuses_forged_checkpoints_of_version_2(rt: HostRuntime) -> Result<(), Fail> 
         ([(110, 2), none], " in weight 3: 2 origins stored, 1 found"),
     ];
     for (changes, want) in cases {
-        let bytes = forged(alloc, ODD, &changes, b"")?;
+        let bytes = forged_anew(alloc, &changes)?;
         let ended = run_on(alloc, "table 3", &bytes, 64, 0, 0)?;
         assert_eq!(rt; ended.status, Status::BadCheckpoint, "{want}");
         assert_eq!(rt; ended.out.bytes().len(), 0, "{want}");
