@@ -35,7 +35,7 @@ use Rattle.fpl_check.specs.Check.{Accepts}
 use Rattle.fpl_check.proofs.Loops.{formed_cons}
 use Rattle.fpl_check.proofs.ListedOrigins.{demanded, passing_first, origin_listed, named_within, terms_pass}
 use Rattle.fpl_valid.specs.Valid.{insert_count, whole_section}
-use Rattle.fpl_valid.proofs.Conclusions.{Concludes}
+use Rattle.fpl_check.proofs.Conclusions.{Concludes}
 use Rattle.fpl_valid.proofs.Accepted.{accepted_parts}
 use Rattle.fpl_valid.proofs.Held.{few_closed, whole_is_accepted, section_is_accepted, one_step_each}
 use Rattle.fpl_bytes.specs.declared.version.Version.{Version}
