@@ -58,9 +58,7 @@ fn zeros<F: Field>(alloc: Global, field: &F, n: u32) -> Result<Vec<F::Elem>, All
     ensures { IfOk result (λ numbers. map F.number numbers.items ≡ replicate n (residue 0)) }
 {
     let mut numbers = Vec::with_capacity(alloc, n as usize)?;
-    for _ in 0..n {
-        numbers.push(field.zero())?;
-    }
+    numbers.resize(n as usize, field.zero())?;
     Ok(numbers)
 }
 
