@@ -53,6 +53,11 @@ set_before f row i v lt =
 set_after : {E : Type 0} (f : E → Num) (row : List E) (i : ℕ) (v : E) → drop (i + 1) (map f (set row i v)) ≡ drop (i + 1) (map f row)
 set_after f row i v = rw (map-set f row i v) (drop-set-lt (i + 1) (map f row) i (f v) (omega arith))
 
+kept_before : {E : Type 0} (f : E → Num) (row : List E) (i : ℕ) (x : E) → i < length row → x ≡ get_or row i x → take (i + 1) (map f row) ≡ take i (map f row) ++ (f x ∷ [])
+kept_before f row i x lt isx =
+    let ltr : i < length (map f row) = rw length-map lt in
+    take_more (map f row) i (f x) ltr ∙ ap (λ w. take i (map f row) ++ (w ∷ [])) (get_or-map f row i x (f x) lt ∙ ap f (sym isx))
+
 module _ {E : Type 0} (kind : Kind) (f : E → Num) (row other : List E) (c : Num) (i : ℕ) (x y : E)
     (lt : i < length row) (same : length row ≡ length other) (isx : x ≡ get_or row i x) (isy : y ≡ get_or other i y) where
   -- the work left from place i on
@@ -91,11 +96,6 @@ module _ {E : Type 0} (kind : Kind) (f : E → Num) (row other : List E) (c : Nu
       rw (stands_of, ← ism, ← isv, set_before f row i v lt, set_after f row i v)
       (sym (append_assoc (take i (map f row)) (f v ∷ []) (axpied kind (drop (i + 1) (map f row)) c (drop (i + 1) (map f other)))))
 
-  kept_before : take (i + 1) (map f row) ≡ take i (map f row) ++ (f x ∷ [])
-  kept_before =
-      let ltr : i < length (map f row) = rw length-map lt in
-      take_more (map f row) i (f x) ltr ∙ ap (λ w. take i (map f row) ++ (w ∷ [])) (get_or-map f row i x (f x) lt ∙ ap f (sym isx))
-
   -- a place to which nothing is added keeps its number
   pub axpy_pass : fused kind (f x) c (f y) ≡ Ok (f x) →
       map_ok (λ rest. take i (map f row) ++ rest) (axpy_of kind (drop i (map f row)) c (drop i (map f other))) ≡
@@ -103,7 +103,7 @@ module _ {E : Type 0} (kind : Kind) (f : E → Num) (row other : List E) (c : Nu
   axpy_pass e =
       let rest : Result (List Num) Unfit = axpy_of kind (drop (i + 1) (map f row)) c (drop (i + 1) (map f other)) in
       ap (map_ok (λ rest. take i (map f row) ++ rest)) (left_of ∙ ap (and_then (λ s. map_ok (λ rest. s ∷ rest) (axpy_of kind (drop (i + 1) (map f row)) c (drop (i + 1) (map f other))))) e)
-      ∙ moved (take i (map f row)) (f x) rest ∙ ap (λ w. map_ok (λ rest. w ++ rest) (axpy_of kind (drop (i + 1) (map f row)) c (drop (i + 1) (map f other)))) (sym kept_before)
+      ∙ moved (take i (map f row)) (f x) rest ∙ ap (λ w. map_ok (λ rest. w ++ rest) (axpy_of kind (drop (i + 1) (map f row)) c (drop (i + 1) (map f other)))) (sym (kept_before f row i x lt isx))
 
   pub stands_pass : fused kind (f x) c (f y) ≡ Ok (f x) →
       take i (map f row) ++ axpied kind (drop i (map f row)) c (drop i (map f other)) ≡
@@ -111,7 +111,7 @@ module _ {E : Type 0} (kind : Kind) (f : E → Num) (row other : List E) (c : Nu
   stands_pass e =
       let rest : List Num = axpied kind (drop (i + 1) (map f row)) c (drop (i + 1) (map f other)) in
       ap (λ w. take i (map f row) ++ w) (stands_of ∙ ap (stands_after (f x ∷ drop (i + 1) (map f row)) rest) e)
-      ∙ sym (append_assoc (take i (map f row)) (f x ∷ []) rest) ∙ ap (λ w. w ++ rest) (sym kept_before)
+      ∙ sym (append_assoc (take i (map f row)) (f x ∷ []) rest) ∙ ap (λ w. w ++ rest) (sym (kept_before f row i x lt isx))
 
 module _ {E : Type 0} (kind : Kind) (f : E → Num) (row : List E) (c : Num) (i : ℕ) (x : E) (lt : i < length row) (isx : x ≡ get_or row i x) where
   pub scale_mul : (u : Unfit) → Err u ≡ operate kind Mul c (f x) → scale_of kind c (drop i (map f row)) ≡ Err u
@@ -130,6 +130,16 @@ module _ {E : Type 0} (kind : Kind) (f : E → Num) (row : List E) (c : Num) (i 
       take i (map f row) ++ scaled kind c (drop i (map f row)) ≡ take (i + 1) (map f (set row i v)) ++ scaled kind c (drop (i + 1) (map f (set row i v)))
   scaled_step v isv =
       rw (first_at f row i x lt isx, ← isv, set_before f row i v lt, set_after f row i v) (sym (append_assoc (take i (map f row)) (f v ∷ []) (scaled kind c (drop (i + 1) (map f row)))))
+
+  -- a place whose number is its own multiple keeps it
+  pub scale_pass : operate kind Mul c (f x) ≡ Ok (f x) →
+      map_ok (λ rest. take i (map f row) ++ rest) (scale_of kind c (drop i (map f row))) ≡
+      map_ok (λ rest. take (i + 1) (map f row) ++ rest) (scale_of kind c (drop (i + 1) (map f row)))
+  scale_pass e = rw (first_at f row i x lt isx, e, kept_before f row i x lt isx) (moved (take i (map f row)) (f x) (scale_of kind c (drop (i + 1) (map f row))))
+
+  pub scaled_pass : operate kind Mul c (f x) ≡ Ok (f x) →
+      take i (map f row) ++ scaled kind c (drop i (map f row)) ≡ take (i + 1) (map f row) ++ scaled kind c (drop (i + 1) (map f row))
+  scaled_pass e = rw (first_at f row i x lt isx, e, kept_before f row i x lt isx) (sym (append_assoc (take i (map f row)) (f x ∷ []) (scaled kind c (drop (i + 1) (map f row)))))
 
 -- the first place that is not 0, looked for from place i on
 map_shift : (i : ℕ) (o : Option ℕ) → option_map (λ k. i + k) (option_map suc o) ≡ option_map (λ k. (i + 1) + k) o

@@ -1,7 +1,8 @@
--- A multiple of 0 adds nothing, and always fits.
+-- A number that is 0 is the residue 0; a multiple of it is 0, adds nothing, and always fits.
 use Rattle.std.specs.Prelude.{ℕ, ◌≡◌, ◌<◌, ◌+◌, ◌*◌, ◌/◌, ◌%◌, ℤ, pos, negsuc, ◌+ℤ◌, ◌*ℤ◌, unsigned_abs, true, ◌&&◌, nat_le, Ok, Err, if◌then◌else◌}
 use Rattle.std.proofs.lemmas.Int.{ints}
-use mathlib.Core.Path.{sym, ap, ap₂, ◌∙◌}
+use mathlib.Core.Path.{sym, ap, ap₂, ◌∙◌, subst}
+use Rattle.std.specs.Int.{IsGcd}
 use native.Mathlib.Omega.{arith}
 use native.Mathlib.Nat.{div-one, zero-div, dvd_refl, mod-eq_of_lt, mul-pos, mul-one, mul-div_cancel, mul-zero, zero-mod, add-zero}
 use Rattle.std.proofs.lemmas.Nat.Gcd.{same_from_IsGcd, dvd-zero}
@@ -21,6 +22,18 @@ use Rattle.fpl_scalar.proofs.FractionArithmetic.{num_same}
 zero_int : (z : ℤ) → is_zero_int z ≡ true → z ≡ pos 0
 zero_int (pos n) h = ap pos (zero_int_is (pos n) h)
 zero_int (negsuc n) h = absurd (let k : ⊥ = cc in k)
+
+-- where the numerator is 0, lowest terms are 0/1
+one_below : (d : ℕ) → IsGcd 0 d 1 → 1 ≡ d
+one_below d h = same_from_IsGcd 0 d 1 d h (dvd-zero d, dvd_refl d, λ c p q. q)
+
+-- a number that is not told apart from 0 is the residue 0
+pub nought_is : (kind : Kind) (x : Num) → IsElement kind x → is_nought x ≡ true → x ≡ residue 0
+nought_is Rational x is z =
+    let e = zero_int x.numerator z in
+    let d = one_below (unsigned_abs x.denominator) (subst (λ n. IsGcd (unsigned_abs n) (unsigned_abs x.denominator) 1) e is.0.lowest) in
+    num_same e (positive_is x.denominator is.0.positive ∙ ap pos (sym d))
+nought_is (Prime p) x is z = is.0.1 ∙ ap (λ n. residue (unsigned_abs n)) (zero_int x.numerator z)
 
 gcd-nought : (d : ℕ) → gcd 0 d ≡ d
 gcd-nought d = same_from_IsGcd 0 d (gcd 0 d) d (gcd_is 0 d) (dvd-zero d, dvd_refl d, λ c p q. q)
@@ -71,10 +84,17 @@ module _ (x : Num) (is : IsElement Rational x) where
   sum_nought : operate Rational Add x (residue 0) ≡ Ok x
   sum_nought = ap₂ (λ t w. if t then Ok w else Err (record { op = Add; a = x; b = residue 0 })) sum_fits sum_is
 
+multiplied_residue : (p c y : ℕ) → y ≡ 0 → c * y % p ≡ 0
+multiplied_residue p c y e = ap (λ w. c * w % p) e ∙ ap (λ w. w % p) (mul-zero c) ∙ zero-mod p
+
 added_residue : (p x c y : ℕ) → x < p → y ≡ 0 → (x + c * y % p) % p ≡ x
-added_residue p x c y l e = ap (λ w. (x + w % p) % p) (ap (λ w. c * w) e ∙ mul-zero c) ∙ ap (λ w. (x + w) % p) (zero-mod p) ∙ ap (λ w. w % p) (add-zero x) ∙ mod-eq_of_lt l
+added_residue p x c y l e = ap (λ w. (x + w) % p) (multiplied_residue p c y e) ∙ ap (λ w. w % p) (add-zero x) ∙ mod-eq_of_lt l
 
 pub nothing_added : (kind : Kind) (x c y : Num) → IsElement kind x → IsElement kind c → IsElement kind y → is_nought y ≡ true → fused kind x c y ≡ Ok x
 nothing_added Rational x c y is_x is_c is_y z = ap (and_then (λ m. operate Rational Add x m)) (product_nought c y is_c is_y z) ∙ sum_nought x is_x
 nothing_added (Prime p) x c y is_x is_c is_y z =
     ap Ok (ap residue (added_residue p (residue_of x) (residue_of c) (residue_of y) is_x.0.0 (zero_int_is y.numerator z)) ∙ sym is_x.0.1)
+
+pub nothing_multiplied : (kind : Kind) (c y : Num) → IsElement kind c → IsElement kind y → is_nought y ≡ true → operate kind Mul c y ≡ Ok y
+nothing_multiplied Rational c y is_c is_y z = product_nought c y is_c is_y z ∙ ap Ok (sym (nought_is Rational y is_y z))
+nothing_multiplied (Prime p) c y is_c is_y z = ap (λ n. Ok (residue n)) (multiplied_residue p (residue_of c) (residue_of y) (zero_int_is y.numerator z)) ∙ ap Ok (sym (nought_is (Prime p) y is_y z))

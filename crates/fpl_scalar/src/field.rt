@@ -116,7 +116,12 @@ pub trait Field: Copy + Drop {
         ensures row { map number row.new ≡ scaled (kind_of self.now) (number c) (map number row.old) }
     {
         for i in 0..row.len() {
-            match self.mul(c, row[i]) {
+            let x = row[i];
+            // a multiple of 0 is 0, and always fits
+            if self.is_zero(x) {
+                continue;
+            }
+            match self.mul(c, x) {
                 Ok(v) => row[i] = v,
                 Err(u) => return Err(u),
             }

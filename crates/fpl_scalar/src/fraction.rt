@@ -16,6 +16,16 @@ pub struct Fraction;
 fn times(a: i128, b: i128) -> Option<i128>
     ensures { result ≡ (if is_within (a *ℤ b) then Some (a *ℤ b) else None) }
 {
+    match (i64::try_from(a), i64::try_from(b)) {
+        // at most 2^126, so that no test is needed
+        (Ok(x), Ok(y)) => Some(i128::from(x) * i128::from(y)),
+        _ => wide_times(a, b),
+    }
+}
+
+fn wide_times(a: i128, b: i128) -> Option<i128>
+    ensures { result ≡ (if is_within (a *ℤ b) then Some (a *ℤ b) else None) }
+{
     match a.checked_mul(b) {
         Some(product) if product != i128::MIN => Some(product),
         _ => None,
@@ -45,12 +55,11 @@ fn multiple(a: i128, n: u128, d: u128) -> Option<i128>
 fn joined(n: u128, d: u128, m: u128, e: u128) -> Option<i128>
     requires left { 0 < d }
     requires right { 0 < e }
+    requires left_fits { n ≤ bound }
+    requires right_fits { m ≤ bound }
     ensures { result ≡ (if nat_le (n / d * (m / e)) bound then Some (pos (n / d * (m / e))) else None) }
 {
-    match over(n, d).checked_mul(over(m, e)) {
-        Some(product) if product <= i128::MAX as u128 => Some(product as i128),
-        _ => None,
-    }
+    multiple(over(n, d) as i128, m, e)
 }
 
 /// `n` divided by `d`, towards 0.
