@@ -1,15 +1,14 @@
 -- Loops over the numbers of a packed row.
-use Rattle.std.proofs.Common.{◌≡◌, ◌≢◌, ℕ, zero, suc, ◌+◌, ◌-◌, ◌<◌, ◌≤◌, true, List, [], ◌∷◌, ◌++◌, length, drop, replicate, map, get_or, refl, sym, ap, ap₂, ◌∙◌, subst, arith, add-one, drop_of_length-le}
+use Rattle.std.proofs.Common.{◌≡◌, ◌≢◌, ℕ, zero, suc, ◌+◌, ◌<◌, ◌≤◌, List, [], ◌∷◌, length, drop, replicate, map, get_or, refl, sym, ap, ◌∙◌, subst, arith, add-one, drop_of_length-le}
 use Rattle.std.proofs.Math.ListN.{set}
 use Rattle.std.proofs.lemmas.List.{length-map, map-set}
-use Rattle.std.specs.Prelude.{Result, Ok, Err}
+use Rattle.std.specs.Prelude.{Ok, Err}
 use native.Mathlib.Decide.{ℕ_discrete, dec_lt}
 use Rattle.fpl_numbers.specs.declared.number.Num.{Num}
 use Rattle.fpl_numbers.specs.declared.number.Kind.{Kind}
 use Rattle.fpl_numbers.specs.declared.number.Op.TheVariants.{Add, Mul}
 use Rattle.fpl_numbers.specs.declared.number.Unfit.{Unfit}
-use Rattle.fpl_numbers.specs.Numbers.{IsElement, operate, is_nought, residue}
-use Rattle.fpl_numbers.specs.Results.{map_ok, and_then}
+use Rattle.fpl_numbers.specs.Numbers.{IsElement, operate, residue}
 use Rattle.fpl_scalar.specs.Vectors.{AreElements, fused, axpy_of}
 use Rattle.fpl_scalar.proofs.Noughts.{nothing_added}
 use Rattle.fpl_rows.specs.Packing.{spread, IsPacking}

@@ -37,10 +37,10 @@ impl<F: Field> Form<F> {
     {
         match self {
             Form::Dense(numbers) => {
-                let count = places::count_filled(field, &numbers);
-                if count > most_packed(field.kind(), numbers.len()) {
+                let most = most_packed(field.kind(), numbers.len());
+                let Some(count) = places::count_filled(field, &numbers, most) else {
                     return Form::Dense(numbers);
-                }
+                };
                 match Packed::of(alloc, field, count, &numbers) {
                     Ok(packed) => Form::Sparse(packed),
                     Err(_) => Form::Dense(numbers),

@@ -70,13 +70,11 @@ fn find_filled<F: Field>(
 {
     let mut places = Vec::with_capacity(alloc, count)?;
     let mut numbers = Vec::with_capacity(alloc, count)?;
-    for i in 0..row.len() {
-        let number = row[i];
-        if field.is_zero(number) {
-            continue;
-        }
-        places.push(i as u32)?;
-        numbers.push(number)?;
+    let mut after = 0;
+    while let Some(s) = places::next(field, row, after) {
+        places.push((s - 1) as u32)?;
+        numbers.push(row[s - 1])?;
+        after = s;
     }
     Ok(Filled { places, numbers })
 }
@@ -138,7 +136,7 @@ pub fn zeros<F: Field>(alloc: Global, field: &F, size: u32) -> Result<Vec<F::Ele
 }
 
 impl<F: Field> Packed<F> {
-    /// The numbers of a row, of which about `count` are not 0.
+    /// The numbers of a row, of which `count` are not 0.
     pub fn of(
         alloc: Global,
         field: &F,

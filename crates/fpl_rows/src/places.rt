@@ -1,8 +1,9 @@
-ghost use Rattle.std.specs.Prelude.{◌≡◌, ◌≤◌, ◌<◌, ◌+◌, ◌-◌, length, map, IfSome};
+ghost use Rattle.std.specs.Prelude.{◌≡◌, ◌≤◌, ◌<◌, ◌+◌, ◌-◌, length, map, nat_le, IfSome, if◌then◌else◌};
 ghost use Rattle.fpl_numbers.specs.Numbers.{IsElement};
 ghost use Rattle.fpl_numbers.specs.Results.{Answers};
 ghost use Rattle.fpl_scalar.specs.Vectors.{AreElements, axpy_of, scale_of};
 ghost use Rattle.fpl_rows.specs.Positions.{lead_below, next_of, added_at};
+ghost use Rattle.fpl_rows.specs.Packing.{filled_numbers};
 
 use fpl_scalar::{Field, Unfit};
 
@@ -22,17 +23,6 @@ pub fn lead_within<F: Field>(field: &F, row: &[F::Elem], most: usize) -> Option<
     None
 }
 
-/// How many numbers are not 0.
-pub fn count_filled<F: Field>(field: &F, row: &[F::Elem]) -> usize {
-    let mut count = 0;
-    for i in 0..row.len() {
-        if !field.is_zero(row[i]) {
-            count += 1;
-        }
-    }
-    count
-}
-
 /// The least position above `after` whose number is not 0, counted from 1.
 pub fn next<F: Field>(field: &F, row: &[F::Elem], after: usize) -> Option<usize>
     ensures value { result ≡ next_of (map F.number row.now) after }
@@ -45,6 +35,22 @@ pub fn next<F: Field>(field: &F, row: &[F::Elem], after: usize) -> Option<usize>
         Some(place) => Some(after + place + 1),
         None => None,
     }
+}
+
+/// How many numbers are not 0, where these are at most `most`.
+pub fn count_filled<F: Field>(field: &F, row: &[F::Elem], most: usize) -> Option<usize>
+    ensures { result ≡ (if nat_le (length (filled_numbers (map F.number row.now))) most then Some (length (filled_numbers (map F.number row.now))) else None) }
+{
+    let mut count = 0;
+    let mut after = 0;
+    while let Some(s) = next(field, row, after) {
+        if count == most {
+            return None;
+        }
+        count += 1;
+        after = s;
+    }
+    Some(count)
 }
 
 /// Adds `c` at a place.
