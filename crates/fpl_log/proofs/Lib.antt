@@ -2,3 +2,4 @@ pub mod Unfoldings
 pub mod TermsTaken
 pub mod StepsLeftOut
 pub mod SlimLoops
+mod AllStay

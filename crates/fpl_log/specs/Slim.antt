@@ -2,6 +2,7 @@
 -- Steps count from 1. The new numbers of the steps before are handed on as a list: Some number where the step stays, None where it is left out.
 --
 --   is_left_out step                an Insert step whose scale is 0
+--   all_stay steps                  none of the steps is left out
 --   new_number numbers i            the new number of step i, if it stays
 --   next_number, next_count         the new number of the next step, and how many steps stay then
 --   slim_terms numbers terms        the terms that cite steps that stay, by their new numbers
@@ -12,7 +13,7 @@
 --   AreInOrder numbers count steps  each of the steps does
 --   NamesEarlier count step         each step that it names is one of the count steps before
 --   AllNameEarlier count steps      each of the steps does, where count steps stand before them
-use Rattle.std.specs.Prelude.{◌≢◌, ℕ, ◌+◌, ◌-◌, ◌≤◌, List, [], ◌∷◌, ◌++◌, length, Option, Some, None, Bool, true, false, unwrap_or, slice_index_or, All}
+use Rattle.std.specs.Prelude.{◌≢◌, ℕ, ◌+◌, ◌-◌, ◌≤◌, List, [], ◌∷◌, ◌++◌, length, Option, Some, None, Bool, true, false, not, ◌&&◌, unwrap_or, slice_index_or, All}
 use Rattle.fpl_numbers.specs.Numbers.{is_nought}
 use Rattle.fpl_log.specs.declared.terms.Term.{Term}
 use Rattle.fpl_log.specs.declared.step.Step.{Step}
@@ -21,6 +22,10 @@ use Rattle.fpl_log.specs.declared.step.Step.TheVariants.{Insert, Close}
 abbrev pub is_left_out : Step → Bool
 is_left_out (Insert origin terms scale) = is_nought scale
 is_left_out (Close of terms) = false
+
+abbrev pub all_stay : List Step → Bool
+all_stay [] = true
+all_stay (s ∷ ss) = not (is_left_out s) && all_stay ss
 
 abbrev pub new_number : List (Option ℕ) → ℕ → Option ℕ
 new_number numbers i = slice_index_or numbers (i - 1) None

@@ -36,6 +36,15 @@ impl ClosedRow {
         }
     }
 
+    /// No coefficients, with room for `count` of them.
+    pub fn with_capacity(alloc: Global, count: usize) -> Result<Self, AllocError>
+        ensures { IfOk result (λ l. l ≡ []) }
+    {
+        Ok(ClosedRow {
+            items: Vec::with_capacity(alloc, count)?,
+        })
+    }
+
     pub fn len(&self) -> usize
         ensures value { result ≡ length self.now }
         ensures range { length self.now < 2 ^ 63 }

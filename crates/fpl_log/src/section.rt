@@ -35,7 +35,7 @@ impl Section {
         requires { AllNameEarlier 0 self.steps }
         ensures { IfOk result (λ s. s ≡ record self { origins = Some origins; steps = slim_steps [] 0 self.steps }) }
     {
-        let steps = slim_of(alloc, &self.steps)?;
+        let steps = slim_of(alloc, self.steps)?;
         Ok(Section {
             weight: self.weight,
             origins: Some(origins),

@@ -1,8 +1,35 @@
 ghost use Rattle.std.specs.Prelude.{◌≡◌, ◌≢◌, ◌≤◌, ◌<◌, ◌^◌, ◌+◌, ◌++◌, ◌∷◌, [], length, All, IfOk, OnOk, None};
-ghost use Rattle.fpl_log.specs.Slim.{IsEarlier, NamesEarlier, AllNameEarlier, new_number, slim_term, slim_terms, slim_steps, is_left_out, next_number, slim_step, kept_if};
+ghost use Rattle.fpl_log.specs.Slim.{IsEarlier, NamesEarlier, AllNameEarlier, new_number, slim_term, slim_terms, slim_steps, is_left_out, next_number, slim_step, kept_if, all_stay};
 
 use crate::{Step, StepList, Term, Terms};
 use std::alloc::{AllocError, Global};
+
+/// Whether a step is an Insert step whose scale is 0.
+fn is_left_out(step: &Step) -> bool
+    ensures { result ≡ is_left_out step.now }
+{
+    match step {
+        Step::Insert { scale, .. } => scale.numerator == 0,
+        Step::Close { .. } => false,
+    }
+}
+
+/// Whether all steps stay.
+fn all_stay(steps: &StepList) -> bool
+    ensures { result ≡ all_stay steps.now }
+{
+    for i in 0..steps.len() {
+        match steps.get(i) {
+            None => {}
+            Some(step) => {
+                if is_left_out(step) {
+                    return false;
+                }
+            }
+        }
+    }
+    true
+}
 
 /// The new number of a step, if it stays.
 fn number_of(numbers: &[Option<u64>], step: u64) -> Option<u64>
@@ -79,8 +106,8 @@ fn place(
     Ok(())
 }
 
-/// The steps that stay.
-pub fn slim_of(alloc: Global, steps: &StepList) -> Result<StepList, AllocError>
+/// The steps that stay, by their new numbers.
+fn renumbered(alloc: Global, steps: &StepList) -> Result<StepList, AllocError>
     requires { AllNameEarlier 0 steps.now }
     ensures { IfOk result (λ l. l ≡ slim_steps [] 0 steps.now) }
 {
@@ -93,4 +120,15 @@ pub fn slim_of(alloc: Global, steps: &StepList) -> Result<StepList, AllocError>
         }
     }
     Ok(kept)
+}
+
+/// The steps that stay. Where all do, nothing is copied.
+pub fn slim_of(alloc: Global, steps: StepList) -> Result<StepList, AllocError>
+    requires { AllNameEarlier 0 steps }
+    ensures { IfOk result (λ l. l ≡ slim_steps [] 0 steps) }
+{
+    if all_stay(&steps) {
+        return Ok(steps);
+    }
+    renumbered(alloc, &steps)
 }
