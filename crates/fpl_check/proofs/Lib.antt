@@ -4,6 +4,7 @@ pub mod ListedOrigins
 mod Marks
 mod Filled
 pub mod StoredRows
+mod SameRows
 mod Weighed
 mod Tested
 pub mod ClosedTests

@@ -1,9 +1,10 @@
 -- How each test of a list goes on past an element, and where it stops.
-use Rattle.std.specs.Prelude.{◌≡◌, ℕ, zero, suc, ◌+◌, ◌-◌, ◌<◌, ◌≤◌, ◌⊎◌, List, [], ◌∷◌, ◌++◌, length, drop, slice_get, slice_set, slice_index_or, Option, Some, None, Result, Ok, Err, Bool, true, false, not, ◌&&◌, ◌||◌, nat_lt, nat_le, nat_eq, IsTrue, ◌↔◌}
+use Rattle.std.specs.Prelude.{◌≡◌, ℕ, zero, suc, ◌+◌, ◌-◌, ◌<◌, ◌≤◌, ◌⊎◌, List, [], ◌∷◌, ◌++◌, length, drop, slice_get, slice_set, slice_index_or, Option, Some, None, Result, Ok, Err, Bool, true, false, not, ◌&&◌, ◌||◌, if◌then◌else◌, nat_lt, nat_le, nat_eq, IsTrue, ◌↔◌}
 use mathlib.Core.Path.{refl, sym, ap, ap₂, subst, ◌∙◌}
 use mathlib.Core.Logic.{inl, inr}
 use native.Mathlib.Omega.{arith}
 use Rattle.std.proofs.lemmas.Bool.Decides.{nat_tests, Decides-int_eq}
+use Rattle.std.proofs.lemmas.List.{drop_all}
 use Rattle.std.proofs.lemmas.Option.{slice_get-get_or}
 use Rattle.fpl_numbers.specs.declared.number.Num.{Num}
 use Rattle.fpl_numbers.specs.Numbers.{is_nought, residue, IsElement}
@@ -26,7 +27,7 @@ use Rattle.fpl_check.specs.declared.fault.CheckFault.TheVariants.{Bad, NoMemory}
 use Rattle.fpl_check.specs.declared.fault.CheckFault.TheVariants.{Unfit as Unfits}
 use Rattle.fpl_check.specs.Refusal.{Refusal, bad, unfit, passing, demand, IsRefusal}
 use Rattle.fpl_check.specs.Steps.{test_cites, is_close, conclusion_of_step, conclusions_from}
-use Rattle.fpl_check.specs.ClosedRows.{close_count, is_formed, test_forms, stored_in, close_rows, same_num, test_same, test_at, test_conclusions, test_lead_at, lead_or_none, test_leads, is_lead, test_crossing, test_apart}
+use Rattle.fpl_check.specs.ClosedRows.{close_count, is_formed, test_forms, close_rows, same_num, test_same, test_at, test_conclusions, test_lead_at, lead_or_none, test_leads, is_lead, test_crossing, test_apart}
 use Rattle.fpl_check.proofs.Composed.{passed, refused, first_refused, same_refusal, rest_at}
 
 -- citations
@@ -118,14 +119,8 @@ formed_cons n after c cs e =
     let d = both_true _ _ b.0 in
     (record { above = is_below after c.symbol d.0; within = is_most c.symbol n d.1; some = b.1 }, a.1)
 
-pub formed_place : (n after : ℕ) (row : List Coefficient) (k : ℕ) (c : Coefficient) → is_formed n after row ≡ true → Some c ≡ slice_get row k → (1 ≤ c.symbol) × (c.symbol ≤ n)
-formed_place n after [] k c f e = absurd (none_some (sym e))
-formed_place n after (x ∷ xs) zero c f e =
-    let r = (formed_cons n after x xs f).0 in
-    let a = r.above in
-    let b = r.within in
-    subst (λ y. (1 ≤ y.symbol) × (y.symbol ≤ n)) (sym (some_same e)) (omega arith, b)
-formed_place n after (x ∷ xs) (suc k) c f e = formed_place n x.symbol xs k c (formed_cons n after x xs f).1 e
+pub formed_again : (n after : ℕ) (c : Coefficient) (cs : List Coefficient) → after < c.symbol → c.symbol ≤ n → not (is_nought c.number) ≡ true → is_formed n c.symbol cs ≡ true → is_formed n after (c ∷ cs) ≡ true
+formed_again n after c cs above within some rest = rw (below_is after c.symbol above, most_is c.symbol n within, some, rest) refl
 
 -- forms of rows
 pub forms_next : (n i : ℕ) (rows : List (List Coefficient)) (j k : ℕ) (row : List Coefficient) → j ≡ suc k → Some row ≡ slice_get rows k → is_formed n 0 row ≡ true → test_forms n i (drop k rows) ≡ test_forms n (i + 1) (drop j rows)
@@ -135,10 +130,6 @@ forms_next n i rows j k row is e h =
 pub forms_stop : (n i : ℕ) (rows : List (List Coefficient)) (k : ℕ) (row : List Coefficient) → Some row ≡ slice_get rows k → is_formed n 0 row ≡ false → test_forms n i (drop k rows) ≡ Err (bad (AtClosed i) RowForm)
 forms_stop n i rows k row e h =
     ap (test_forms n i) (drop_next rows k row e) ∙ ap (λ b. passing (demand b (AtClosed i) RowForm) (test_forms n (i + 1) (drop (suc k) rows))) h
-
--- stored numbers
-pub stored_next : (numbers : List Num) (row : List Coefficient) (j k : ℕ) (c : Coefficient) → j ≡ suc k → Some c ≡ slice_get row k → stored_in numbers (drop k row) ≡ stored_in (slice_set numbers (c.symbol - 1) c.number) (drop j row)
-stored_next numbers row j k c is e = ap (stored_in numbers) (rest_at row j k c is e)
 
 drop_none : {X : Type 0} (k : ℕ) → ◌≡◌ {A = List X} (drop k []) []
 drop_none zero = refl
@@ -157,24 +148,21 @@ count_other ((Insert origin terms scale) ∷ ss) zero e = refl
 count_other ((Close of terms) ∷ ss) zero e = absurd (let k : ⊥ = cc in k)
 count_other (s ∷ ss) (suc k) e = count_other ss k e
 
-no_rows : (steps : List Step) → close_rows steps [] ≡ []
-no_rows [] = refl
-no_rows (s ∷ ss) = refl
+pub no_closes : (steps : List Step) → close_rows steps [] ≡ []
+no_closes [] = refl
+no_closes (s ∷ ss) = refl
 
-pub rows_other : (steps : List Step) (rows : List (List Num)) (k : ℕ) → is_close (slice_get steps k) ≡ false → close_rows (drop k steps) (drop k rows) ≡ close_rows (drop (suc k) steps) (drop (suc k) rows)
-rows_other [] rows k e = ap (λ (s : List Step). close_rows s (drop k rows)) (drop_none k) ∙ sym (ap (λ (s : List Step). close_rows s (drop (suc k) rows)) (drop_none (suc k)))
-rows_other (s ∷ ss) [] k e = ap (close_rows (drop k (s ∷ ss))) (drop_none k) ∙ no_rows (drop k (s ∷ ss)) ∙ sym (ap (close_rows (drop k ss)) (drop_none (suc k)) ∙ no_rows (drop k ss))
-rows_other ((Insert origin terms scale) ∷ ss) (row ∷ rows) zero e = refl
-rows_other ((Close of terms) ∷ ss) (row ∷ rows) zero e = absurd (let k : ⊥ = cc in k)
-rows_other (s ∷ ss) (row ∷ rows) (suc k) e = rows_other ss rows k e
-
-rows_here : (steps : List Step) (rows : List (List Num)) (k : ℕ) (row : List Num) → is_close (slice_get steps k) ≡ true → slice_get rows k ≡ Some row →
-    close_rows (drop k steps) (drop k rows) ≡ row ∷ close_rows (drop (suc k) steps) (drop (suc k) rows)
-rows_here [] rows k row e f = absurd (let k : ⊥ = cc in k)
-rows_here (s ∷ ss) [] k row e f = absurd (none_some f)
-rows_here ((Insert origin terms scale) ∷ ss) (r ∷ rows) zero row e f = absurd (let k : ⊥ = cc in k)
-rows_here ((Close of terms) ∷ ss) (r ∷ rows) zero row e f = ap (λ x. x ∷ close_rows ss rows) (some_same f)
-rows_here (s ∷ ss) (r ∷ rows) (suc k) row e f = rows_here ss rows k row e f
+pub closes_next : (steps : List Step) (rows : List (List Num)) (row : List Num) →
+    close_rows steps (rows ++ row ∷ []) ≡ (if is_close (slice_get steps (length rows)) then close_rows steps rows ++ row ∷ [] else close_rows steps rows)
+closes_next [] rows row = refl
+closes_next ((Insert origin terms scale) ∷ ss) [] row = no_closes ss
+closes_next ((Close of terms) ∷ ss) [] row = ap (λ rs. row ∷ rs) (no_closes ss)
+closes_next ((Insert origin terms scale) ∷ ss) (r ∷ rows) row = closes_next ss rows row
+closes_next ((Close of terms) ∷ ss) (r ∷ rows) row = ap (λ rs. r ∷ rs) (closes_next ss rows row) ∙ more (is_close (slice_get ss (length rows)))
+  where
+    more : (b : Bool) → ◌≡◌ {A = List (List Num)} (r ∷ (if b then close_rows ss rows ++ row ∷ [] else close_rows ss rows)) (if b then r ∷ (close_rows ss rows ++ row ∷ []) else r ∷ close_rows ss rows)
+    more true = refl
+    more false = refl
 
 gone : {X : Type 0} (xs : List X) (k : ℕ) → slice_get xs k ≡ None → (drop k xs ≡ []) × (drop (suc k) xs ≡ [])
 gone [] k e = (drop_none k, drop_none (suc k))
@@ -185,38 +173,37 @@ untested : (i : ℕ) (xs : List (List Num)) → test_conclusions i xs [] ≡ Ok 
 untested i [] = refl
 untested i (x ∷ xs) = refl
 
--- the closed row at place m, and the conclusion at place k of a Close step
-module _ (i m k : ℕ) (xs : List (List Num)) (steps : List Step) (rows : List (List Num)) (here : is_close (slice_get steps k) ≡ true) where
+-- closed rows and conclusions, at place k
+module _ (i k : ℕ) (xs rows : List (List Num)) where
   abbrev now : Result (Unit {0}) Refusal
-  now = test_conclusions i (drop m xs) (close_rows (drop k steps) (drop k rows))
+  now = test_conclusions i (drop k xs) (drop k rows)
 
   abbrev next : Result (Unit {0}) Refusal
-  next = test_conclusions (i + 1) (drop (suc m) xs) (close_rows (drop (suc k) steps) (drop (suc k) rows))
+  next = test_conclusions (i + 1) (drop (suc k) xs) (drop (suc k) rows)
 
-  both : (x row : List Num) → slice_get xs m ≡ Some x → slice_get rows k ≡ Some row → now ≡ passing (test_same i 1 x row) next
-  both x row e f = ap (λ l. test_conclusions i l (close_rows (drop k steps) (drop k rows))) (drop_next xs m x (sym e)) ∙ ap (test_conclusions i (x ∷ drop (suc m) xs)) (rows_here steps rows k row here f)
+  both : (x row : List Num) → slice_get xs k ≡ Some x → slice_get rows k ≡ Some row → now ≡ passing (test_same i 1 x row) next
+  both x row e f = ap₂ (test_conclusions i) (drop_next xs k x (sym e)) (drop_next rows k row (sym f))
 
-  at_next : (o q : Option (List Num)) → slice_get xs m ≡ o → slice_get rows k ≡ q → test_at i o q ≡ Ok tt → now ≡ next
+  at_next : (o q : Option (List Num)) → slice_get xs k ≡ o → slice_get rows k ≡ q → test_at i o q ≡ Ok tt → now ≡ next
   at_next None q e f h =
-      let a = gone xs m e in
-      ap (λ l. test_conclusions i l (close_rows (drop k steps) (drop k rows))) a.0 ∙ sym (ap (λ l. test_conclusions (i + 1) l (close_rows (drop (suc k) steps) (drop (suc k) rows))) a.1)
+      let a = gone xs k e in
+      ap (λ l. test_conclusions i l (drop k rows)) a.0 ∙ sym (ap (λ l. test_conclusions (i + 1) l (drop (suc k) rows)) a.1)
   at_next (Some x) None e f h =
       let a = gone rows k f in
-      ap (test_conclusions i (drop m xs)) (ap (close_rows (drop k steps)) a.0 ∙ no_rows (drop k steps)) ∙ untested i (drop m xs)
-      ∙ sym (ap (test_conclusions (i + 1) (drop (suc m) xs)) (ap (close_rows (drop (suc k) steps)) a.1 ∙ no_rows (drop (suc k) steps)) ∙ untested (i + 1) (drop (suc m) xs))
+      ap (test_conclusions i (drop k xs)) a.0 ∙ untested i (drop k xs) ∙ sym (ap (test_conclusions (i + 1) (drop (suc k) xs)) a.1 ∙ untested (i + 1) (drop (suc k) xs))
   at_next (Some x) (Some row) e f h = both x row e f ∙ passed (test_same i 1 x row) next h
 
-  pub conclusions_next : test_at i (slice_get xs m) (slice_get rows k) ≡ Ok tt → now ≡ next
-  conclusions_next h = at_next (slice_get xs m) (slice_get rows k) refl refl h
+  pub conclusions_next : test_at i (slice_get xs k) (slice_get rows k) ≡ Ok tt → now ≡ next
+  conclusions_next h = at_next (slice_get xs k) (slice_get rows k) refl refl h
 
-  at_stop : (r : Refusal) (o q : Option (List Num)) → slice_get xs m ≡ o → slice_get rows k ≡ q → test_at i o q ≡ Err r → now ≡ Err r
+  at_stop : (r : Refusal) (o q : Option (List Num)) → slice_get xs k ≡ o → slice_get rows k ≡ q → test_at i o q ≡ Err r → now ≡ Err r
   at_stop r None q e f h = absurd (let z : ⊥ = cc in z)
   at_stop r (Some x) None e f h = absurd (let z : ⊥ = cc in z)
   at_stop r (Some x) (Some row) e f h = both x row e f ∙ ap (λ t. passing t next) h
 
-  pub conclusions_stop : (fault : CheckFault) → IsRefusal fault (test_at i (slice_get xs m) (slice_get rows k)) → IsRefusal fault now
-  conclusions_stop (Bad spot why) h = at_stop (bad spot why) (slice_get xs m) (slice_get rows k) refl refl h
-  conclusions_stop (Unfits u) h = at_stop (unfit u) (slice_get xs m) (slice_get rows k) refl refl h
+  pub conclusions_stop : (fault : CheckFault) → IsRefusal fault (test_at i (slice_get xs k) (slice_get rows k)) → IsRefusal fault now
+  conclusions_stop (Bad spot why) h = at_stop (bad spot why) (slice_get xs k) (slice_get rows k) refl refl h
+  conclusions_stop (Unfits u) h = at_stop (unfit u) (slice_get xs k) (slice_get rows k) refl refl h
   conclusions_stop NoMemory h = tt
 
 -- two rows
@@ -379,12 +366,6 @@ module _ (i lead k : ℕ) (leads : ℕ → Bool) (xs : List Num) (l : k < length
       other_symbol : (s t : ℕ) → (s ≡ t → ⊥) → nat_eq s t ≡ false
       other_symbol s t e = grind (arith, nat_tests)
 
--- past the last step
-no_steps : (steps : List Step) (k : ℕ) → length steps ≤ k → drop k steps ≡ []
-no_steps [] zero l = refl
-no_steps [] (suc k) l = refl
-no_steps (s ∷ ss) zero l = absurd (omega (arith, l))
-no_steps (s ∷ ss) (suc k) l = no_steps ss k (omega (arith, l))
-
-pub conclusions_end : (i k : ℕ) (xs : List (List Num)) (steps : List Step) (rows : List (List Num)) → length steps ≤ k → test_conclusions i xs (close_rows (drop k steps) rows) ≡ Ok tt
-conclusions_end i k xs steps rows l = ap (λ s. test_conclusions i xs (close_rows s rows)) (no_steps steps k l) ∙ untested i xs
+-- past the last row
+pub conclusions_end : (i k : ℕ) (xs rows : List (List Num)) → length xs ≤ k → test_conclusions i (drop k xs) rows ≡ Ok tt
+conclusions_end i k xs rows l = ap (λ xs. test_conclusions i xs rows) (drop_all k xs l)

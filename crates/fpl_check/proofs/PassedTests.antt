@@ -251,6 +251,18 @@ each_origin T p rows (x ∷ os) e o c = at c.0 c.1 c.2 (passing_first (test_orig
     at zero l g t f = subst (λ y. test_origin T p rows y ≡ Ok tt) g t.0
     at (suc i) l g t f = f t.1 (i, omega (arith, l), g)
 
+module _ (T : PlainTable) (is_field : IsField T.kind) (s : Section) (section : IsSectionFor T s) where
+  -- the closed rows are the conclusions of the Close steps
+  pub stored_same : (rows conclusions : List (List Num)) → rows_stored T s ≡ rows → test_closes s ≡ Ok tt → test_conclusions 1 rows (close_rows s.steps conclusions) ≡ Ok tt →
+      AreRows T.kind (length (symbols_in T)) conclusions → length conclusions ≡ length s.steps → rows ≡ close_rows s.steps conclusions
+  stored_same rows conclusions stored counted same are whole =
+      let closes = close_among (IsRowOf T.kind (length (symbols_in T))) s.steps conclusions are in
+      let count : close_count s.steps ≡ length s.closed = same_count _ _ (demanded _ _ _ counted) in
+      let many : length rows ≡ length (close_rows s.steps conclusions) =
+      ap length (sym stored) ∙ length-map s.closed (stored_row (length (symbols_in T))) ∙ sym count ∙ sym (close_length s.steps conclusions whole) in
+      all_same T.kind (length (symbols_in T)) 1 rows (close_rows s.steps conclusions)
+      (subst (AreRows T.kind (length (symbols_in T))) stored (stored_rows T.kind is_field (length (symbols_in T)) s.closed section.numbers.closed)) closes many same
+
 module _ (T : PlainTable) (is_field : IsField T.kind) (p : Presentation) (s : Section) (section : IsSectionFor T s) where
   -- the parts of a check that passes
   pub record Passes (rows : List (List Num)) : Type 0 where
@@ -292,19 +304,8 @@ module _ (T : PlainTable) (is_field : IsField T.kind) (p : Presentation) (s : Se
   pub passed_closed : (rows : List (List Num)) → Passes rows → IsClosedList T.kind (length (symbols_in T)) rows
   passed_closed rows k = are_closed T.kind is_field (length (symbols_in T)) rows (passed_rows rows k) k.leads k.apart
 
-  -- the closed rows are the conclusions of the Close steps
-  pub stored_same : (rows conclusions : List (List Num)) → rows_stored T s ≡ rows → test_closes s ≡ Ok tt → test_conclusions 1 rows (close_rows s.steps conclusions) ≡ Ok tt →
-      AreRows T.kind (length (symbols_in T)) conclusions → length conclusions ≡ length s.steps → rows ≡ close_rows s.steps conclusions
-  stored_same rows conclusions stored counted same are whole =
-      let closes = close_among (IsRowOf T.kind (length (symbols_in T))) s.steps conclusions are in
-      let count : close_count s.steps ≡ length s.closed = same_count _ _ (demanded _ _ _ counted) in
-      let many : length rows ≡ length (close_rows s.steps conclusions) =
-      ap length (sym stored) ∙ length-map s.closed (stored_row (length (symbols_in T))) ∙ sym count ∙ sym (close_length s.steps conclusions whole) in
-      all_same T.kind (length (symbols_in T)) 1 rows (close_rows s.steps conclusions)
-      (subst (AreRows T.kind (length (symbols_in T))) stored (stored_rows T.kind is_field (length (symbols_in T)) s.closed section.numbers.closed)) closes many same
-
   pub passed_same : (rows : List (List Num)) (k : Passes rows) → AreRows T.kind (length (symbols_in T)) k.conclusions → length k.conclusions ≡ length s.steps → rows ≡ close_rows s.steps k.conclusions
-  passed_same rows k are whole = stored_same rows k.conclusions k.are k.closes k.same are whole
+  passed_same rows k are whole = stored_same T is_field s section rows k.conclusions k.are k.closes k.same are whole
 
   module _ (vector : Origin → Vector (field_of T.kind)) (stand : RowsStand T is_field p vector) where
     -- the closed rows are conclusions, so they are in the span of the origins' vectors

@@ -176,7 +176,7 @@ module _ (T : PlainTable) (p : Presentation) (s : Section) (rows : List (List Nu
       let f = passing_first (test_closes s) _ tt tested.tested in
       let g = passing_first (test_forms (length (symbols_in T)) 1 s.closed) _ tt f.1 in
       let h = passing_first (test_conclusions 1 (rows_stored T s) (close_rows s.steps tested.conclusions)) _ tt g.1 in
-      stored_same T listed p s section rows tested.conclusions tested.rows_are f.0 (subst (λ (r : List (List Num)). test_conclusions 1 r (close_rows s.steps tested.conclusions) ≡ Ok tt) tested.rows_are h.0) are whole
+      stored_same T listed s section rows tested.conclusions tested.rows_are f.0 (subst (λ (r : List (List Num)). test_conclusions 1 r (close_rows s.steps tested.conclusions) ≡ Ok tt) tested.rows_are h.0) are whole
 
   place : (m : ℕ) (st : Step) → slice_get s.steps m ≡ Some st → Placed T p s.steps tested.conclusions m st
   place m st e =

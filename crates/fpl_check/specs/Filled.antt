@@ -1,9 +1,22 @@
 -- Positions at which rows are not 0.
 --
 --   least_of first second    the lesser of two positions, where there are two
-use Rattle.std.specs.Prelude.{ℕ, Option, Some, None, min}
+--   symbol_of next           the symbol of a coefficient, where there is one
+--   number_if s next         its number, if its symbol is s; else 0
+use Rattle.std.specs.Prelude.{ℕ, Option, Some, None, min, nat_eq, if◌then◌else◌}
+use Rattle.fpl_numbers.specs.declared.number.Num.{Num}
+use Rattle.fpl_numbers.specs.Numbers.{residue}
+use Rattle.fpl_log.specs.declared.closed.Coefficient.{Coefficient}
 
 abbrev pub least_of : Option ℕ → Option ℕ → Option ℕ
 least_of None other = other
 least_of (Some s) None = Some s
 least_of (Some s) (Some t) = Some (min s t)
+
+abbrev pub symbol_of : Option Coefficient → Option ℕ
+symbol_of None = None
+symbol_of (Some c) = Some c.symbol
+
+abbrev pub number_if : ℕ → Option Coefficient → Num
+number_if s None = residue 0
+number_if s (Some c) = if nat_eq c.symbol s then c.number else residue 0

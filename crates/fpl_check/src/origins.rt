@@ -1,4 +1,4 @@
-ghost use Rattle.std.specs.Prelude.{◌≡◌, true, length, IfOk, IfSome, Contains};
+ghost use Rattle.std.specs.Prelude.{◌≡◌, ◌≤◌, ◌-◌, ◌^◌, true, length, IfOk, IfSome, IfNone, Contains};
 ghost use Rattle.fpl_numbers.specs.Results.{GivesBy, and_then};
 ghost use Rattle.fpl_rows.specs.Meaning.{IsClosedList, IsRowOf};
 ghost use Rattle.fpl_elimination.specs.Plain.{sweep_rows};
@@ -30,7 +30,8 @@ use std::alloc::{AllocError, Global};
 pub fn count_origins<F: Field>(table: &Table<F>, p: &Presentation) -> Option<u64>
     requires sound { IsSound p.now }
     requires agrees { Agrees table.now p.now }
-    ensures { IfSome result (λ found. found ≡ length (origins_of table.now p.now)) }
+    ensures some { IfSome result (λ found. found ≡ length (origins_of table.now p.now)) }
+    ensures none { IfNone result (2 ^ 64 - 1 ≤ length (origins_of table.now p.now)) }
 {
     let mut origins = Origins::start(table, p, table.weight() + 1);
     for found in 0..u64::MAX {

@@ -212,6 +212,7 @@ pub fn conclude_all<F: Field>(
     requires numbers { All (HasNumbersOf table.now.kind) steps.now }
     ensures value { GivesCheck (λ rows. rows) result (conclusions_from table.now p.now steps.now [] steps.now) }
     ensures rows { IfOk result (λ rows. AreRows table.now.kind (length (symbols_in table.now)) rows) }
+    ensures whole { IfOk result (λ rows. length rows ≡ length steps.now) }
 {
     let mut earlier = Rows::new(alloc);
     for i in 0..steps.len() {

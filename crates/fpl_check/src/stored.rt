@@ -1,17 +1,15 @@
-ghost use Rattle.std.specs.Prelude.{◌≡◌, ◌+◌, ◌<◌, ◌^◌, true, length, map, replicate, All, IfOk, vec_len};
-ghost use Rattle.fpl_numbers.specs.Numbers.{IsElement, residue};
-ghost use Rattle.fpl_scalar.specs.Vectors.{AreElements};
-ghost use Rattle.fpl_rows.specs.Meaning.{AreRows, IsRowOf};
+ghost use Rattle.std.specs.Prelude.{◌≡◌, ◌+◌, ◌<◌, ◌^◌, true, length, slice_get};
+ghost use Rattle.fpl_rows.specs.Meaning.{IsRowOf};
 ghost use Rattle.fpl_check.specs.Refusal.{GivesCheck};
 ghost use Rattle.fpl_check.specs.Premises.{AreCoefficientsOf};
-ghost use Rattle.fpl_check.specs.ClosedRows.{is_formed, test_forms, stored_in, stored_row};
+ghost use Rattle.fpl_check.specs.ClosedRows.{is_formed, test_forms, stored_row, test_same};
+ghost use Rattle.fpl_check.specs.Filled.{least_of, symbol_of, number_if};
 
 use crate::remainder::is_zero;
 use crate::{CheckFault, Spot, Why};
 use fpl_log::{ClosedList, ClosedRow};
-use fpl_rows::{Row, Rows};
+use fpl_rows::Row;
 use fpl_scalar::Field;
-use std::alloc::{AllocError, Global};
 
 /// Whether the symbols of coefficients ascend up to at most `n`, and no number is 0.
 fn is_formed(n: u32, row: &ClosedRow) -> bool
@@ -53,64 +51,76 @@ pub fn test_forms(n: u32, rows: &ClosedList) -> Result<(), CheckFault>
     Ok(())
 }
 
-/// The number 0 at each of `n` places.
-fn zeros<F: Field>(alloc: Global, field: &F, n: u32) -> Result<Vec<F::Elem>, AllocError>
-    ensures { IfOk result (λ numbers. map F.number numbers.items ≡ replicate n (residue 0)) }
+/// The symbol of coefficient `i`, counted from 0.
+fn symbol_at(row: &ClosedRow, i: usize) -> Option<u32>
+    ensures { result ≡ symbol_of (slice_get row.now i) }
 {
-    let mut numbers = Vec::with_capacity(alloc, n as usize)?;
-    numbers.resize(n as usize, field.zero())?;
-    Ok(numbers)
-}
-
-/// Writes the numbers of coefficients at their symbols.
-fn store<F: Field>(field: &F, row: &ClosedRow, numbers: &mut Vec<F::Elem>)
-    requires formed { is_formed (vec_len numbers.old) 0 row.now ≡ true }
-    requires coefficients { AreCoefficientsOf (F.kind_of field.now) row.now }
-    ensures { map F.number numbers.new.items ≡ stored_in (map F.number numbers.old.items) row.now }
-{
-    for i in 0..row.len() {
-        match row.get(i) {
-            None => {}
-            Some(c) => numbers[c.symbol as usize - 1] = field.of(&c.number),
-        }
+    match row.get(i) {
+        None => None,
+        Some(c) => Some(c.symbol),
     }
 }
 
-/// The row over `n` symbols that coefficients tell.
-pub fn stored_row<F: Field>(
-    alloc: Global,
-    field: &F,
-    n: u32,
-    row: &ClosedRow,
-) -> Result<Row<F>, AllocError>
-    requires formed { is_formed n 0 row.now ≡ true }
-    requires coefficients { AreCoefficientsOf (F.kind_of field.now) row.now }
-    ensures value { IfOk result (λ r. r ≡ stored_row n row.now) }
-    ensures row { IfOk result (λ r. IsRowOf (F.kind_of field.now) n r) }
+/// The number of coefficient `i`, counted from 0, if it is that of symbol `s`; else 0.
+fn number_at<F: Field>(field: &F, row: &ClosedRow, i: usize, s: u32) -> F::Elem
+    requires { AreCoefficientsOf (F.kind_of field.now) row.now }
+    ensures { F.number result ≡ number_if s (slice_get row.now i) }
 {
-    let mut numbers = zeros(alloc, field, n)?;
-    store(field, row, &mut numbers);
-    Ok(Row::from_vec(field, numbers))
+    match row.get(i) {
+        Some(c) if c.symbol == s => field.of(&c.number),
+        _ => field.zero(),
+    }
 }
 
-/// The rows over `n` symbols that closed rows tell.
-pub fn rows_stored<F: Field>(
-    alloc: Global,
+/// The lesser of two symbols.
+fn least(first: Option<u32>, second: Option<u32>) -> Option<u32>
+    ensures { result ≡ least_of first second }
+{
+    match (first, second) {
+        (Some(s), Some(t)) => { if s <= t { Some(s) } else { Some(t) } }
+        (Some(s), None) => Some(s),
+        (None, other) => other,
+    }
+}
+
+/// Tests that closed row `k` is a conclusion.
+pub fn test_same<F: Field>(
     field: &F,
     n: u32,
-    closed: &ClosedList,
-) -> Result<Rows<F>, AllocError>
-    requires formed { All (λ row. is_formed n 0 row ≡ true) closed.now }
-    requires coefficients { All (AreCoefficientsOf (F.kind_of field.now)) closed.now }
-    ensures value { IfOk result (λ rows. rows ≡ map (stored_row n) closed.now) }
-    ensures rows { IfOk result (λ rows. AreRows (F.kind_of field.now) n rows) }
+    k: u32,
+    stored: &ClosedRow,
+    concluded: &Row<F>,
+) -> Result<(), CheckFault>
+    requires formed { is_formed n 0 stored.now ≡ true }
+    requires coefficients { AreCoefficientsOf (F.kind_of field.now) stored.now }
+    requires concluded { IsRowOf (F.kind_of field.now) n concluded.now }
+    ensures { GivesCheck (λ done. done) result (test_same k 1 (stored_row n stored.now) concluded.now) }
 {
-    let mut rows = Rows::new(alloc);
-    for k in 0..closed.len() {
-        match closed.get(k) {
-            None => {}
-            Some(row) => rows.push(stored_row(alloc, field, n, row)?.pack(alloc, field))?,
+    let mut i = 0;
+    let mut after = 0;
+    'symbols: loop {
+        let next = symbol_at(stored, i);
+        // where both are 0 they are the same
+        match least(next, concluded.next(after)) {
+            None => return Ok(()),
+            Some(s) => {
+                let left = number_at(field, stored, i, s);
+                let right = concluded.at(s);
+                if !field.same(left, right) {
+                    return Err(CheckFault::Bad {
+                        spot: Spot::Closed(k),
+                        why: Why::Differs {
+                            symbol: s,
+                            stored: field.num(left),
+                            concluded: field.num(right),
+                        },
+                    });
+                }
+                if next == Some(s) {
+                    i += 1;
+                }
+                after = s;
+            }
         }
     }
-    Ok(rows)
 }

@@ -1,9 +1,7 @@
-use Rattle.std.proofs.Common.{◌≡◌, ◌≤◌, ◌+◌, drop}
-use Rattle.fpl_check.specs.ClosedRows.{close_rows, test_conclusions}
+use Rattle.std.proofs.Common.{◌≡◌, ◌+◌, drop, map}
+use Rattle.fpl_check.specs.ClosedRows.{stored_row, test_conclusions}
 use Rattle.fpl_check.proofs.closed.test_conclusions.Given as goal
 
-abbrev pub invariant-loop-i : goal.invariant-loop-i
-invariant-loop-i g l = record {
-  at_most : l.k ≤ l.i;
-  done : test_conclusions 1 l.rows (close_rows l.steps l.conclusions) ≡ test_conclusions (l.k + 1) (drop l.k l.rows) (close_rows (drop l.i l.steps) (drop l.i l.conclusions));
-}
+abbrev pub invariant-loop-k : goal.invariant-loop-k
+invariant-loop-k g l =
+    test_conclusions 1 (map (stored_row l.n) l.closed) l.conclusions ≡ test_conclusions (l.k + 1) (drop l.k (map (stored_row l.n) l.closed)) (drop l.k l.conclusions)

@@ -1,4 +1,4 @@
-use Rattle.std.proofs.Common.{◌≡◌, drop, length, []}
+use Rattle.std.proofs.Common.{◌≡◌, ◌≤◌, drop, length, []}
 use Rattle.fpl_rows.specs.Meaning.{AreRows}
 use Rattle.fpl_table.specs.Plain.{symbols_in}
 use Rattle.fpl_check.specs.Steps.{conclusions_from}
@@ -7,5 +7,7 @@ use Rattle.fpl_check.proofs.steps.conclude_all.Given as goal
 abbrev pub invariant-loop-i : goal.invariant-loop-i
 invariant-loop-i g l = record {
   rows : AreRows l.table.kind (length (symbols_in l.table)) l.earlier;
+  most : l.i ≤ length l.steps;
+  whole : length l.earlier ≡ l.i;
   done : conclusions_from l.table l.p l.steps [] l.steps ≡ conclusions_from l.table l.p l.steps l.earlier (drop l.i l.steps);
 }
