@@ -23,7 +23,7 @@ pub enum Form<F: Field> {
 /// loops over residues take several places at once.
 fn most_packed(kind: Kind, length: usize) -> usize {
     match kind {
-        Kind::Prime(_) => length / 32,
+        Kind::Prime(_) => length / 8,
         Kind::Rational => length / 2,
     }
 }

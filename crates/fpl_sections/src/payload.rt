@@ -61,7 +61,7 @@ impl Payload {
 
 /// The section of weight `w` whose payload is the bytes from place `from` up to, and without,
 /// place `to`, in version 1 or 2. `Bad` names the first field, in the order of reading, that is
-/// refused, and the first reason. A count reserves nothing.
+/// refused, and the first reason. A count reserves no more than the bytes that are left can hold.
 pub fn read_section(
     alloc: Global,
     version: u8,

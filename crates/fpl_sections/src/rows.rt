@@ -16,6 +16,7 @@ impl Payload {
         Ok((Coefficient { symbol, number }, rest))
     }
 
+    // There is room for what the bytes that are left can hold, and no more.
     fn row_of(
         self,
         alloc: Global,
@@ -24,7 +25,8 @@ impl Payload {
     ) -> Result<(ClosedRow, &[u8]), ScanError>
         ensures { Gives (λ x. (x.0, x.1.now)) result (items_at (coefficient_at self.version self.kind self.end) count bytes.now) }
     {
-        let mut row = ClosedRow::new(alloc);
+        let room = (count as usize).min(bytes.len() / 8);
+        let mut row = ClosedRow::with_capacity(alloc, room)?;
         let mut rest = bytes;
         for _ in 0..count {
             let (coefficient, after) = self.coefficient(rest)?;

@@ -43,11 +43,12 @@ impl Payload {
         Ok((Term { step, factor }, rest))
     }
 
-    // One by one: a count reserves nothing.
+    // There is room for what the bytes that are left can hold, and no more.
     fn terms_of(self, alloc: Global, count: u32, bytes: &[u8]) -> Result<(Terms, &[u8]), ScanError>
         ensures { Gives (λ x. (x.0, x.1.now)) result (items_at (term_at self.version self.kind self.end) count bytes.now) }
     {
-        let mut terms = Terms::new(alloc);
+        let room = (count as usize).min(bytes.len() / 12);
+        let mut terms = Terms::with_capacity(alloc, room)?;
         let mut rest = bytes;
         for _ in 0..count {
             let (term, after) = self.term(rest)?;

@@ -7,7 +7,7 @@ use Rattle.fpl_sections.proofs.terms.Payload.terms_of.Goals as goal
 pub returns-in_err-term : goal.returns-in_err-term
 returns-in_err-term c =
     let item = term_at c.args.self.version c.args.self.kind c.args.self.end in
-    let p = err_from_is_err_and c.from_residual.result c.from_residual.ensures.1 in
+    let p = err_from_is_err_and c.from_residual-in_err-term.result c.from_residual-in_err-term.ensures.1 in
     rw (p.1, p.2) (ends item c.in_err-term.field-0.0 c.loop.terms c.args.count c.loop.counter c.loop.rest.now (items_at item c.args.count c.args.bytes.now) c.loop-test.true c.in_err-term.ensures c.loop.invariant)
 
 pub loop-preserved : goal.loop-preserved
