@@ -1,4 +1,4 @@
-ghost use Rattle.std.specs.Prelude.{◌≡◌, ◌<◌, ◌≤◌, ◌/◌, ◌%◌, ◌^◌, length};
+ghost use Rattle.std.specs.Prelude.{◌≡◌, ◌<◌, ◌≤◌, ◌*◌, ◌/◌, ◌%◌, ◌^◌, ◌↔◌, length, All, IfSome, IsTrue};
 ghost use Rattle.fpl_lanes.specs.Lanes.{AllBelow, added, multiplied, first_of};
 
 /// Adds `c` times `other` to `row` modulo `p`: each place becomes the remainder of
@@ -34,30 +34,66 @@ pub fn scale(p: u32, row: &mut [u32], c: u32)
     }
 }
 
-/// 2^32 divided by `p`, rounded down.
-fn share_of(p: u32) -> u32
+/// 2^32 divided by `p`, rounded down, for `p` from 3 on: what `remainder` multiplies by.
+pub fn share_of(p: u32) -> u32
     requires { 3 ≤ p }
     ensures { result ≡ 2 ^ 32 / p }
 {
     ((1u64 << 32) / u64::from(p)) as u32
 }
 
-/// The remainder of `x` modulo `p`, without a division: `x` times the share of `p` in 2^32 gives
-/// the quotient, or one less.
-fn remainder(p: u32, share: u32, x: u32) -> u32
+/// The remainder of any `x` modulo `p`, without a division: `x` times the share of `p` in 2^32
+/// gives the quotient, or one less. The modulus is from 3 to 65521, and `share` is `share_of(p)`.
+pub fn remainder(p: u32, share: u32, x: u32) -> u32
     requires least { 3 ≤ p }
     requires most { p ≤ 65521 }
     requires share { share ≡ 2 ^ 32 / p }
     ensures { result ≡ x % p }
 {
     let quotient = (u64::from(x) * u64::from(share)) >> 32;
-    let rest = x - quotient as u32 * p;
-    if rest >= p { rest - p } else { rest }
+    less_once(p, x - quotient as u32 * p)
+}
+
+/// The remainder modulo `p` of an `x` below twice `p`. The modulus is from 3 to 65521.
+pub fn less_once(p: u32, x: u32) -> u32
+    requires least { 3 ≤ p }
+    requires most { p ≤ 65521 }
+    requires below { x < 2 * p }
+    ensures { result ≡ x % p }
+{
+    // below p the difference wraps round, past x: so there is no branch to guess
+    x.min(x.wrapping_sub(p))
 }
 
 /// The least place, from 0, that is not 0; `None` exactly where there is none.
 pub fn first_nonzero(row: &[u32]) -> Option<usize>
     ensures { result ≡ first_of row.now }
+{
+    let mut from = 0;
+    while row.len() - from >= 16 && is_blank(&row[from..from + 16]) {
+        from += 16;
+    }
+    match first_in_turn(&row[from..]) {
+        Some(place) => Some(from + place),
+        None => None,
+    }
+}
+
+/// Whether each place is 0. There is no early exit, so that several places are tested at once.
+fn is_blank(block: &[u32]) -> bool
+    ensures { IsTrue result ↔ All (λ x. x ≡ 0) block.now }
+{
+    let mut bits = 0;
+    for x in block {
+        bits |= *x;
+    }
+    bits == 0
+}
+
+/// As `first_nonzero`, place by place.
+fn first_in_turn(row: &[u32]) -> Option<usize>
+    ensures value { result ≡ first_of row.now }
+    ensures within { IfSome result (λ k. k < length row.now) }
 {
     for (i, x) in row.iter().enumerate() {
         if *x != 0 {

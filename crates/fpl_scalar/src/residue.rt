@@ -1,19 +1,23 @@
-ghost use Rattle.std.specs.Prelude.{◌≡◌, ◌≤◌, ◌<◌, ◌+◌, true, IsTrue, IsSome, IfSome, ◌↔◌};
+ghost use Rattle.std.specs.Prelude.{◌≡◌, ◌≤◌, ◌<◌, ◌+◌, ◌/◌, ◌^◌, true, IsTrue, IsSome, IfSome, ◌↔◌};
 ghost use Rattle.fpl_numbers.specs.declared.number.Kind.TheVariants.{Prime};
 ghost use Rattle.fpl_numbers.specs.Numbers.{IsListed, residue, residue_of};
 ghost use Rattle.fpl_scalar.specs.Listed.{is_listed, listed_is};
 ghost use Rattle.std.proofs.Common.{ap};
 
 use crate::Field;
+use fpl_lanes::{less_once, remainder, share_of};
 use fpl_numbers::{Kind, Num, PRIMES, Unfit};
 
 /// The residues modulo an accepted prime. An element is a number from 0 to the prime less 1.
 #[derive(Clone, Copy, Debug)]
 pub struct Residue {
     p: u32,
+    // kept, so that a product is reduced without a division
+    share: u32,
     ghost listed: { is_listed p ≡ true },
     ghost least: { 3 ≤ p },
     ghost most: { p ≤ 65521 },
+    ghost quotient: { share ≡ 2 ^ 32 / p },
 }
 
 impl Residue {
@@ -23,7 +27,10 @@ impl Residue {
         ensures kind { IfSome result (λ r. ⟦<Residue as Field>⟧.kind_of r ≡ Prime p) }
     {
         if PRIMES.contains(&p) {
-            Some(Residue { p })
+            Some(Residue {
+                p,
+                share: share_of(p),
+            })
         } else {
             None
         }
@@ -61,13 +68,13 @@ impl Field for Residue {
         a == b
     }
 
-    // 65520 * 65520 + 65520 is below 2^32
     fn add(&self, a: u32, b: u32) -> Result<u32, Unfit> {
-        Ok((a + b) % self.p)
+        Ok(less_once(self.p, a + b))
     }
 
+    // 65520 * 65520 is below 2^32
     fn mul(&self, a: u32, b: u32) -> Result<u32, Unfit> {
-        Ok(a * b % self.p)
+        Ok(remainder(self.p, self.share, a * b))
     }
 
     fn neg(&self, a: u32) -> u32 {
@@ -79,7 +86,7 @@ impl Field for Residue {
         let mut rest = a;
         let mut multiple = 1;
         while rest > 1 {
-            multiple = multiple * (self.p - self.p / rest) % self.p;
+            multiple = remainder(self.p, self.share, multiple * (self.p - self.p / rest));
             rest = self.p % rest;
         }
         multiple

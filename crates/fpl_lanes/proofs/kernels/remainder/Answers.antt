@@ -1,20 +1,18 @@
 use Rattle.std.proofs.Common.{arith, ◌≡◌, ◌/◌, ◌^◌, ◌∙◌}
-use Rattle.fpl_lanes.proofs.Remainders.{product_within, one_more, exact}
+use Rattle.fpl_lanes.proofs.Remainders.{product_within, rest_low, rest_same}
 use Rattle.fpl_lanes.proofs.kernels.remainder.Goals as goal
 
-pub overflow_sub-rest : goal.overflow_sub-rest
-overflow_sub-rest c =
+pub overflow_sub-x : goal.overflow_sub-x
+overflow_sub-x c =
     let share : c.from-2.result ≡ 2 ^ 32 / c.args.p = c.from-2.ensures ∙ c.requires.share in
     rw (c.from.ensures, share) (product_within (2 ^ 32) c.args.p c.args.x (omega arith) (omega arith))
 
-pub returns-then-rest-p : goal.returns-then-rest-p
-returns-then-rest-p c =
+pub less_once-requires-clause-below : goal.less_once-requires-clause-below
+less_once-requires-clause-below c =
     let share : c.from-2.result ≡ 2 ^ 32 / c.args.p = c.from-2.ensures ∙ c.requires.share in
-    let more = rw (c.from.ensures, share) at c.if-rest-p.true in
-    rw (c.from.ensures, share) (one_more (2 ^ 32) c.args.p c.args.x (omega arith) (omega arith) more)
+    rw (c.from.ensures, share) (rest_low (2 ^ 32) c.args.p c.args.x (omega arith) (omega arith))
 
-pub returns-else-rest-p : goal.returns-else-rest-p
-returns-else-rest-p c =
+pub returns : goal.returns
+returns c =
     let share : c.from-2.result ≡ 2 ^ 32 / c.args.p = c.from-2.ensures ∙ c.requires.share in
-    let less = rw (c.from.ensures, share) at c.if-rest-p.false in
-    rw (c.from.ensures, share) (exact (2 ^ 32) c.args.p c.args.x (omega arith) (omega arith) less)
+    c.less_once.ensures ∙ rw (c.from.ensures, share) (rest_same (2 ^ 32) c.args.p c.args.x (omega arith) (omega arith))

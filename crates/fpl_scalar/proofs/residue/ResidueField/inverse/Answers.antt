@@ -13,8 +13,8 @@ loop-rest-preserved c =
     record {
       from_one = omega arith;
       below = omega arith;
-      multiple_below = mod-lt _ (omega arith);
-      keeps = one_division c.args.a c.loop-rest.multiple c.loop-rest.rest c.args.self.now.p i.from_one i.below i.keeps;
+      multiple_below = rw c.remainder-multiple.ensures (mod-lt _ (omega arith));
+      keeps = rw c.remainder-multiple.ensures (one_division c.args.a c.loop-rest.multiple c.loop-rest.rest c.args.self.now.p i.from_one i.below i.keeps);
     }
 
 pub returns-clause-value : goal.returns-clause-value
