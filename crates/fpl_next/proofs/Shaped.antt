@@ -3,7 +3,7 @@ use Rattle.std.specs.Prelude.{ℕ, zero, suc, ◌≡◌, ◌<◌, ◌≤◌, ◌
 use mathlib.Core.Path.{sym, refl, subst}
 use native.Mathlib.Omega.{arith}
 use native.Mathlib.Decide.{dec_lt}
-use Rattle.std.proofs.lemmas.List.{length-append, length-replicate, length-map, get_or-replicate, get_or_past}
+use Rattle.std.proofs.lemmas.List.{length-append, length-replicate, get_or-replicate, get_or_past}
 use Rattle.fpl_numbers.specs.declared.number.Num.{Num}
 use Rattle.fpl_numbers.specs.declared.number.Kind.{Kind}
 use Rattle.fpl_numbers.specs.Numbers.{IsField, IsElement, residue, negative_of}
@@ -18,6 +18,7 @@ use Rattle.fpl_table.specs.Plain.{PlainTable, plain_basis, first_partner, symbol
 use Rattle.fpl_table.specs.Value.{zero_row}
 use Rattle.fpl_table.specs.Push.{free_of, row_with_lead, solved, row_of_symbol, new_images, new_partners, new_entries, push_of}
 use Rattle.fpl_table.specs.Shape.{IsRowUpTo, HasShape}
+use Rattle.fpl_table.proofs.Leads.{length-solved}
 use Rattle.fpl_table.proofs.Pushed as pushed
 use Rattle.fpl_next.proofs.Pushed.{zero_element}
 use Rattle.fpl_next.proofs.Leads.{row_found}
@@ -55,10 +56,6 @@ module _ (k : Kind) (is : IsField k) where
   zeros_elements n i d l = subst (IsElement k) (sym (get_or-replicate n i (residue 0) d (omega (arith, l, length-replicate n (residue 0))))) (zero_element k is)
 
 module _ (T : PlainTable) (shape : HasShape T) (rows : List (List Num)) (are : AreRows T.kind (length (symbols_in T)) rows) where
-  solved_long : (free : List ℕ) (s : ℕ) (o : Option (List Num)) → length (solved T.kind free s o) ≡ length free
-  solved_long free s None = length-map free (λ t. cond (nat_eq t s) (residue 1) (residue 0))
-  solved_long free s (Some r) = length-map free (λ t. negative_of T.kind (get_or r t (residue 0)))
-
   abbrev IsNew : List Num → Type 0
   IsNew row = IsRowUpTo T.kind (length T.basis + length (free_of T rows)) row
 
@@ -74,7 +71,7 @@ module _ (T : PlainTable) (shape : HasShape T) (rows : List (List Num)) (are : A
           arith,
           length-append (zero_row (length T.basis)) (solved T.kind (free_of T rows) (place_of x (symbols_in T)) (row_with_lead rows (place_of x (symbols_in T)))),
           length-replicate (length T.basis) (residue 0),
-          solved_long (free_of T rows) (place_of x (symbols_in T)) (row_with_lead rows (place_of x (symbols_in T))),
+          length-solved T.kind (free_of T rows) (place_of x (symbols_in T)) (row_with_lead rows (place_of x (symbols_in T))),
         );
   }
 

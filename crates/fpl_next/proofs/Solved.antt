@@ -19,10 +19,11 @@ use Rattle.fpl_rows.specs.Meaning.{vector_in, row_in, pivot_in, IsClosedList}
 use Rattle.fpl_rows.proofs.Readings.{at_place, vector_past}
 use Rattle.fpl_algebra.specs.Built.{slot_of, at_slot, relabel, meaning_of}
 use Rattle.fpl_built.proofs.Next.{slot_new}
-use Rattle.fpl_built.proofs.NextTables.{length_map, get_or_map}
+use Rattle.fpl_built.proofs.NextTables.{get_or_map}
 use Rattle.fpl_built.proofs.Sweeps.{swept_free, swept_pivot}
 use Rattle.fpl_table.specs.Value.{zero_row}
 use Rattle.fpl_table.specs.Push.{row_with_lead, unit_row, solved}
+use Rattle.fpl_table.proofs.Leads.{length-solved}
 use Rattle.fpl_next.proofs.Leads.{row_found, row_missing}
 
 module _ (k : Kind) (reads : Reads k (field_of k) (number_of k)) (nought_is : number_of k (residue 0) ≡ (field_of k).nought) (unit_is : number_of k (residue 1) ≡ (field_of k).unit)
@@ -84,12 +85,8 @@ module _ (k : Kind) (reads : Reads k (field_of k) (number_of k)) (nought_is : nu
   unfolding meaning_of relabel
   symbol_is old free s are = fun_ext (λ t. go t (dec_lt t old) (dec_lt t (old + length free)))
     where
-      solved_long : (o : Option (List Num)) → length (solved k free s o) ≡ length free
-      solved_long None = length_map _ free
-      solved_long (Some r) = length_map _ free
-
       new_long : length (solved k free s (row_with_lead rows s)) ≡ length free
-      new_long = solved_long (row_with_lead rows s)
+      new_long = length-solved k free s (row_with_lead rows s)
 
       zeros : length (zero_row old) ≡ old
       zeros = length-replicate old (residue 0)

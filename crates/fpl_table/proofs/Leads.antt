@@ -1,17 +1,21 @@
 -- The leads of rows, by place.
-use Rattle.std.proofs.Common.{◌≡◌, ◌≢◌, ◌≤◌, ◌<◌, ◌+◌, ◌-◌, ◌++◌, ℕ, zero, suc, List, [], ◌∷◌, length, get_or, drop, cond, nat_eq, Bool, true, false, Option, Some, None, refl, ap, sym, ◌∙◌, arith, inl, inr, get_or-set_other, get_or-set_same, add-one, length-append, map}
-use Rattle.std.proofs.Math.ListN.{set}
+use Rattle.std.proofs.Common.{◌≡◌, ◌≢◌, ◌≤◌, ◌<◌, ◌+◌, ◌-◌, ◌++◌, ℕ, zero, suc, List, [], ◌∷◌, length, get_or, drop, cond, nat_eq, Bool, true, false, Option, Some, None, refl, ap, sym, ◌∙◌, arith, inl, inr, get_or-set_other, get_or-set_same, add-one, length-append}
+use Rattle.std.proofs.Math.ListN.{set, get_or-append}
+use Rattle.std.proofs.Math.Nat.{mod_self}
 use Rattle.std.proofs.Math.Seq.{drop-cons}
 use Rattle.std.proofs.lemmas.Bool.Decides.{nat_tests}
+use Rattle.std.proofs.lemmas.List.{length-map}
 use Rattle.std.specs.Prelude.{unwrap_or, slice_get}
 use Rattle.fpl_numbers.specs.declared.number.Num.{Num}
 use Rattle.fpl_numbers.specs.declared.number.Kind.{Kind}
-use Rattle.fpl_numbers.specs.Numbers.{is_nought, residue}
+use Rattle.fpl_numbers.specs.declared.number.Kind.TheVariants.{Rational, Prime}
+use Rattle.fpl_numbers.specs.Numbers.{IsElement, is_nought, residue, negative_of}
+use Rattle.fpl_rows.proofs.Noughts.{nought_is}
 use Rattle.fpl_rows.specs.Positions as positions
 use Rattle.fpl_rows.specs.Meaning.{pivot_of}
 use Rattle.fpl_table.specs.Push.{lead_place, lead_below, row_with_lead, is_lead, free_in, solved}
-use Rattle.fpl_table.specs.Leads.{row_by, AreLeads, number_solved}
-use Rattle.fpl_table.proofs.Lists.{nat_same, all_push}
+use Rattle.fpl_table.specs.Leads.{row_by, AreLeads, IsAscending}
+use Rattle.fpl_table.proofs.Lists.{nat_same, nat_split, all_push, at_middle}
 
 lead_below_is : (row : List Num) (n : ℕ) → lead_below row n ≡ unwrap_or (positions.lead_below row n) 1 - 1
 lead_below_is row zero = refl
@@ -114,10 +118,43 @@ free_few rows (suc m) = go (is_lead rows m) (free_few rows m)
     go true h = omega arith
     go false h = rw length-append (omega arith)
 
+-- one place more, not below the others
+ascends_more : (xs : List ℕ) (m : ℕ) → IsAscending xs → ((j : ℕ) → j < length xs → get_or xs j 0 ≤ m) → IsAscending (xs ++ m ∷ [])
+ascends_more xs m h most i k le lt =
+    let count : length (xs ++ m ∷ []) ≡ length xs + 1 = length-append xs (m ∷ []) in
+    elim (nat_split k (length xs)) [
+      | inl within ↦ rw (get_or-append xs (m ∷ []) 0 i (omega arith), get_or-append xs (m ∷ []) 0 k within) (h i k le within)
+      | inr end ↦
+          let last : k ≡ length xs = omega arith in
+          rw (last, at_middle) (elim (nat_split i (length xs)) [
+            | inl within ↦ rw (get_or-append xs (m ∷ []) 0 i within) (most i within)
+            | inr same ↦ let e : i ≡ length xs = omega arith in rw (e, at_middle) (omega arith)
+          ])
+    ]
+
+-- free places ascend
+pub free_ascends : (rows : List (List Num)) (m : ℕ) → IsAscending (free_in rows m)
+unfolding free_in
+free_ascends rows zero i k le lt = absurd (omega (arith, lt))
+free_ascends rows (suc m) i k le lt = go (is_lead rows m) (free_ascends rows m) (λ j. free_below rows m j 0) lt
+  where
+    go : (b : Bool) → IsAscending (free_in rows m) → ((j : ℕ) → j < length (free_in rows m) → get_or (free_in rows m) j 0 < m) → k < length (cond b (free_in rows m) (free_in rows m ++ m ∷ [])) →
+        get_or (cond b (free_in rows m) (free_in rows m ++ m ∷ [])) i 0 ≤ get_or (cond b (free_in rows m) (free_in rows m ++ m ∷ [])) k 0
+    go true h below ltk = h i k le ltk
+    go false h below ltk = ascends_more (free_in rows m) m h (λ j l. let q : get_or (free_in rows m) j 0 < m = below j l in omega arith) i k le ltk
+
 -- a row by its number
 pub row_by_some : (rows : List (List Num)) (k : ℕ) → k ≢ 0 → row_by rows k ≡ Some (get_or rows (k - 1) [])
 row_by_some rows k ne = let same : k ≡ suc (k - 1) = omega arith in ap (row_by rows) same
 
-pub solved_is : (kind : Kind) (free : List ℕ) (s : ℕ) (row : Option (List Num)) → solved kind free s row ≡ map (number_solved kind s row) free
-solved_is kind free s None = refl
-solved_is kind free s (Some row) = refl
+pub length-solved : (kind : Kind) (free : List ℕ) (s : ℕ) (row : Option (List Num)) → length (solved kind free s row) ≡ length free
+length-solved kind free s None = length-map free _
+length-solved kind free s (Some row) = length-map free _
+
+-- minus 0 is 0
+pub negative_nought : (kind : Kind) (x : Num) → IsElement kind x → is_nought x ≡ true → negative_of kind x ≡ residue 0
+negative_nought kind x is z = ap (negative_of kind) (nought_is kind x is z) ∙ zero kind
+  where
+    zero : (kind : Kind) → negative_of kind (residue 0) ≡ residue 0
+    zero Rational = refl
+    zero (Prime p) = ap residue (let whole : p - 0 ≡ p = omega arith in rw whole (mod_self p))

@@ -7,6 +7,7 @@ pub mod Numbering
 pub mod Light
 pub mod Padded
 pub mod Leads
+pub mod Walking
 pub mod Places
 pub mod NewRows
 pub mod Pushed

@@ -2,15 +2,15 @@
 --
 --   row_by rows k              row k, counted from 1; none for 0
 --   AreLeads rows n leads      for each place below n the number of the first row that it leads, or 0
---   number_solved kind s row t the number at place t of the symbol at place s: itself, where it leads no row, else minus its row's
+--   IsAscending places         no place is below an earlier one
+--   IsClear row t next         the row is 0 from place t on, below position next
 --   IsSolved T rows leads free the rows, their leads by place, and the places that lead none
 --   basis_of T x               the basis element of the next weight that stands for a symbol
 --   IsNext T rows free ..      what the next weight adds
 --   trees_of T free            the bracket trees of the symbols at some places
-use Rattle.std.specs.Prelude.{ℕ, zero, suc, ◌≡◌, ◌<◌, ◌≤◌, List, [], length, map, get_or, All, ◌+◌, cond, nat_eq, Option, Some, None}
+use Rattle.std.specs.Prelude.{ℕ, zero, suc, ◌≡◌, ◌<◌, ◌≤◌, List, [], length, map, get_or, All, ◌+◌, true, Option, Some, None}
 use Rattle.fpl_numbers.specs.declared.number.Num.{Num}
-use Rattle.fpl_numbers.specs.declared.number.Kind.{Kind}
-use Rattle.fpl_numbers.specs.Numbers.{residue, negative_of}
+use Rattle.fpl_numbers.specs.Numbers.{residue, is_nought}
 use Rattle.fpl_algebra.specs.Tree.{Tree}
 use Rattle.fpl_algebra.specs.Symbols.{no_symbol, symbol_parity}
 use Rattle.fpl_algebra.specs.Table.{Symbol, Basis}
@@ -29,9 +29,12 @@ pub record AreLeads (rows : List (List Num)) (n : ℕ) (leads : List ℕ) : Type
   pub within : (s : ℕ) → s < n → get_or leads s 0 ≤ length rows
   pub rows_are : (s : ℕ) → s < n → row_by rows (get_or leads s 0) ≡ row_with_lead rows s
 
-abbrev pub number_solved : Kind → ℕ → Option (List Num) → ℕ → Num
-number_solved kind s None t = cond (nat_eq t s) (residue 1) (residue 0)
-number_solved kind s (Some row) t = negative_of kind (get_or row t (residue 0))
+abbrev pub IsAscending : List ℕ → Type 0
+IsAscending places = (i k : ℕ) → i ≤ k → k < length places → get_or places i 0 ≤ get_or places k 0
+
+-- positions count from 1: place u is position u + 1
+abbrev pub IsClear : List Num → ℕ → ℕ → Type 0
+IsClear row t next = (u : ℕ) → t ≤ u → u + 1 < next → is_nought (get_or row u (residue 0)) ≡ true
 
 -- the basis element that stands for a symbol of the next weight
 abbrev pub basis_of : PlainTable → Symbol → Basis

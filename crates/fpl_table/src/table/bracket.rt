@@ -76,14 +76,13 @@ impl<F: Field> Table<F> {
         ensures elements { OnOk result (AreElements self.now.kind sum.new) }
         ensures whole { length sum.new ≡ length sum.old }
     {
-        for j in 0..b.len() {
-            let y = b.at(j + 1);
-            if !self.field().is_zero(y) {
-                match self.add_product(i, j + 1, x, y, sum) {
-                    Ok(()) => {}
-                    Err(fault) => return Err(fault),
-                }
+        let mut after = 0;
+        while let Some(j) = b.next(after) {
+            match self.add_product(i, j, x, b.at(j), sum) {
+                Ok(()) => {}
+                Err(fault) => return Err(fault),
             }
+            after = j;
         }
         Ok(())
     }
@@ -98,14 +97,13 @@ impl<F: Field> Table<F> {
         ensures whole { IfOk result (λ r. length r ≡ length self.now.basis) }
     {
         let mut sum = self.zero_row(alloc)?;
-        for i in 0..a.len() {
-            let x = a.at(i + 1);
-            if !self.field().is_zero(x) {
-                match self.add_products(i + 1, x, b, &mut sum) {
-                    Ok(()) => {}
-                    Err(fault) => return Err(fault),
-                }
+        let mut after = 0;
+        while let Some(i) = a.next(after) {
+            match self.add_products(i, a.at(i), b, &mut sum) {
+                Ok(()) => {}
+                Err(fault) => return Err(fault),
             }
+            after = i;
         }
         Ok(sum)
     }

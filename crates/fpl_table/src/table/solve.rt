@@ -1,5 +1,5 @@
-ghost use Rattle.std.specs.Prelude.{◌≡◌, ◌≤◌, ◌<◌, ◌+◌, ◌-◌, ◌*◌, suc, nat_eq, cond, [], length, map, get_or, All, IfOk};
-ghost use Rattle.fpl_numbers.specs.Numbers.{IsElement, residue};
+ghost use Rattle.std.specs.Prelude.{◌≡◌, ◌≤◌, ◌<◌, ◌+◌, ◌-◌, ◌*◌, ◌++◌, suc, nat_eq, cond, [], length, map, get_or, All, IfOk, Some};
+ghost use Rattle.fpl_numbers.specs.Numbers.{IsElement, residue, negative_of};
 ghost use Rattle.fpl_rows.specs.Meaning.{AreRows};
 ghost use Rattle.fpl_scalar.specs.Vectors.{AreElements};
 ghost use Rattle.fpl_algebra.specs.Symbols.{joined};
@@ -8,35 +8,32 @@ ghost use Rattle.fpl_table.specs.Plain.{symbols_in, plain_basis, generator_at};
 ghost use Rattle.fpl_table.specs.Cells.{generator_cell, generator_cells, pair_cells, pairs_to};
 ghost use Rattle.fpl_table.specs.Shape.{HasShape, IsRowUpTo};
 ghost use Rattle.fpl_table.specs.Value.{zero_row};
-ghost use Rattle.fpl_table.specs.Push.{symbol_row, row_of_symbol, new_images, new_partners, new_entries};
-ghost use Rattle.fpl_table.specs.Leads.{IsSolved, row_by, number_solved};
+ghost use Rattle.fpl_table.specs.Push.{unit_row, solved, symbol_row, row_of_symbol, new_images, new_partners, new_entries};
+ghost use Rattle.fpl_table.specs.Leads.{IsSolved, IsAscending, IsClear, row_by};
 
 use super::Table;
 use fpl_rows::{Row, Rows};
 use fpl_scalar::Field;
 use std::alloc::{AllocError, Global};
 
-impl<F: Field> Table<F> {
-    /// The number at place `t` of the symbol at place `s`, which leads the row `lead`, counted
-    /// from 1, or none.
-    fn number_solved(&self, rows: &Rows<F>, lead: usize, s: u32, t: u32) -> F::Elem
-        requires rows { AreRows self.now.kind (length (symbols_in self.now)) rows.now }
-        requires place { t < length (symbols_in self.now) }
-        requires few { length (symbols_in self.now) ≤ 2000000 }
-        requires lead { lead ≤ length rows.now }
-        ensures value { F.number result ≡ number_solved self.now.kind s (row_by rows.now lead) t }
-        ensures element { IsElement self.now.kind (F.number result) }
-    {
-        let field = self.field();
-        if lead == 0 {
-            return if t == s { field.one() } else { field.zero() };
-        }
-        match rows.get(lead - 1) {
-            Some(row) => field.neg(row.at(t + 1)),
-            None => field.zero(),
-        }
+/// A position above place `t`, below which the row is 0 from `t` on: `next` where it is above,
+/// else that of the next number that is not 0, or the end.
+fn next_from<F: Field>(row: &Row<F>, t: u32, next: u32) -> u32
+    requires place { t < length row.now }
+    requires clear { IsClear row.now t next }
+    ensures above { t < result }
+    ensures clear { IsClear row.now t result }
+{
+    if t < next {
+        return next;
     }
+    match row.next(t) {
+        Some(s) => s,
+        None => row.len(),
+    }
+}
 
+impl<F: Field> Table<F> {
     /// 0 at each basis number, with room for `more` numbers.
     fn zero_numbers(&self, alloc: Global, more: usize) -> Result<Vec<F::Elem>, AllocError>
         ensures value { IfOk result (λ v. map F.number v.items ≡ zero_row (length self.now.basis)) }
@@ -47,6 +44,96 @@ impl<F: Field> Table<F> {
         let mut numbers = Vec::with_capacity(alloc, count.saturating_add(more))?;
         numbers.resize(count, self.field().zero())?;
         Ok(numbers)
+    }
+
+    /// 1 at the place `s`, and 0 at another.
+    fn unit_at(&self, s: u32, t: u32) -> F::Elem
+        ensures value { F.number result ≡ cond (nat_eq t s) (residue 1) (residue 0) }
+        ensures element { IsElement self.now.kind (F.number result) }
+    {
+        let field = self.field();
+        if t == s { field.one() } else { field.zero() }
+    }
+
+    /// Minus the number at place `t` of a row that is 0 from there on, below position `next`.
+    fn negative_at(&self, row: &Row<F>, t: u32, next: u32) -> F::Elem
+        requires row { AreElements self.now.kind row.now }
+        requires place { t < length row.now }
+        requires above { t < next }
+        requires clear { IsClear row.now t next }
+        ensures value { F.number result ≡ negative_of self.now.kind (get_or row.now t (residue 0)) }
+        ensures element { IsElement self.now.kind (F.number result) }
+    {
+        let field = self.field();
+        if next == t + 1 {
+            field.neg(row.at(next))
+        } else {
+            field.zero()
+        }
+    }
+
+    /// A symbol that leads `row`, over the basis with the new elements. The free places ascend,
+    /// so the row is walked once.
+    fn solved_numbers(
+        &self,
+        alloc: Global,
+        row: &Row<F>,
+        free: &[u32],
+    ) -> Result<Vec<F::Elem>, AllocError>
+        requires row { AreElements self.now.kind row.now }
+        requires places { All (λ t. t < length row.now) free.now }
+        requires ascending { IsAscending free.now }
+        ensures value { IfOk result (λ v. map F.number v.items ≡ zero_row (length self.now.basis) ++ solved self.now.kind free.now 0 (Some row.now)) }
+        ensures elements { IfOk result (λ v. AreElements self.now.kind (map F.number v.items)) }
+        ensures shape { HasShape self.now }
+    {
+        let mut numbers = self.zero_numbers(alloc, free.len())?;
+        let mut next = 0;
+        for t in free {
+            next = next_from(row, *t, next);
+            numbers.push(self.negative_at(row, *t, next))?;
+        }
+        Ok(numbers)
+    }
+
+    /// The symbol at place `s`, which leads no row, over the basis with the new elements.
+    fn unit_numbers(&self, alloc: Global, free: &[u32], s: u32) -> Result<Vec<F::Elem>, AllocError>
+        ensures value { IfOk result (λ v. map F.number v.items ≡ zero_row (length self.now.basis) ++ unit_row free.now s) }
+        ensures elements { IfOk result (λ v. AreElements self.now.kind (map F.number v.items)) }
+        ensures shape { HasShape self.now }
+    {
+        let mut numbers = self.zero_numbers(alloc, free.len())?;
+        for t in free {
+            numbers.push(self.unit_at(s, *t))?;
+        }
+        Ok(numbers)
+    }
+
+    /// The symbol at place `s` over the basis with the new elements. It leads the row `lead`,
+    /// counted from 1, or none.
+    fn symbol_numbers(
+        &self,
+        alloc: Global,
+        rows: &Rows<F>,
+        lead: usize,
+        free: &[u32],
+        s: u32,
+    ) -> Result<Vec<F::Elem>, AllocError>
+        requires rows { AreRows self.now.kind (length (symbols_in self.now)) rows.now }
+        requires lead { lead ≤ length rows.now }
+        requires places { All (λ t. t < length (symbols_in self.now)) free.now }
+        requires ascending { IsAscending free.now }
+        ensures value { IfOk result (λ v. map F.number v.items ≡ zero_row (length self.now.basis) ++ solved self.now.kind free.now s (row_by rows.now lead)) }
+        ensures elements { IfOk result (λ v. AreElements self.now.kind (map F.number v.items)) }
+        ensures shape { HasShape self.now }
+    {
+        if lead == 0 {
+            return self.unit_numbers(alloc, free, s);
+        }
+        match rows.get(lead - 1) {
+            Some(row) => self.solved_numbers(alloc, row, free),
+            None => self.zero_numbers(alloc, 0),
+        }
     }
 
     /// What the symbol at place `s` is, over the basis with the new elements.
@@ -63,11 +150,7 @@ impl<F: Field> Table<F> {
         ensures value { IfOk result (λ row. row ≡ symbol_row self.now rows.now s) }
         ensures whole { IfOk result (λ row. IsRowUpTo self.now.kind (length self.now.basis + length free.now) row) }
     {
-        let lead = leads[s];
-        let mut numbers = self.zero_numbers(alloc, free.len())?;
-        for t in free {
-            numbers.push(self.number_solved(rows, lead, s as u32, *t))?;
-        }
+        let numbers = self.symbol_numbers(alloc, rows, leads[s], free, s as u32)?;
         let row = Row::from_vec(self.field(), numbers);
         Ok(row.pack(alloc, self.field()))
     }

@@ -1,12 +1,12 @@
-use Rattle.std.proofs.Common.{◌≡◌, ◌∙◌, ◌-◌, ◌≤◌, length, drop, get_or, ap, sym, subst, arith}
-use Rattle.std.specs.Prelude.{Result}
+use Rattle.std.proofs.Common.{◌∙◌, ◌-◌, drop, ap, sym, subst, arith}
 use Rattle.fpl_numbers.specs.declared.number.Num.{Num}
 use Rattle.fpl_numbers.specs.Numbers.{IsElement, residue}
 use Rattle.fpl_numbers.specs.Results.{and_then}
 use Rattle.fpl_rows.proofs.Firsts.{next_is_at}
+use Rattle.fpl_table.proofs.Walking.{fault_next}
 use Rattle.fpl_rewrite.specs.Rows.{spread}
 use Rattle.fpl_rewrite.specs.Terms.{terms_of}
-use Rattle.fpl_rewrite.proofs.Spreading.{to_next, to_end, fault_next}
+use Rattle.fpl_rewrite.proofs.Spreading.{to_next, to_end}
 use Rattle.fpl_rewrite.proofs.entries.add_terms.Goals as goal
 
 pub at-requires : goal.at-requires
@@ -51,7 +51,7 @@ pub returns-in-Err-clause-value : goal.returns-in-Err-clause-value
 returns-in-Err-clause-value g c =
     let T = c.args.table.now in
     let add = terms_of T c.args.beside c.args.negated in
-    fault_next T add (λ w. spread T add c.in-Some.t (drop c.in-Some.t c.args.entry.now) w) c.in-Err.fault _ _
+    fault_next (λ w. spread T add c.in-Some.t (drop c.in-Some.t c.args.entry.now) w) c.in-Err.fault _ _
     (c.loop-t.invariant.left ∙ to_next T add c.args.entry.now c.loop-t.after c.in-Some.t c.loop-t.row c.in-Some.ensures
     ∙ ap (λ (n : Num). and_then (λ w. spread T add c.in-Some.t (drop c.in-Some.t c.args.entry.now) w) (add (c.in-Some.t - 1) n c.loop-t.row)) (sym c.at.ensures))
     c.in-Err.ensures.value
