@@ -10,7 +10,7 @@ use Rattle.fpl_numbers.specs.declared.number.Num.{Num}
 use Rattle.fpl_numbers.specs.declared.number.Kind.{Kind}
 use Rattle.fpl_numbers.specs.declared.number.Kind.TheVariants.{Rational, Prime}
 use Rattle.fpl_numbers.specs.Numbers.{IsElement, is_nought, residue, negative_of}
-use Rattle.fpl_rows.proofs.Noughts.{nought_is}
+use Rattle.fpl_scalar.proofs.Noughts.{nought_is}
 use Rattle.fpl_rows.specs.Positions as positions
 use Rattle.fpl_rows.specs.Meaning.{pivot_of}
 use Rattle.fpl_table.specs.Push.{lead_place, lead_below, row_with_lead, is_lead, free_in, solved}
