@@ -27,7 +27,7 @@ not_told None s e f = none_some f
 not_told (Some a) s e f = let t = eq-eqb a s (some_same f) in absurd (let k : ⊥ = cc in k)
 
 module _ (kind : Kind) (listed : IsField kind) (k n after i : ℕ) (row : List Coefficient) (ys : List Num) (coefficients : AreCoefficientsOf kind row) (concluded : IsRowOf kind n ys) (rest : IsRest n after i row) (next second : Option ℕ)
-  (is_next : next ≡ symbol_of (slice_get row i)) (is_second : second ≡ next_of ys after) where
+    (is_next : next ≡ symbol_of (slice_get row i)) (is_second : second ≡ next_of ys after) where
   abbrev xs : List Num
   xs = stored_row n row
 

@@ -44,8 +44,8 @@ test_rows-requires-clause-few g c =
 
 -- the closed rows are the conclusions that passed
 module _ (T : PlainTable) (listed : IsField T.kind) (s : Section) (section : IsSectionFor T s) (n : ℕ) (conclusions rows : List (List Num)) (symbols : n ≡ length (symbols_in T))
-  (are : AreRows T.kind (length (symbols_in T)) conclusions) (whole : length conclusions ≡ length s.steps) (is : rows ≡ close_rows s.steps conclusions)
-  (closes : test_closes s ≡ Ok tt) (forms : test_forms n 1 s.closed ≡ Ok tt) (same : test_conclusions 1 (map (stored_row n) s.closed) rows ≡ Ok tt) where
+    (are : AreRows T.kind (length (symbols_in T)) conclusions) (whole : length conclusions ≡ length s.steps) (is : rows ≡ close_rows s.steps conclusions)
+    (closes : test_closes s ≡ Ok tt) (forms : test_forms n 1 s.closed ≡ Ok tt) (same : test_conclusions 1 (map (stored_row n) s.closed) rows ≡ Ok tt) where
   same_here : test_conclusions 1 (rows_stored T s) (close_rows s.steps conclusions) ≡ Ok tt
   same_here = ap₂ (λ m r. test_conclusions 1 (map (stored_row m) s.closed) r) (sym symbols) (sym is) ∙ same
 

@@ -68,13 +68,13 @@ symbols-preserved-then-eq g c =
     record {
       few = omega arith;
       within = turn_end (g.F.Field.kind_of c.args.field.now) (g.met.F.Field.is_field c.args.field.now) c.args.k c.args.n c.symbols.after c.symbols.i c.args.stored.now c.args.concluded.now c.requires.coefficients c.requires.concluded c.symbols.invariant.rest
-    c.symbol_at-next.result c.next.result c.symbol_at-next.ensures c.next.ensures c.in-Some.s c.in-Some.ensures;
+          c.symbol_at-next.result c.next.result c.symbol_at-next.ensures c.next.ensures c.in-Some.s c.in-Some.ensures;
       rest = turn_on (g.F.Field.kind_of c.args.field.now) (g.met.F.Field.is_field c.args.field.now) c.args.k c.args.n c.symbols.after c.symbols.i c.args.stored.now c.args.concluded.now c.requires.coefficients c.requires.concluded c.symbols.invariant.rest
-    c.symbol_at-next.result c.next.result c.symbol_at-next.ensures c.next.ensures c.in-Some.s c.in-Some.ensures
+          c.symbol_at-next.result c.next.result c.symbol_at-next.ensures c.next.ensures c.in-Some.s c.in-Some.ensures
           (is_told c.symbol_at-next.result c.in-Some.s (sym c.eq.ensures ∙ c.if-eq.true));
       done = c.symbols.invariant.done ∙ turn_same (g.F.Field.kind_of c.args.field.now) (g.met.F.Field.is_field c.args.field.now) c.args.k c.args.n c.symbols.after c.symbols.i c.args.stored.now c.args.concluded.now c.requires.coefficients c.requires.concluded c.symbols.invariant.rest
-    c.symbol_at-next.result c.next.result c.symbol_at-next.ensures c.next.ensures c.in-Some.s c.in-Some.ensures
-    (g.F.Field.number c.number_at-left.result) (g.F.Field.number c.at-right.result) c.number_at-left.ensures c.at-right.ensures
+          c.symbol_at-next.result c.next.result c.symbol_at-next.ensures c.next.ensures c.in-Some.s c.in-Some.ensures
+          (g.F.Field.number c.number_at-left.result) (g.F.Field.number c.at-right.result) c.number_at-left.ensures c.at-right.ensures
           (found_same c.same.result (g.F.Field.number c.number_at-left.result) (g.F.Field.number c.at-right.result) c.same.ensures c.if-not-same.false);
     }
 
@@ -86,13 +86,13 @@ symbols-preserved g c =
     record {
       few = omega arith;
       within = turn_end (g.F.Field.kind_of c.args.field.now) (g.met.F.Field.is_field c.args.field.now) c.args.k c.args.n c.symbols.after c.symbols.i c.args.stored.now c.args.concluded.now c.requires.coefficients c.requires.concluded c.symbols.invariant.rest
-    c.symbol_at-next.result c.next.result c.symbol_at-next.ensures c.next.ensures c.in-Some.s c.in-Some.ensures;
+          c.symbol_at-next.result c.next.result c.symbol_at-next.ensures c.next.ensures c.in-Some.s c.in-Some.ensures;
       rest = turn_over (g.F.Field.kind_of c.args.field.now) (g.met.F.Field.is_field c.args.field.now) c.args.k c.args.n c.symbols.after c.symbols.i c.args.stored.now c.args.concluded.now c.requires.coefficients c.requires.concluded c.symbols.invariant.rest
-    c.symbol_at-next.result c.next.result c.symbol_at-next.ensures c.next.ensures c.in-Some.s c.in-Some.ensures
+          c.symbol_at-next.result c.next.result c.symbol_at-next.ensures c.next.ensures c.in-Some.s c.in-Some.ensures
           (not_told c.symbol_at-next.result c.in-Some.s (sym c.eq.ensures ∙ c.if-eq.false));
       done = c.symbols.invariant.done ∙ turn_same (g.F.Field.kind_of c.args.field.now) (g.met.F.Field.is_field c.args.field.now) c.args.k c.args.n c.symbols.after c.symbols.i c.args.stored.now c.args.concluded.now c.requires.coefficients c.requires.concluded c.symbols.invariant.rest
-    c.symbol_at-next.result c.next.result c.symbol_at-next.ensures c.next.ensures c.in-Some.s c.in-Some.ensures
-    (g.F.Field.number c.number_at-left.result) (g.F.Field.number c.at-right.result) c.number_at-left.ensures c.at-right.ensures
+          c.symbol_at-next.result c.next.result c.symbol_at-next.ensures c.next.ensures c.in-Some.s c.in-Some.ensures
+          (g.F.Field.number c.number_at-left.result) (g.F.Field.number c.at-right.result) c.number_at-left.ensures c.at-right.ensures
           (found_same c.same.result (g.F.Field.number c.number_at-left.result) (g.F.Field.number c.at-right.result) c.same.ensures c.if-not-same.false);
     }
 
