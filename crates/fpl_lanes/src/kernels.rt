@@ -1,4 +1,4 @@
-ghost use Rattle.std.specs.Prelude.{◌≡◌, ◌<◌, ◌≤◌, ◌/◌, ◌%◌, ◌^◌, length};
+ghost use Rattle.std.specs.Prelude.{◌≡◌, ◌<◌, ◌≤◌, ◌/◌, ◌%◌, ◌^◌, ◌↔◌, length, All, IfSome, IsTrue};
 ghost use Rattle.fpl_lanes.specs.Lanes.{AllBelow, added, multiplied, first_of};
 
 /// Adds `c` times `other` to `row` modulo `p`: each place becomes the remainder of
@@ -58,6 +58,32 @@ fn remainder(p: u32, share: u32, x: u32) -> u32
 /// The least place, from 0, that is not 0; `None` exactly where there is none.
 pub fn first_nonzero(row: &[u32]) -> Option<usize>
     ensures { result ≡ first_of row.now }
+{
+    let mut from = 0;
+    while row.len() - from >= 16 && is_blank(&row[from..from + 16]) {
+        from += 16;
+    }
+    match first_in_turn(&row[from..]) {
+        Some(place) => Some(from + place),
+        None => None,
+    }
+}
+
+/// Whether each place is 0. There is no early exit, so that several places are tested at once.
+fn is_blank(block: &[u32]) -> bool
+    ensures { IsTrue result ↔ All (λ x. x ≡ 0) block.now }
+{
+    let mut bits = 0;
+    for x in block {
+        bits |= *x;
+    }
+    bits == 0
+}
+
+/// As `first_nonzero`, place by place.
+fn first_in_turn(row: &[u32]) -> Option<usize>
+    ensures value { result ≡ first_of row.now }
+    ensures within { IfSome result (λ k. k < length row.now) }
 {
     for (i, x) in row.iter().enumerate() {
         if *x != 0 {

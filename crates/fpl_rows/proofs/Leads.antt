@@ -1,9 +1,12 @@
 -- The lead of a row: not 0 there, and 0 above.
-use Rattle.std.proofs.Common.{◌≡◌, ℕ, zero, suc, ◌-◌, ◌<◌, ◌≤◌, List, length, get_or, refl, sym, ap, subst, arith, sub-one, true, false, Bool}
+use Rattle.std.proofs.Common.{◌≡◌, ℕ, zero, suc, ◌+◌, ◌-◌, ◌<◌, ◌≤◌, List, length, take, drop, map, get_or, refl, sym, ap, ◌∙◌, subst, arith, sub-one, true, false, Bool}
 use Rattle.std.specs.Prelude.{Option, Some, None, if◌then◌else◌}
+use Rattle.std.proofs.lemmas.List.{drop-map, take-map, length-map, length-drop, length-take-le, get_or-drop, get_or-take}
 use native.Mathlib.Decide.{ℕ_discrete}
 use Rattle.fpl_numbers.specs.declared.number.Num.{Num}
 use Rattle.fpl_numbers.specs.Numbers.{is_nought, residue}
+use Rattle.fpl_scalar.specs.Vectors.{first_of}
+use Rattle.fpl_rows.proofs.Firsts.{first_none}
 use Rattle.fpl_rows.proofs.Fits.{none_some, some_same}
 use Rattle.fpl_rows.specs.Positions.{lead_below, lead_of}
 
@@ -68,3 +71,26 @@ lead_from xs most l h = go (lead_of xs) refl
     go : (o : Option ℕ) → lead_of xs ≡ o → lead_below xs most ≡ o
     go None e = none_below xs most (λ t m. lead_none xs (length xs) e t (omega arith))
     go (Some s) e = let k = lead_is xs (length xs) s e in lead_down xs s most k.from_one (h s e) k.leads (λ t m n. k.above t m (omega arith))
+
+-- places that are 0 are passed over
+lead_past : (xs : List Num) (from to : ℕ) → from ≤ to → ((t : ℕ) → from ≤ t → t < to → is_nought (get_or xs t (residue 0)) ≡ true) → lead_below xs to ≡ lead_below xs from
+lead_past xs from zero l h = ap (lead_below xs) (let q : 0 ≡ from = omega arith in q)
+lead_past xs from (suc n) l h = go (ℕ_discrete from (suc n)) (λ m. lead_past xs from n m (λ t a b. h t a (omega arith)))
+  where
+    go : Dec (from ≡ suc n) → (from ≤ n → lead_below xs n ≡ lead_below xs from) → lead_below xs (suc n) ≡ lead_below xs from
+    go (yes e) k = ap (lead_below xs) (sym e)
+    go (no d) k = (let z : is_nought (get_or xs n (residue 0)) ≡ true = h n (omega arith) (omega arith) in rw z (k (omega arith)))
+
+pub lead_over : {E : Type 0} (f : E → Num) (row : List E) (from to : ℕ) → from ≤ to → to ≤ length row → None ≡ first_of (map f (take (to - from) (drop from row))) → lead_below (map f row) to ≡ lead_below (map f row) from
+lead_over f row from to l m e = lead_past (map f row) from to l there
+  where
+    part : take (to - from) (drop from (map f row)) ≡ map f (take (to - from) (drop from row))
+    part = ap (take (to - from)) (drop-map f from row) ∙ take-map f (to - from) (drop from row)
+
+    there : (t : ℕ) → from ≤ t → t < to → is_nought (get_or (map f row) t (residue 0)) ≡ true
+    there t a b =
+        let long = length-drop from (map f row) in
+        let whole = length-map row f in
+        let size = length-take-le (to - from) (drop from (map f row)) (omega arith) in
+        ap is_nought (ap (λ i. get_or (map f row) i (residue 0)) (let q : t ≡ from + (t - from) = omega arith in q) ∙ sym (get_or-drop from (map f row) (t - from) (residue 0)) ∙ sym (get_or-take (to - from) (drop from (map f row)) (t - from) (residue 0) (omega arith)))
+        ∙ first_none (take (to - from) (drop from (map f row))) (ap first_of part ∙ sym e) (t - from) (omega arith)

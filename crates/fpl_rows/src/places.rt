@@ -14,6 +14,20 @@ pub fn lead_within<F: Field>(field: &F, row: &[F::Elem], most: usize) -> Option<
     ensures within { IfSome result (λ s. s ≤ most) }
 {
     let mut s = most;
+    // a field looks for the first of several places at once, where it can
+    while s >= 16 && field.first(&row[s - 16..s]).is_none() {
+        s -= 16;
+    }
+    lead_in_turn(field, row, s)
+}
+
+/// As `lead_within`, place by place.
+fn lead_in_turn<F: Field>(field: &F, row: &[F::Elem], most: usize) -> Option<usize>
+    requires { most ≤ length row.now }
+    ensures value { result ≡ lead_below (map F.number row.now) most }
+    ensures within { IfSome result (λ s. s ≤ most) }
+{
+    let mut s = most;
     while s > 0 {
         if !field.is_zero(row[s - 1]) {
             return Some(s);
