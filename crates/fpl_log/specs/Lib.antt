@@ -1,3 +1,4 @@
+pub mod Compact
 pub mod Conclusion
 pub mod Plain
 pub mod Slim

@@ -1,6 +1,7 @@
 ghost use Rattle.std.specs.Prelude.{◌≡◌, ◌<◌, ◌^◌, ◌++◌, ◌∷◌, [], IfOk, OnOk, OnErr, List, length, slice_get};
 ghost use Rattle.std.specs.Option.{option_copied};
 
+use crate::compact::{Compact, Narrow};
 use fpl_scalar::Num;
 use std::alloc::{AllocError, Global};
 use std::marker::Model;
@@ -12,10 +13,40 @@ pub struct Coefficient {
     pub number: Num,
 }
 
+/// A coefficient whose number is whole and small.
+#[derive(Clone, Copy)]
+pub struct SmallCoefficient {
+    symbol: u32,
+    number: i32,
+}
+
+impl Narrow for Coefficient {
+    ghost use Rattle.fpl_log.specs.Compact.{whole};
+
+    type Small = SmallCoefficient;
+
+    ghost widened = { λ small. record { symbol = small.symbol; number = whole small.number } };
+
+    fn narrow(self) -> Option<SmallCoefficient> {
+        let number = self.number.narrow()?;
+        Some(SmallCoefficient {
+            symbol: self.symbol,
+            number,
+        })
+    }
+
+    fn widen(small: SmallCoefficient) -> Coefficient {
+        Coefficient {
+            symbol: small.symbol,
+            number: Num::widen(small.number),
+        }
+    }
+}
+
 /// A closed row, as its coefficients by ascending symbol.
 #[derive(Drop)]
 pub struct ClosedRow {
-    items: Vec<Coefficient>,
+    items: Compact<Coefficient>,
 }
 
 impl Model for ClosedRow {
@@ -24,7 +55,7 @@ impl Model for ClosedRow {
 
     ghost Value = { List Coefficient };
 
-    ghost view = { λ l. l.items.items };
+    ghost view = { λ l. l.items };
 }
 
 impl ClosedRow {
@@ -32,7 +63,7 @@ impl ClosedRow {
         ensures { result ≡ [] }
     {
         ClosedRow {
-            items: Vec::new(alloc),
+            items: Compact::new(alloc),
         }
     }
 
@@ -41,7 +72,7 @@ impl ClosedRow {
         ensures { IfOk result (λ l. l ≡ []) }
     {
         Ok(ClosedRow {
-            items: Vec::with_capacity(alloc, count)?,
+            items: Compact::with_capacity(alloc, count)?,
         })
     }
 
@@ -53,8 +84,8 @@ impl ClosedRow {
     }
 
     /// Coefficient `n`, counted from 0.
-    pub fn get(&self, n: usize) -> Option<&Coefficient>
-        ensures { option_copied result ≡ slice_get self.now n }
+    pub fn get(&self, n: usize) -> Option<Coefficient>
+        ensures { result ≡ slice_get self.now n }
     {
         self.items.get(n)
     }
@@ -71,9 +102,9 @@ impl ClosedRow {
     pub fn copy(&self, alloc: Global) -> Result<ClosedRow, AllocError>
         ensures { IfOk result (λ l. l ≡ self.now) }
     {
-        let mut items = Vec::new(alloc);
-        items.extend_from_slice(&self.items)?;
-        Ok(ClosedRow { items })
+        Ok(ClosedRow {
+            items: self.items.copy(alloc)?,
+        })
     }
 }
 

@@ -2,6 +2,7 @@
 #![tactic(auto)]
 
 mod closed;
+mod compact;
 mod laws;
 mod section;
 mod slimming;

@@ -61,7 +61,7 @@ fn terms_of(alloc: Global, terms: &Terms, numbers: &[Option<u64>]) -> Result<Ter
     for i in 0..terms.len() {
         match terms.get(i) {
             None => {}
-            Some(term) => keep_term(&mut kept, number_of(numbers, term.step), term)?,
+            Some(term) => keep_term(&mut kept, number_of(numbers, term.step), &term)?,
         }
     }
     Ok(kept)

@@ -52,7 +52,7 @@ fn take_terms<F: Field>(
     for i in 0..terms.len() {
         match terms.get(i) {
             None => {}
-            Some(term) => match take_term(field, earlier, term, left) {
+            Some(term) => match take_term(field, earlier, &term, left) {
                 Ok(next) => left = next,
                 Err(fault) => return Err(fault),
             },

@@ -1,6 +1,6 @@
 ghost use Rattle.std.specs.Prelude.{◌≡◌, ◌<◌, ◌^◌, ◌++◌, ◌∷◌, [], IfOk, OnOk, OnErr, List, length, slice_get};
-ghost use Rattle.std.specs.Option.{option_copied};
 
+use crate::compact::{Compact, Narrow};
 use fpl_scalar::Num;
 use std::alloc::{AllocError, Global};
 use std::marker::Model;
@@ -12,10 +12,38 @@ pub struct Term {
     pub factor: Num,
 }
 
+/// A term of a small step and a small whole factor.
+#[derive(Clone, Copy)]
+pub struct SmallTerm {
+    step: u32,
+    factor: i32,
+}
+
+impl Narrow for Term {
+    ghost use Rattle.fpl_log.specs.Compact.{whole};
+
+    type Small = SmallTerm;
+
+    ghost widened = { λ small. record { step = small.step; factor = whole small.factor } };
+
+    fn narrow(self) -> Option<SmallTerm> {
+        let step = u32::try_from(self.step).ok()?;
+        let factor = self.factor.narrow()?;
+        Some(SmallTerm { step, factor })
+    }
+
+    fn widen(small: SmallTerm) -> Term {
+        Term {
+            step: small.step as u64,
+            factor: Num::widen(small.factor),
+        }
+    }
+}
+
 /// The terms of a step, in the order in which they are taken off.
 #[derive(Drop)]
 pub struct Terms {
-    items: Vec<Term>,
+    items: Compact<Term>,
 }
 
 impl Model for Terms {
@@ -24,7 +52,7 @@ impl Model for Terms {
 
     ghost Value = { List Term };
 
-    ghost view = { λ l. l.items.items };
+    ghost view = { λ l. l.items };
 }
 
 impl Terms {
@@ -32,7 +60,7 @@ impl Terms {
         ensures { result ≡ [] }
     {
         Terms {
-            items: Vec::new(alloc),
+            items: Compact::new(alloc),
         }
     }
 
@@ -41,7 +69,7 @@ impl Terms {
         ensures { IfOk result (λ l. l ≡ []) }
     {
         Ok(Terms {
-            items: Vec::with_capacity(alloc, count)?,
+            items: Compact::with_capacity(alloc, count)?,
         })
     }
 
@@ -53,8 +81,8 @@ impl Terms {
     }
 
     /// Term `n`, counted from 0.
-    pub fn get(&self, n: usize) -> Option<&Term>
-        ensures { option_copied result ≡ slice_get self.now n }
+    pub fn get(&self, n: usize) -> Option<Term>
+        ensures { result ≡ slice_get self.now n }
     {
         self.items.get(n)
     }
@@ -71,8 +99,8 @@ impl Terms {
     pub fn copy(&self, alloc: Global) -> Result<Terms, AllocError>
         ensures { IfOk result (λ l. l ≡ self.now) }
     {
-        let mut items = Vec::new(alloc);
-        items.extend_from_slice(&self.items)?;
-        Ok(Terms { items })
+        Ok(Terms {
+            items: self.items.copy(alloc)?,
+        })
     }
 }

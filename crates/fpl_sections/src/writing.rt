@@ -66,7 +66,7 @@ fn push_terms(out: &mut Vec<u8>, kind: Kind, terms: &Terms) -> Result<(), AllocE
     for n in 0..terms.len() {
         match terms.get(n) {
             None => {}
-            Some(term) => push_term(out, kind, term)?,
+            Some(term) => push_term(out, kind, &term)?,
         }
     }
     Ok(())
@@ -131,7 +131,7 @@ fn push_row(out: &mut Vec<u8>, kind: Kind, row: &ClosedRow) -> Result<(), AllocE
     for n in 0..row.len() {
         match row.get(n) {
             None => {}
-            Some(coefficient) => push_coefficient(out, kind, coefficient)?,
+            Some(coefficient) => push_coefficient(out, kind, &coefficient)?,
         }
     }
     Ok(())

@@ -11,6 +11,6 @@ pub loop-n-preserved : goal.loop-n-preserved
 loop-n-preserved c = elim c.match-get.branch [
   | in-None w ↦ absurd (let l : length c.args.terms.now ≤ c.loop-n.n = past_end c.args.terms.now c.loop-n.n w.in-None.ensures in omega arith)
   | in-Some+in_ok-push_term-in-Some w ↦
-      item_written (term_bytes Two c.args.kind) c.args.terms.now c.loop-n.n w.in-Some.term.now c.args.out.now.items (to_be_bytes w32 (length c.args.terms.now)) c.loop-n.out.items c.match-get.out.items
+      item_written (term_bytes Two c.args.kind) c.args.terms.now c.loop-n.n w.in-Some.term c.args.out.now.items (to_be_bytes w32 (length c.args.terms.now)) c.loop-n.out.items c.match-get.out.items
       w.in-Some.ensures c.loop-n.invariant (ap (λ v. v.items) w.out-is ∙ w.in_ok-push_term-in-Some.ensures)
 ]
