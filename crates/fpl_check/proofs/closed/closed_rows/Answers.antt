@@ -28,17 +28,17 @@ closes_are kind from n m steps conclusions rows e f are is =
 pub test_conclusions-requires-clause-conclusions : goal.test_conclusions-requires-clause-conclusions
 test_conclusions-requires-clause-conclusions g c =
     closes_are c.args.table.now.kind (g.F.Field.kind_of c.field-field.result.now) (length (symbols_in c.args.table.now)) c.args.n c.args.section.now.steps c.args.conclusions c.in-Ok-close_rows.rows
-    c.field-field.ensures c.requires.symbols c.requires.conclusions c.in-Ok-close_rows.ensures
+    c.field-field.ensures c.requires.symbols c.requires.conclusions (c.in-Ok-close_rows.ensures ∙ ap (close_rows c.args.section.now.steps) c.into_vec.ensures)
 
 pub test_rows-requires-clause-rows : goal.test_rows-requires-clause-rows
 test_rows-requires-clause-rows g c =
     closes_are c.args.table.now.kind (g.F.Field.kind_of c.field-field.result.now) (length (symbols_in c.args.table.now)) c.args.n c.args.section.now.steps c.args.conclusions c.in-Ok-close_rows.rows
-    c.field-field.ensures c.requires.symbols c.requires.conclusions c.in-Ok-close_rows.ensures
+    c.field-field.ensures c.requires.symbols c.requires.conclusions (c.in-Ok-close_rows.ensures ∙ ap (close_rows c.args.section.now.steps) c.into_vec.ensures)
 
 pub test_rows-requires-clause-few : goal.test_rows-requires-clause-few
 test_rows-requires-clause-few g c =
     let count = same_count _ _ (demanded _ _ _ c.in-Ok.ensures) in
-    let long = ap length c.in-Ok-close_rows.ensures ∙ close_length c.args.section.now.steps c.args.conclusions c.requires.whole in
+    let long = ap length (c.in-Ok-close_rows.ensures ∙ ap (close_rows c.args.section.now.steps) c.into_vec.ensures) ∙ close_length c.args.section.now.steps c.args.conclusions c.requires.whole in
     let few = c.requires.section.few in
     omega (arith, count, long, few)
 
@@ -61,13 +61,13 @@ module _ (T : PlainTable) (listed : IsField T.kind) (s : Section) (section : IsS
 pub returns-in-Ok-test_rows-clause-value : goal.returns-in-Ok-test_rows-clause-value
 returns-in-Ok-test_rows-clause-value g c =
     ap (λ (t : Result (Unit {0}) Refusal). passing t (Ok (rows_stored c.args.table.now c.args.section.now))) (rest_is c.args.table.now (subst IsField c.field-field.ensures (g.met.F.Field.is_field c.field-field.result.now)) c.args.section.now c.requires.section c.args.n c.args.conclusions c.in-Ok-close_rows.rows
-    c.requires.symbols c.requires.conclusions c.requires.whole c.in-Ok-close_rows.ensures c.in-Ok.ensures c.in-Ok-test_forms.ensures c.in-Ok-test_conclusions.ensures
+    c.requires.symbols c.requires.conclusions c.requires.whole (c.in-Ok-close_rows.ensures ∙ ap (close_rows c.args.section.now.steps) c.into_vec.ensures) c.in-Ok.ensures c.in-Ok-test_forms.ensures c.in-Ok-test_conclusions.ensures
     ∙ c.in-Ok-test_rows.ensures.value)
     ∙ ap Ok (rows_are c.args.table.now (subst IsField c.field-field.ensures (g.met.F.Field.is_field c.field-field.result.now)) c.args.section.now c.requires.section c.args.n c.args.conclusions c.in-Ok-close_rows.rows
-    c.requires.symbols c.requires.conclusions c.requires.whole c.in-Ok-close_rows.ensures c.in-Ok.ensures c.in-Ok-test_forms.ensures c.in-Ok-test_conclusions.ensures)
+    c.requires.symbols c.requires.conclusions c.requires.whole (c.in-Ok-close_rows.ensures ∙ ap (close_rows c.args.section.now.steps) c.into_vec.ensures) c.in-Ok.ensures c.in-Ok-test_forms.ensures c.in-Ok-test_conclusions.ensures)
 
 pub returns-in-Err-test_rows-clause-value : goal.returns-in-Err-test_rows-clause-value
 returns-in-Err-test_rows-clause-value g c =
     refused c.in-Err-test_rows.fault (test_closed c.args.table.now c.args.section.now c.args.conclusions) (Ok (rows_stored c.args.table.now c.args.section.now))
     (same_refusal c.in-Err-test_rows.fault _ _ (rest_is c.args.table.now (subst IsField c.field-field.ensures (g.met.F.Field.is_field c.field-field.result.now)) c.args.section.now c.requires.section c.args.n c.args.conclusions c.in-Ok-close_rows.rows
-    c.requires.symbols c.requires.conclusions c.requires.whole c.in-Ok-close_rows.ensures c.in-Ok.ensures c.in-Ok-test_forms.ensures c.in-Ok-test_conclusions.ensures) c.in-Err-test_rows.ensures.value)
+    c.requires.symbols c.requires.conclusions c.requires.whole (c.in-Ok-close_rows.ensures ∙ ap (close_rows c.args.section.now.steps) c.into_vec.ensures) c.in-Ok.ensures c.in-Ok-test_forms.ensures c.in-Ok-test_conclusions.ensures) c.in-Err-test_rows.ensures.value)
