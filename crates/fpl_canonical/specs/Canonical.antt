@@ -1,7 +1,5 @@
 -- The canonical text of a presentation: one line for each item, in which every generator has its weight and every relation both sides.
 --
---   names_of p             the names of a presentation's generators, in order of declaration
---   name_text names g      the name of a generator, which count from 1
 --   opening b, closing b, in_parentheses b t   parentheses where b says so, and the text t in them
 --   encloses_sum, encloses_multiple   whether an expression that stands there needs parentheses: a sum as a member or a factor, a multiple as a factor
 --   own_sign stand c       the sign of a multiple's number, which the sum writes where the multiple is its member
@@ -12,24 +10,18 @@
 --   field_line, generator_line, equation_line, ideal_line   the lines of these items
 --   lines line xs          the lines of a list's members, in order
 --   canonical_of p         field; generators; relations; ideal elements; queries
-use Rattle.std.specs.Prelude.{ℕ, ◌-◌, List, [], ◌∷◌, ◌++◌, map, get_or, Bool, true, false, if◌then◌else◌, codes, decimal}
+use Rattle.std.specs.Prelude.{ℕ, List, [], ◌∷◌, ◌++◌, Bool, true, false, if◌then◌else◌, codes, decimal}
 use Rattle.fpl_numbers.specs.declared.number.Num.{Num}
 use Rattle.fpl_numbers.specs.declared.number.Kind.{Kind}
 use Rattle.fpl_algebra.specs.Tree.{Tree, Trees, gen, none, sum_of, multiple, bracket_of, end, more}
-use Rattle.fpl_model.specs.Meaning.{plain}
+use Rattle.fpl_model.specs.Meaning.{plain, parity_in}
 use Rattle.fpl_model.specs.declared.expr.Expr.{Expr}
 use Rattle.fpl_model.specs.declared.presentation.Generator.{Generator}
 use Rattle.fpl_model.specs.declared.presentation.Equation.{Equation}
 use Rattle.fpl_model.specs.declared.presentation.Presentation.{Presentation}
 use Rattle.fpl_canonical.specs.declared.expression.Stand.{Stand}
 use Rattle.fpl_canonical.specs.declared.expression.Stand.TheVariants.{Alone, Member, Factor}
-use Rattle.fpl_canonical.specs.Numerals.{field_text, parity_text, is_below_nought, magnitude_text, sign_text}
-
-abbrev pub names_of : Presentation → List (List ℕ)
-names_of p = map (λ g. g.name) p.generators
-
-abbrev pub name_text : (names : List (List ℕ)) → ℕ → List ℕ
-name_text names g = get_or names (g - 1) []
+use Rattle.fpl_spelling.specs.Spelling.{field_text, parity_text, names_of, name_text, is_below_nought, magnitude_text, sign_text}
 
 abbrev pub opening : Bool → List ℕ
 opening b = if b then codes "(" else []
@@ -81,7 +73,7 @@ abbrev pub field_line : Kind → List ℕ
 field_line k = codes "field " ++ field_text k ++ codes ";\n"
 
 abbrev pub generator_line : Generator → List ℕ
-generator_line g = parity_text g.parity ++ codes " " ++ g.name ++ codes ":" ++ decimal g.weight ++ codes ";\n"
+generator_line g = parity_text (parity_in g.parity) ++ codes " " ++ g.name ++ codes ":" ++ decimal g.weight ++ codes ";\n"
 
 abbrev pub equation_line : (word : List ℕ) → Presentation → Equation → List ℕ
 equation_line word p q = word ++ side_text p q.left ++ codes " = " ++ side_text p q.right ++ codes ";\n"

@@ -2,11 +2,11 @@
 ghost use Rattle.std.specs.Prelude.{◌≡◌, ◌++◌, true, map, OnOk};
 ghost use Rattle.fpl_algebra.specs.Tree.{trees};
 ghost use Rattle.fpl_model.specs.Meaning.{plain};
-ghost use Rattle.fpl_canonical.specs.Canonical.{name_text, opening, closing, encloses_sum, encloses_multiple, own_sign, begins_below, expression_text, sum_text};
+ghost use Rattle.fpl_canonical.specs.Canonical.{opening, closing, encloses_sum, encloses_multiple, own_sign, begins_below, expression_text, sum_text};
 
-use crate::numerals::{is_below_nought, push_magnitude, push_sign};
 use fpl_model::{Expr, Exprs, Generators};
 use fpl_numbers::Num;
+use fpl_spelling::{is_below_nought, push_magnitude, push_name, push_sign};
 use std::alloc::AllocError;
 
 /// Where an expression stands.
@@ -18,15 +18,6 @@ pub enum Stand {
     Member,
     /// Behind a number.
     Factor,
-}
-
-fn push_name(out: &mut Vec<u8>, generators: &Generators, g: u32) -> Result<(), AllocError>
-    ensures { OnOk result (out.new.items ≡ out.old.items ++ name_text (map (λ g. g.name) generators.now) g) }
-{
-    match generators.get(g.saturating_sub(1) as usize) {
-        Some(generator) => out.extend_from_slice(generator.name.text().as_bytes()),
-        None => Ok(()),
-    }
 }
 
 fn encloses_sum(stand: Stand) -> bool

@@ -2,7 +2,6 @@
 #![tactic(auto)]
 
 mod expression;
-mod numerals;
 mod writing;
 
 pub use expression::Stand;

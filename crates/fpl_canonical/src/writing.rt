@@ -1,10 +1,11 @@
 //! The lines of a presentation.
 ghost use Rattle.std.specs.Prelude.{◌≡◌, ◌++◌, map, codes, IfOk, OnOk};
-ghost use Rattle.fpl_canonical.specs.Canonical.{names_of, side_text, field_line, generator_line, equation_line, ideal_line, lines, canonical_of};
+ghost use Rattle.fpl_spelling.specs.Spelling.{names_of};
+ghost use Rattle.fpl_canonical.specs.Canonical.{side_text, field_line, generator_line, equation_line, ideal_line, lines, canonical_of};
 
 use crate::expression::{Stand, push_expression};
-use crate::numerals::{push_field, push_number, push_parity};
 use fpl_model::{Equation, Expr, Generator, Presentation};
+use fpl_spelling::{push_field, push_number, push_parity};
 use std::alloc::{AllocError, Global};
 
 fn push_field_line(out: &mut Vec<u8>, p: &Presentation) -> Result<(), AllocError>

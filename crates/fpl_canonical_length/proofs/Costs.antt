@@ -18,7 +18,7 @@ use Rattle.fpl_round_trip.proofs.Written.{zero_text}
 use Rattle.fpl_algebra.specs.Tree.{Tree, Trees, gen, none, sum_of, multiple, bracket_of, more}
 use Rattle.fpl_syntax.specs.Grammar.{signed, or_nought, coefficient_of}
 use Rattle.fpl_canonical.specs.declared.expression.Stand.TheVariants.{Alone, Member, Factor as Behind}
-use Rattle.fpl_canonical.specs.Numerals.{is_below_nought, below_text, magnitude_text, sign_text}
+use Rattle.fpl_spelling.specs.Spelling.{is_below_nought, below_text, magnitude_text, sign_text}
 use Rattle.fpl_canonical.specs.Canonical.{begins_below, in_parentheses, expression_text, sum_text}
 
 -- texts of expressions

@@ -25,7 +25,7 @@ use Rattle.fpl_reader.specs.declared.survey.Event.TheVariants.{Used}
 use Rattle.fpl_reader.specs.Events.{events_scale, events_sum, events_terms, events_factor}
 use Rattle.fpl_reader.specs.Reading.{or_else, first_place, unknown_in, scope_of}
 use Rattle.fpl_reader.proofs.Terms.{first_place-append}
-use Rattle.fpl_canonical.specs.Numerals.{magnitude_text, sign_text}
+use Rattle.fpl_spelling.specs.Spelling.{magnitude_text, sign_text}
 use Rattle.fpl_canonical.specs.Canonical.{begins_below, sum_text}
 use Rattle.fpl_round_trip.proofs.NameSymbols.{names}
 use Rattle.fpl_round_trip.proofs.Written.{zero_text, term_whole, term_quotient}

@@ -12,7 +12,7 @@ use Rattle.fpl_model.specs.declared.presentation.Parity.TheVariants.{Even, Odd}
 use Rattle.fpl_model.specs.declared.presentation.Generator.{Generator}
 use Rattle.fpl_model.specs.declared.presentation.Equation.{Equation}
 use Rattle.fpl_model.specs.declared.presentation.Presentation.{Presentation}
-use Rattle.fpl_model.specs.Meaning.{plain}
+use Rattle.fpl_model.specs.Meaning.{plain, parity_in}
 use Rattle.fpl_model.proofs.Plain.{plain-Zero}
 use Rattle.fpl_syntax.specs.declared.symbol.Symbol.{Symbol}
 use Rattle.fpl_syntax.specs.declared.symbol.Symbol.TheVariants as mark
@@ -28,8 +28,8 @@ use Rattle.fpl_reader.proofs.Allowed.{have_weights, few_names, known_kind}
 use Rattle.fpl_reader.proofs.DeclaredNames.{AreNames}
 use Rattle.fpl_reader.proofs.Readings.{unless_none, early_none_rest, text_names_of}
 use Rattle.fpl_reader.proofs.Terms.{first_place-append, or_else-none}
-use Rattle.fpl_canonical.specs.Numerals.{parity_text}
-use Rattle.fpl_canonical.specs.Canonical.{names_of, side_text, field_line, generator_line, equation_line, ideal_line, lines, canonical_of}
+use Rattle.fpl_spelling.specs.Spelling.{parity_text, names_of}
+use Rattle.fpl_canonical.specs.Canonical.{side_text, field_line, generator_line, equation_line, ideal_line, lines, canonical_of}
 use Rattle.fpl_round_trip.proofs.Coefficients.{listed_small}
 use Rattle.fpl_canonical_length.proofs.Sizes.{sizes, text_sizes}
 use Rattle.fpl_canonical_length.proofs.Costs.{alone}
@@ -46,13 +46,13 @@ equation_long word p q =
 ideal_long : (p : Presentation) (x : Expr) → length (ideal_line p x) ≡ alone (names_of p) (plain x) + 8
 ideal_long p x = let L = side_text p x in omega (arith, length-append (codes "ideal " ++ L) (codes ";\n"), length-append (codes "ideal ") L)
 
-parity_short : (s : Parity) → length (parity_text s) ≤ 4
+parity_short : (s : Parity) → length (parity_text (parity_in s)) ≤ 4
 parity_short Even = omega arith
 parity_short Odd = omega arith
 
 generator_short : (g : Generator) → length g.name ≤ 32 → g.weight ≤ 1000 → length (generator_line g) ≤ 44
 generator_short g l m =
-    let P = parity_text g.parity in
+    let P = parity_text (parity_in g.parity) in
     let D = decimal g.weight in
     omega (
       arith,

@@ -1,11 +1,10 @@
 -- The symbols of a weight are entries of the table, and the numbers of images and entries are elements.
-use Rattle.std.proofs.Common.{◌≡◌, ℕ, ◌+◌, ◌-◌, ◌<◌, ◌≤◌, ◌⊎◌, inl, inr, List, [], ◌∷◌, ◌++◌, Bool, true, false, cond, length, map, get_or, zero, suc, refl, sym, ap, subst, arith, rules, nat_eq, nat_lt}
-use Rattle.std.specs.Prelude.{All, filter, count_by, nat_le}
+use Rattle.std.proofs.Common.{◌≡◌, ℕ, ◌+◌, ◌-◌, ◌<◌, ◌≤◌, List, [], ◌∷◌, Bool, true, false, cond, length, map, get_or, zero, suc, refl, sym, subst, arith, nat_eq, nat_lt}
+use Rattle.std.specs.Prelude.{All}
 use Rattle.std.proofs.lemmas.Grind.{common_steps}
 use Rattle.std.proofs.Math.ListN.{get_or-map, length-map}
-use Rattle.std.proofs.lemmas.List.Elements.{All-append, All-get_or, filter-append}
+use Rattle.std.proofs.lemmas.List.Elements.{All-append}
 use native.Mathlib.Decide.{dec_lt, ℕ_discrete}
-use Rattle.fpl_numbers.specs.declared.number.Num.{Num}
 use Rattle.fpl_scalar.specs.Vectors.{AreElements}
 use Rattle.fpl_algebra.specs.Tree.{Parity, even, odd}
 use Rattle.fpl_algebra.specs.Table.{Symbol, of_generator, of_pair}

@@ -1,8 +1,7 @@
 -- Tables that hold the same have one text.
-use Rattle.std.proofs.Common.{◌≡◌, ℕ, ◌+◌, ◌-◌, ◌<◌, ◌≤◌, inl, inr, List, [], ◌∷◌, ◌++◌, Bool, true, false, if◌then◌else◌, length, length-append, get_or, zero, suc, refl, sym, ap, ◌∙◌, subst, arith, cond, decimal, codes}
-use Rattle.std.specs.Prelude.{All, filter, count_by, is_some, Option, None, Some}
+use Rattle.std.proofs.Common.{◌≡◌, ℕ, ◌+◌, ◌<◌, ◌≤◌, List, [], ◌∷◌, ◌++◌, Bool, true, if◌then◌else◌, length, get_or, zero, suc, refl, sym, ap, ◌∙◌, arith, cond, codes}
+use Rattle.std.specs.Prelude.{All, filter, count_by, is_some, Some}
 use mathlib.Core.Path.{ap₂}
-use native.Mathlib.Decide.{dec_lt}
 use Rattle.std.proofs.lemmas.Grind.{common_steps}
 use Rattle.std.proofs.lemmas.List.Elements.{All-append, All-filter}
 use Rattle.fpl_numbers.specs.declared.number.Num.{Num}
@@ -11,7 +10,7 @@ use Rattle.fpl_rows.specs.Positions.{lead_of, lead_below}
 use Rattle.fpl_algebra.specs.Table.{Symbol, of_generator, of_pair}
 use Rattle.fpl_algebra.specs.Symbols.{symbols_of}
 use Rattle.fpl_table.specs.Plain.{PlainTable, plain_basis, first_partner, image_row, entry_row, table_in, shell_in}
-use Rattle.fpl_print.specs.Combinations.{terms_text, term_or_nothing, none_after, combination_text}
+use Rattle.fpl_print.specs.Combinations.{terms_text, term_or_nothing, none_after}
 use Rattle.fpl_print.specs.TableText.{text_of, basis_name, basis_line, image_line, is_within, symbols_through, has_value, brackets_of, bracket_line, bracket_lines, head_text, count_line, table_text}
 use Rattle.fpl_print.proofs.Entries.{IsWithin, symbols_within}
 

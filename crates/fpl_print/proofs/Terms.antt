@@ -1,6 +1,6 @@
--- One more term of a combination, and names past the last.
-use Rattle.std.proofs.Common.{◌≡◌, ℕ, ◌+◌, ◌<◌, List, [], ◌∷◌, ◌++◌, Bool, length, drop, get_or, map, sym, ◌∙◌, append_assoc, add-one, drop-cons, zero, suc, refl, None, Some}
-use Rattle.std.specs.Prelude.{slice_get, filter}
+-- One more term of a combination.
+use Rattle.std.proofs.Common.{◌≡◌, ℕ, ◌+◌, ◌<◌, List, [], ◌∷◌, ◌++◌, Bool, length, drop, get_or, map, sym, ◌∙◌, append_assoc, add-one, drop-cons}
+use Rattle.std.specs.Prelude.{filter}
 use Rattle.std.proofs.lemmas.List.Elements.{filter-append}
 use Rattle.fpl_algebra.specs.Table.{Symbol}
 use Rattle.fpl_table.specs.declared.symbol.Symbol as code
@@ -14,11 +14,6 @@ term_step name all out next first then row s c d lt is after more so_far =
     let here : drop s row ≡ c ∷ drop (s + 1) row = rw (is, add-one) (drop-cons row s d lt) in
     let parts : all ≡ out ++ (term_or_nothing name first s c ++ terms_text name (none_after first c) (s + 1) (drop (s + 1) row)) = rw here at so_far in
     rw (more, after) (parts ∙ sym (append_assoc out (term_or_nothing name first s c) (terms_text name (none_after first c) (s + 1) (drop (s + 1) row))))
-
-pub name_past : {A : Type 0} (f : A → List ℕ) (xs : List A) (k : ℕ) → slice_get xs k ≡ None → get_or (map f xs) k [] ≡ []
-name_past f [] k e = refl
-name_past f (x ∷ xs) zero e = cc
-name_past f (x ∷ xs) (suc k) e = name_past f xs k e
 
 -- one more symbol of a list that is filtered
 pub valued_step : (p : Symbol → Bool) (all out next : List Symbol) (xs : List code.Symbol) (i : ℕ) (x d : code.Symbol) → i < length xs → x ≡ get_or xs i d → next ≡ out ++ filter p (symbol_in x ∷ []) →

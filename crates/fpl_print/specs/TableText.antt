@@ -1,5 +1,4 @@
 -- The text of a table. Basis elements and generators count from 0 here, and from 1 in the text.
---   names_of: the names of a presentation's generators, in order of declaration
 --   text_of n line: the texts of 0, .., n - 1, one after the other
 --   basis_name, pair_name: bI and [bI,bJ]
 --   tree_text: a bracket tree, in the names of its generators
@@ -14,22 +13,19 @@
 --   HasElements: the numbers of images and entries are canonical and fit
 --   IsEntry: a symbol of code that is a generator, or a regular pair through the table's weight
 --   table_text: the field and the weight; the basis; the images, by declaration; the brackets
-use Rattle.std.specs.Prelude.{ℕ, zero, suc, ◌+◌, ◌-◌, ◌≤◌, All, List, [], ◌∷◌, ◌++◌, length, get_or, map, filter, count_by, Bool, false, nat_le, is_some, if◌then◌else◌, codes, decimal}
+use Rattle.std.specs.Prelude.{ℕ, zero, suc, ◌+◌, ◌-◌, ◌≤◌, All, List, [], ◌∷◌, ◌++◌, length, get_or, filter, count_by, Bool, false, nat_le, is_some, if◌then◌else◌, codes, decimal}
 use Rattle.fpl_numbers.specs.declared.number.Num.{Num}
 use Rattle.fpl_rows.specs.Positions.{lead_of}
 use Rattle.fpl_algebra.specs.Tree.{Tree, gen, none, sum_of, multiple, bracket_of, Generator}
 use Rattle.fpl_algebra.specs.Table.{Symbol, of_generator, of_pair}
 use Rattle.fpl_algebra.specs.Symbols.{symbols_of}
-use Rattle.fpl_model.specs.declared.presentation.Presentation.{Presentation}
 use Rattle.fpl_table.specs.declared.symbol.Symbol as code
 use Rattle.fpl_table.specs.declared.symbol.Symbol.TheVariants.{Gen, Pair}
 use Rattle.fpl_scalar.specs.Vectors.{AreElements}
 use Rattle.fpl_table.specs.Plain.{PlainTable, plain_basis, first_partner, generator_at, image_row, entry_row, table_in, shell_in}
 use Rattle.fpl_table.specs.Shape.{basis_trees}
-use Rattle.fpl_print.specs.Combinations.{field_text, parity_text, combination_text}
-
-abbrev pub names_of : Presentation → List (List ℕ)
-names_of p = map (λ g. g.name) p.generators
+use Rattle.fpl_spelling.specs.Spelling.{field_text, parity_text, name_text}
+use Rattle.fpl_print.specs.Combinations.{combination_text}
 
 abbrev pub text_of : ℕ → (ℕ → List ℕ) → List ℕ
 text_of zero line = []
@@ -43,7 +39,7 @@ pair_name i j = codes "[" ++ basis_name i ++ codes "," ++ basis_name j ++ codes 
 
 -- the trees of basis elements have generators, counted from 1, and brackets alone
 abbrev pub tree_text : (names : List (List ℕ)) → Tree Num → List ℕ
-tree_text names (gen g) = get_or names (g - 1) []
+tree_text names (gen g) = name_text names g
 tree_text names (bracket_of a b) = codes "[" ++ tree_text names a ++ codes "," ++ tree_text names b ++ codes "]"
 tree_text names none = []
 tree_text names (sum_of es) = []

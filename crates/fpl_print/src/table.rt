@@ -1,5 +1,5 @@
 //! The text of a table.
-ghost use Rattle.std.specs.Prelude.{◌≡◌, ◌≤◌, ◌<◌, ◌+◌, ◌-◌, ◌++◌, [], ◌∷◌, length, map, get_or, codes, filter, count_by, nat_le, All, IfOk, OnOk};
+ghost use Rattle.std.specs.Prelude.{◌≡◌, ◌≤◌, ◌<◌, ◌+◌, ◌-◌, ◌++◌, [], ◌∷◌, length, map, codes, filter, count_by, nat_le, All, IfOk, OnOk};
 ghost use Rattle.fpl_algebra.specs.Tree.{none};
 ghost use Rattle.fpl_numbers.specs.Numbers.{IsElement};
 ghost use Rattle.fpl_scalar.specs.Vectors.{AreElements};
@@ -9,24 +9,17 @@ ghost use Rattle.fpl_algebra.specs.Table.{of_pair};
 ghost use Rattle.fpl_algebra.specs.Symbols.{symbols_of};
 ghost use Rattle.fpl_table.specs.declared.symbol.Symbol.{Symbol};
 ghost use Rattle.fpl_table.specs.Plain.{symbol_in, table_in, shell_in};
+ghost use Rattle.fpl_spelling.specs.Spelling.{names_of};
 ghost use Rattle.fpl_print.specs.Combinations.{combination_text, none_after, term_or_nothing};
-ghost use Rattle.fpl_print.specs.TableText.{HasElements, IsEntry, names_of, text_of, tree_text, basis_name, pair_name, basis_line, is_within, image_line, has_value, brackets_of, bracket_line, bracket_lines, head_text, count_line, table_text};
+ghost use Rattle.fpl_print.specs.TableText.{HasElements, IsEntry, text_of, tree_text, basis_name, pair_name, basis_line, is_within, image_line, has_value, brackets_of, bracket_line, bracket_lines, head_text, count_line, table_text};
 
-use crate::combinations::{push_coefficient, push_field, push_number, push_parity};
+use crate::combinations::push_coefficient;
 use fpl_model::{Generators, Mono, Presentation};
 use fpl_rows::Row;
 use fpl_scalar::Field;
+use fpl_spelling::{push_field, push_name, push_number, push_parity};
 use fpl_table::{Symbol, Table};
 use std::alloc::{AllocError, Global};
-
-fn push_name(out: &mut Vec<u8>, generators: &Generators, g: u32) -> Result<(), AllocError>
-    ensures { OnOk result (out.new.items ≡ out.old.items ++ get_or (map (λ g. g.name) generators.now) (g - 1) []) }
-{
-    match generators.get(g.saturating_sub(1) as usize) {
-        Some(generator) => out.extend_from_slice(generator.name.text().as_bytes()),
-        None => Ok(()),
-    }
-}
 
 #[tactic(auto, using(crate::proofs::Trees::trees))]
 fn push_tree(out: &mut Vec<u8>, generators: &Generators, tree: &Mono) -> Result<(), AllocError>

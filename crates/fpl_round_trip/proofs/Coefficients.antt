@@ -18,7 +18,7 @@ use Rattle.fpl_numbers.proofs.Integers.{abs_of_positive, positive_is}
 use Rattle.fpl_numbers.proofs.KindReads.{listed_prime}
 use Rattle.fpl_lex.specs.Cut.{W}
 use Rattle.fpl_syntax.specs.Grammar.{signed, or_nought, coefficient_of}
-use Rattle.fpl_canonical.specs.Numerals.{is_negative, is_below_nought}
+use Rattle.fpl_spelling.specs.Spelling.{is_negative, is_below_nought}
 
 signed_back : (n : ℤ) → signed (is_negative n) (unsigned_abs n) ≡ n
 signed_back (pos n) = refl

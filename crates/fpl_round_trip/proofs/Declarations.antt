@@ -17,6 +17,7 @@ use Rattle.fpl_numbers.specs.declared.number.Kind.TheVariants.{Rational, Prime}
 use Rattle.fpl_numbers.specs.Numbers.{IsListed, IsField}
 use Rattle.fpl_model.specs.declared.presentation.Parity.{Parity}
 use Rattle.fpl_model.specs.declared.presentation.Parity.TheVariants.{Even, Odd}
+use Rattle.fpl_model.specs.Meaning.{parity_in}
 use Rattle.fpl_model.specs.declared.presentation.Generator.{Generator}
 use Rattle.fpl_model.specs.declared.presentation.Presentation.{Presentation}
 use Rattle.fpl_model.specs.Sound.{HaveWeights, IsSound}
@@ -31,7 +32,7 @@ use Rattle.fpl_reader.specs.declared.fault.Reason.{Reason}
 use Rattle.fpl_reader.specs.declared.fault.Reason.TheVariants as reason
 use Rattle.fpl_reader.specs.Events.{events_of, fields_in, declared_in, field_name_of}
 use Rattle.fpl_reader.specs.Reading.{name_of, generator_of, kind_named, kind_of, scope_of, with_claims, no_field, field_twice, name_twice, bad_prime_named, bad_prime, bad_weight_given, too_many, unless, early_refusal, late_refusal, HasPresentation}
-use Rattle.fpl_canonical.specs.Numerals.{field_text, parity_text}
+use Rattle.fpl_spelling.specs.Spelling.{field_text, parity_text}
 use Rattle.fpl_canonical.specs.Canonical.{field_line, generator_line, equation_line, ideal_line, lines, canonical_of}
 use Rattle.fpl_round_trip.proofs.Coefficients.{listed_small}
 use Rattle.fpl_round_trip.proofs.NameSymbols.{names, AreDistinct, name_symbol, differs}
@@ -41,9 +42,9 @@ use Rattle.fpl_round_trip.proofs.Lines.{or_none, spells_first, spells_line_end, 
 weight_fine : (place n : ℕ) → 1 ≤ n → n ≤ 1000 → bad_weight_given (Some (record { place = place; value = n })) ≡ None
 weight_fine place n l m = ap₂ (λ (x y : Bool). if x && y then None else Some place) (le-leb 1 n l) (le-leb n 1000 m)
 
-generator_shape : (g : Generator) (after : List ℕ) → generator_line g ++ after ≡ parity_text g.parity ++ (32 ∷ (g.name ++ (58 ∷ (decimal g.weight ++ (59 ∷ 10 ∷ after)))))
+generator_shape : (g : Generator) (after : List ℕ) → generator_line g ++ after ≡ parity_text (parity_in g.parity) ++ (32 ∷ (g.name ++ (58 ∷ (decimal g.weight ++ (59 ∷ 10 ∷ after)))))
 generator_shape g after =
-    let P = parity_text g.parity in
+    let P = parity_text (parity_in g.parity) in
     let D = decimal g.weight in
     append_assoc (P ++ codes " " ++ g.name ++ codes ":" ++ D) (codes ";\n") after ∙ append_assoc (P ++ codes " " ++ g.name ++ codes ":") D (59 ∷ 10 ∷ after)
     ∙ append_assoc (P ++ codes " " ++ g.name) (codes ":") (D ++ (59 ∷ 10 ∷ after)) ∙ append_assoc (P ++ codes " ") g.name (58 ∷ (D ++ (59 ∷ 10 ∷ after)))
@@ -53,16 +54,16 @@ module _ (text : List ℕ) (p : Presentation) (known : IsField p.field) (named :
   abbrev IsSaid : List ℕ → List FieldStatement → List Generator → Type 0
   IsSaid rest fs gs = Said text p known named distinct rest fs gs p.relations p.ideals p.queries
 
-  spells_parity : (s : Parity) (rest : List ℕ) (symbols : List Symbol) → IsLeft text (parity_text s ++ (32 ∷ rest)) → Spells text 0 rest symbols → Spells text 0 (parity_text s ++ (32 ∷ rest)) (mark.Declare s ∷ symbols)
+  spells_parity : (s : Parity) (rest : List ℕ) (symbols : List Symbol) → IsLeft text (parity_text (parity_in s) ++ (32 ∷ rest)) → Spells text 0 rest symbols → Spells text 0 (parity_text (parity_in s) ++ (32 ∷ rest)) (mark.Declare s ∷ symbols)
   spells_parity Even rest symbols e s = spells_first text p known named distinct (codes "even") rest symbols refl (omega arith) e s
   spells_parity Odd rest symbols e s = spells_first text p known named distinct (codes "odd") rest symbols refl (omega arith) e s
 
-  said_generator : (g : Generator) (after : List ℕ) (gs : List Generator) → IsName g.name → 1 ≤ g.weight → g.weight ≤ 1000 → IsLeft text (parity_text g.parity ++ (32 ∷ (g.name ++ (58 ∷ (decimal g.weight ++ (59 ∷ 10 ∷ after))))))
-      → IsSaid after [] gs → IsSaid (parity_text g.parity ++ (32 ∷ (g.name ++ (58 ∷ (decimal g.weight ++ (59 ∷ 10 ∷ after)))))) [] (g ∷ gs)
+  said_generator : (g : Generator) (after : List ℕ) (gs : List Generator) → IsName g.name → 1 ≤ g.weight → g.weight ≤ 1000 → IsLeft text (parity_text (parity_in g.parity) ++ (32 ∷ (g.name ++ (58 ∷ (decimal g.weight ++ (59 ∷ 10 ∷ after))))))
+      → IsSaid after [] gs → IsSaid (parity_text (parity_in g.parity) ++ (32 ∷ (g.name ++ (58 ∷ (decimal g.weight ++ (59 ∷ 10 ∷ after)))))) [] (g ∷ gs)
   said_generator g after gs is l m e0 said =
       let D = decimal g.weight in
       let rest = g.name ++ (58 ∷ (D ++ (59 ∷ 10 ∷ after))) in
-      let e1 = later text (parity_text g.parity) (32 ∷ rest) e0 in
+      let e1 = later text (parity_text (parity_in g.parity)) (32 ∷ rest) e0 in
       let e2 = later text (32 ∷ []) rest e1 in
       let e3 = later text g.name (58 ∷ (D ++ (59 ∷ 10 ∷ after))) e2 in
       let e4 = later text (58 ∷ []) (D ++ (59 ∷ 10 ∷ after)) e3 in

@@ -27,7 +27,7 @@ use Rattle.fpl_reader.specs.declared.survey.Event.{Event}
 use Rattle.fpl_reader.specs.Events.{events_scale, events_sum, events_terms, events_factor}
 use Rattle.fpl_reader.specs.Reading.{or_else, first_place, unknown_in, zero_in, scope_of}
 use Rattle.fpl_canonical.specs.declared.expression.Stand.TheVariants.{Alone, Member, Factor as Behind}
-use Rattle.fpl_canonical.specs.Numerals.{is_below_nought, below_text, magnitude_text, sign_text}
+use Rattle.fpl_spelling.specs.Spelling.{is_below_nought, below_text, magnitude_text, sign_text}
 use Rattle.fpl_canonical.specs.Canonical.{begins_below, expression_text, sum_text}
 use Rattle.fpl_reader.proofs.Terms.{or_else-none}
 use Rattle.fpl_round_trip.proofs.NameSymbols.{names, AreDistinct, name_symbol, number_there}

@@ -5,7 +5,8 @@ use Rattle.std.specs.declared.option.Option.{Option}
 use Rattle.fpl_outside.specs.Outside.{Takes}
 use Rattle.fpl_outside.proofs.Pieces.{takes_nothing}
 use Rattle.fpl_table.specs.Standard.{IsTableOf}
-use Rattle.fpl_print.specs.TableText.{table_text, names_of}
+use Rattle.fpl_spelling.specs.Spelling.{names_of}
+use Rattle.fpl_print.specs.TableText.{table_text}
 use Rattle.fpl_resume.specs.declared.stop.Stop as code
 use Rattle.fpl_resume.specs.declared.stop.Stop.TheVariants as told
 use Rattle.fpl_resume.specs.Stops.{PlainRun, stored_in, IsStop}

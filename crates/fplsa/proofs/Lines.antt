@@ -3,7 +3,7 @@ use Rattle.std.proofs.Common.{List, ℕ, ◌+◌, ◌<◌, [], ◌∷◌, ◌++�
 use Rattle.std.proofs.lemmas.List.{append-nil, take-append-drop}
 use Rattle.std.proofs.lemmas.Grind.{fold-append, take_at_read}
 use Rattle.std.specs.Prelude.{OnOk, OnErr, nat_eq, false, codes, decimal}
-use Rattle.fpl_print.specs.Combinations.{below_text}
+use Rattle.fpl_spelling.specs.Spelling.{below_text}
 use Rattle.std.specs.declared.option.Option.{Option}
 use Rattle.std.specs.declared.result.Result.{Result}
 use Rattle.fpl_outside.specs.Outside.{Takes}

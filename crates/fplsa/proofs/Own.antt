@@ -6,7 +6,8 @@ use Rattle.std.specs.declared.option.Option.{Option}
 use Rattle.fpl_model.specs.declared.presentation.Presentation.{Presentation}
 use Rattle.fpl_table.specs.Plain.{PlainTable}
 use Rattle.fpl_table.specs.Standard.{IsTableOf}
-use Rattle.fpl_print.specs.TableText.{table_text, names_of}
+use Rattle.fpl_spelling.specs.Spelling.{names_of}
+use Rattle.fpl_print.specs.TableText.{table_text}
 use Rattle.fpl_checkpoint.specs.declared.head.Head.{Head}
 use Rattle.fpl_checkpoint.specs.Scans.{HasHead}
 use Rattle.fpl_checkpoint.proofs.OneHead.{not_bad}

@@ -11,7 +11,8 @@ use Rattle.fpl_canonical.specs.Canonical.{canonical_of}
 use Rattle.fpl_canonical_length.proofs.Texts.{canonical_short}
 use Rattle.fpl_table.specs.Plain.{PlainTable}
 use Rattle.fpl_table.specs.Standard.{IsTableOf}
-use Rattle.fpl_print.specs.TableText.{table_text, names_of}
+use Rattle.fpl_spelling.specs.Spelling.{names_of}
+use Rattle.fpl_print.specs.TableText.{table_text}
 use Rattle.fpl_checkpoint.specs.declared.head.Head.{Head}
 use Rattle.fpl_checkpoint.specs.Heads.{head_bytes_of}
 use Rattle.fpl_checkpoint.specs.Scans.{HasHead}

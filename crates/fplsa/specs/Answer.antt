@@ -18,7 +18,8 @@ use Rattle.fpl_reader.specs.declared.fault.Reason.{Reason}
 use Rattle.fpl_reader.specs.declared.fault.Reason.TheVariants.{BadByte, NumberTooLarge, NameTooLong, TooDeep, Syntax, NoField, FieldTwice, BadPrime, NameTwice, BadWeight, TooManyGenerators, UnknownName, ZeroDenominator, MixedWeight, MixedParity}
 use Rattle.fpl_reader.specs.Reading.{HasPresentation, IsRefused}
 use Rattle.fpl_table.specs.Standard.{IsTableOf}
-use Rattle.fpl_print.specs.TableText.{table_text, names_of}
+use Rattle.fpl_spelling.specs.Spelling.{names_of}
+use Rattle.fpl_print.specs.TableText.{table_text}
 use Rattle.fplsa.specs.declared.words.View.{View}
 use Rattle.fplsa.specs.declared.words.View.TheVariants.{Table, Checkpoint, Check, Sample}
 use Rattle.fplsa.specs.declared.words.Command.{Command}

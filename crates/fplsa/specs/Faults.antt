@@ -12,7 +12,7 @@ use Rattle.fpl_check.specs.declared.fault.Spot.{Spot}
 use Rattle.fpl_check.specs.declared.fault.Spot.TheVariants.{Step, Whole, Closed, Origin}
 use Rattle.fpl_check.specs.declared.fault.Why.{Why}
 use Rattle.fpl_check.specs.declared.fault.Why.TheVariants.{BadOrigin, BadCite, Remainder, Count, OriginCount, RowForm, Differs, NotClosed}
-use Rattle.fpl_print.specs.Combinations.{number_text}
+use Rattle.fpl_spelling.specs.Spelling.{number_text}
 
 abbrev pub byte_text : ByteWhy → List ℕ
 byte_text NotCheckpoint = codes "not a checkpoint"

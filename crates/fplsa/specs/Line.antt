@@ -2,7 +2,7 @@
 --   piece_text: the text of a piece
 --   pieces_text: the texts of pieces, one after another
 use Rattle.std.specs.Prelude.{ℕ, List, [], ◌++◌, fold, decimal}
-use Rattle.fpl_print.specs.Combinations.{number_text}
+use Rattle.fpl_spelling.specs.Spelling.{number_text}
 use Rattle.fplsa.specs.declared.line.Piece.{Piece}
 use Rattle.fplsa.specs.declared.line.Piece.TheVariants.{Text, Count, Number}
 

@@ -2,7 +2,7 @@
 ghost use Rattle.std.specs.Prelude.{◌≡◌, ◌≤◌, ◌++◌, codes, decimal, true, OnOk, OnErr};
 ghost use Rattle.fpl_outside.specs.Outside.{Rose, Takes};
 ghost use Rattle.fpl_outside.specs.Whole.{WrotePrefix};
-ghost use Rattle.fpl_print.specs.Combinations.{below_text, magnitude_text, number_text, sign_text, is_below_nought};
+ghost use Rattle.fpl_spelling.specs.Spelling.{below_text, magnitude_text, number_text, sign_text, is_below_nought};
 ghost use Rattle.fplsa.specs.Reply.{Reply, line_of, fault_line, op_text, refused};
 ghost use Rattle.fpl_complete.specs.State.{unfit_of};
 ghost use Rattle.fpl_resume.specs.Walk.{too_many, bad_bytes, bad_section, overflow};

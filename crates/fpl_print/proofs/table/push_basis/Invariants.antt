@@ -1,5 +1,6 @@
 use Rattle.std.proofs.Common.{◌≡◌, ◌++◌}
-use Rattle.fpl_print.specs.TableText.{names_of, text_of, basis_line}
+use Rattle.fpl_spelling.specs.Spelling.{names_of}
+use Rattle.fpl_print.specs.TableText.{text_of, basis_line}
 use Rattle.fpl_print.proofs.table.push_basis.Given as goal
 
 abbrev pub invariant-loop-i : goal.invariant-loop-i

@@ -1,5 +1,6 @@
 use Rattle.std.proofs.Common.{◌≡◌, ◌++◌}
-use Rattle.fpl_print.specs.TableText.{names_of, text_of, image_line}
+use Rattle.fpl_spelling.specs.Spelling.{names_of}
+use Rattle.fpl_print.specs.TableText.{text_of, image_line}
 use Rattle.fpl_print.proofs.table.push_images.Given as goal
 
 abbrev pub invariant-loop-g : goal.invariant-loop-g

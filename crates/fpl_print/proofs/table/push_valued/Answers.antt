@@ -1,5 +1,4 @@
-use Rattle.std.proofs.Common.{◌≡◌, ◌++◌, ◌∷◌, [], ◌<◌, length, get_or, map, arith, refl, ◌+◌}
-use Rattle.std.specs.Prelude.{filter}
+use Rattle.std.proofs.Common.{◌<◌, length, map, arith, refl}
 use Rattle.fpl_table.specs.Plain.{symbol_in}
 use Rattle.fpl_print.specs.TableText.{has_value}
 use Rattle.fpl_print.proofs.Terms.{valued_step}

@@ -2,7 +2,7 @@ use Rattle.std.proofs.Common.{◌≡◌, decimal, subst, rules}
 use Rattle.std.specs.Prelude.{unsigned_abs, OnErr}
 use Rattle.fpl_outside.specs.Outside.{Takes}
 use Rattle.fpl_outside.specs.Whole.{WrotePrefix}
-use Rattle.fpl_print.specs.Combinations.{below_text}
+use Rattle.fpl_spelling.specs.Spelling.{below_text}
 use Rattle.fplsa.proofs.Lines.{on_err_after}
 use Rattle.fplsa.proofs.line.put_magnitude.Goals as goal
 

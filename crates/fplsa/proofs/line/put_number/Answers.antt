@@ -1,6 +1,6 @@
 use Rattle.std.proofs.Common.{true, subst}
 use Rattle.fpl_outside.specs.Outside.{Takes}
-use Rattle.fpl_print.specs.Combinations.{magnitude_text, sign_text, is_below_nought}
+use Rattle.fpl_spelling.specs.Spelling.{magnitude_text, sign_text, is_below_nought}
 use Rattle.fplsa.proofs.Lines.{on_err_after}
 use Rattle.fplsa.proofs.line.put_number.Goals as goal
 

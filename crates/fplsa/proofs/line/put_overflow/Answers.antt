@@ -3,7 +3,7 @@ use Rattle.std.specs.Prelude.{OnOk, OnErr}
 use Rattle.fpl_outside.specs.Outside.{Takes}
 use Rattle.fpl_outside.specs.Whole.{WrotePrefix}
 use Rattle.fpl_numbers.specs.declared.number.Num.{Num}
-use Rattle.fpl_print.specs.Combinations.{number_text}
+use Rattle.fpl_spelling.specs.Spelling.{number_text}
 use Rattle.fplsa.proofs.line.put_overflow.Goals as goal
 
 line_with : ℕ → List ℕ → Num → Num → List ℕ

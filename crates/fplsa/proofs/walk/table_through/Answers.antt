@@ -3,7 +3,8 @@ use Rattle.std.specs.Prelude.{IfOk}
 use mathlib.Core.Path.{ap₂}
 use Rattle.fpl_table.specs.Plain.{PlainTable}
 use Rattle.fpl_table.specs.Standard.{IsTableOf}
-use Rattle.fpl_print.specs.TableText.{table_text, names_of}
+use Rattle.fpl_spelling.specs.Spelling.{names_of}
+use Rattle.fpl_print.specs.TableText.{table_text}
 use Rattle.fpl_resume.specs.Walk.{Walked, stopped}
 use Rattle.fplsa.specs.Reply.{done}
 use Rattle.fplsa.specs.Start.{walk_for}

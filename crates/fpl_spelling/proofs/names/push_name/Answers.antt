@@ -1,8 +1,8 @@
 use Rattle.std.proofs.Common.{◌≡◌, None, rules, sym}
 use Rattle.std.specs.Prelude.{slice_get}
 use Rattle.std.proofs.lemmas.List.{append-nil}
-use Rattle.fpl_canonical.proofs.Names.{name_past}
-use Rattle.fpl_canonical.proofs.expression.push_name.Goals as goal
+use Rattle.fpl_spelling.proofs.NamesPast.{name_past}
+use Rattle.fpl_spelling.proofs.names.push_name.Goals as goal
 
 pub returns-in-None : goal.returns-in-None
 returns-in-None c =
