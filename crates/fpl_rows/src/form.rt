@@ -1,13 +1,14 @@
-ghost use Rattle.std.specs.Prelude.{◌≡◌, ◌≤◌, ◌<◌, ◌^◌, length, map};
+ghost use Rattle.std.specs.Prelude.{◌≡◌, ◌≤◌, ◌<◌, ◌^◌, length, map, IfOk};
 ghost use Rattle.fpl_numbers.specs.Numbers.{IsElement};
 ghost use Rattle.fpl_numbers.specs.Results.{Answers};
 ghost use Rattle.fpl_scalar.specs.Vectors.{AreElements, axpy_of};
 ghost use Rattle.fpl_rows.specs.Forms.{numbers_in};
+ghost use Rattle.fpl_rows.specs.Packing.{IsPacking, spread};
 
-use crate::packed::Packed;
+use crate::packed::{Packed, spread_out};
 use crate::places;
 use fpl_scalar::{Field, Kind, Unfit};
-use std::alloc::Global;
+use std::alloc::{AllocError, Global};
 
 /// How a row keeps its numbers.
 #[derive(Drop)]
@@ -29,6 +30,24 @@ fn most_packed(kind: Kind, length: usize) -> usize {
 }
 
 impl<F: Field> Form<F> {
+    /// These numbers at these of `size` places, and 0 elsewhere, in the better form.
+    pub fn spread(
+        alloc: Global,
+        field: &F,
+        size: u32,
+        places: &[u32],
+        numbers: &[F::Elem],
+    ) -> Result<Form<F>, AllocError>
+        requires { IsPacking size places.now (length numbers.now) }
+        ensures { IfOk result (λ form. numbers_in F.number form ≡ spread size places.now (map F.number numbers.now)) }
+    {
+        if places.len() <= most_packed(field.kind(), size as usize) {
+            Ok(Form::Sparse(Packed::spread(alloc, size, places, numbers)?))
+        } else {
+            Ok(Form::Dense(spread_out(alloc, field, size, places, numbers)?))
+        }
+    }
+
     /// The same numbers, packed where that is better. Where memory is wanting they stay as they are.
     pub fn packed(self, alloc: Global, field: &F) -> Form<F>
         requires few { length (numbers_in F.number self) < 2 ^ 32 }

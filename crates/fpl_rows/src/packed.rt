@@ -124,6 +124,22 @@ fn write_at<F: Field>(row: &mut [F::Elem], size: u32, places: &[u32], numbers: &
     }
 }
 
+/// `size` numbers: these at these places, and 0 elsewhere.
+pub fn spread_out<F: Field>(
+    alloc: Global,
+    field: &F,
+    size: u32,
+    places: &[u32],
+    numbers: &[F::Elem],
+) -> Result<Vec<F::Elem>, AllocError>
+    requires { IsPacking size places.now (length numbers.now) }
+    ensures { IfOk result (λ row. map F.number row.items ≡ spread size places.now (map F.number numbers.now)) }
+{
+    let mut row = zeros(alloc, field, size)?;
+    write_at::<F>(&mut row, size, places, numbers);
+    Ok(row)
+}
+
 /// `size` zeros.
 pub fn zeros<F: Field>(alloc: Global, field: &F, size: u32) -> Result<Vec<F::Elem>, AllocError>
     ensures value { IfOk result (λ row. map F.number row.items ≡ replicate size (residue 0)) }
@@ -155,14 +171,27 @@ impl<F: Field> Packed<F> {
         })
     }
 
+    /// The row of `size` places with these numbers at these places, and 0 elsewhere.
+    pub fn spread(
+        alloc: Global,
+        size: u32,
+        places: &[u32],
+        numbers: &[F::Elem],
+    ) -> Result<Packed<F>, AllocError>
+        requires { IsPacking size places.now (length numbers.now) }
+        ensures { IfOk result (λ packed. packed ≡ spread size places.now (map F.number numbers.now)) }
+    {
+        Ok(Packed {
+            size,
+            places: Vec::from_slice(alloc, places)?,
+            numbers: Vec::from_slice(alloc, numbers)?,
+        })
+    }
+
     pub fn copy(&self, alloc: Global) -> Result<Packed<F>, AllocError>
         ensures { IfOk result (λ packed. packed ≡ self.now) }
     {
-        Ok(Packed {
-            size: self.size,
-            places: Vec::from_slice(alloc, &self.places)?,
-            numbers: Vec::from_slice(alloc, &self.numbers)?,
-        })
+        Packed::spread(alloc, self.size, &self.places, &self.numbers)
     }
 
     pub fn len(&self) -> u32
@@ -224,8 +253,6 @@ impl<F: Field> Packed<F> {
         ensures { IfOk result (λ row. map F.number row.items ≡ self.now) }
     {
         let alloc = *self.places.allocator();
-        let mut row = zeros(alloc, field, self.size)?;
-        write_at::<F>(&mut row, self.size, &self.places, &self.numbers);
-        Ok(row)
+        spread_out(alloc, field, self.size, &self.places, &self.numbers)
     }
 }

@@ -3,6 +3,7 @@ ghost use Rattle.fpl_numbers.specs.Numbers.{IsElement, residue};
 ghost use Rattle.fpl_numbers.specs.Results.{Gives};
 ghost use Rattle.fpl_scalar.specs.Vectors.{AreElements, axpy_of, scale_of};
 ghost use Rattle.fpl_rows.specs.Positions.{lead_below, lead_of, next_of, added_at};
+ghost use Rattle.fpl_rows.specs.Packing.{IsPacking, spread};
 
 use crate::form::Form;
 use crate::packed::zeros;
@@ -52,6 +53,25 @@ impl<F: Field> Row<F> {
             field: *field,
             form: Form::Dense(numbers),
         }
+    }
+
+    /// The row of `size` positions that has these numbers at these places, and 0 elsewhere, in
+    /// the form that takes less memory. Places count from 0 and ascend: place k is position
+    /// k + 1.
+    pub fn spread(
+        alloc: Global,
+        field: &F,
+        size: u32,
+        places: &[u32],
+        numbers: &[F::Elem],
+    ) -> Result<Row<F>, AllocError>
+        requires { IsPacking size places.now (length numbers.now) }
+        ensures { IfOk result (λ r. r ≡ spread size places.now (map F.number numbers.now)) }
+    {
+        Ok(Row {
+            field: *field,
+            form: Form::spread(alloc, field, size, places, numbers)?,
+        })
     }
 
     pub fn copy(&self, alloc: Global) -> Result<Row<F>, AllocError>
