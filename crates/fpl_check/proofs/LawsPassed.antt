@@ -1,21 +1,16 @@
 -- What accepted sections and conclusions are over the field of the presentation.
 use Rattle.std.specs.Prelude.{◌≡◌, ℕ, ◌<◌, List, [], length, Result, Ok, Err, IfOk, Contains, All, slice_index_or}
-use mathlib.Core.Path.{sym, ap, subst}
+use mathlib.Core.Path.{ap, subst}
 use native.Mathlib.Omega.{arith}
 use Rattle.fpl_linear.specs.Vector.{Vector}
-use Rattle.fpl_linear.specs.Span.{Spanned}
-use Rattle.fpl_linear.proofs.Span.{spanned_one, spanned_through}
 use Rattle.fpl_numbers.specs.declared.number.Num.{Num}
 use Rattle.fpl_numbers.specs.declared.number.Kind.{Kind}
-use Rattle.fpl_numbers.specs.Numbers.{IsField}
 use Rattle.fpl_numbers.specs.Kinds.{field_of, number_of}
-use Rattle.fpl_scalar.specs.Vectors.{AreElements}
-use Rattle.fpl_rows.specs.Meaning.{row_in, vector_in, IsRowOf, AreRows, IsClosedList, InSpanOf}
+use Rattle.fpl_rows.specs.Meaning.{row_in, vector_in, AreRows, IsClosedList, InSpanOf}
 use Rattle.fpl_rows.proofs.Readings.{vector_past}
 use Rattle.fpl_algebra.specs.Tree.{none}
 use Rattle.fpl_algebra.specs.Derives.{Derives, Expression}
 use Rattle.fpl_algebra.specs.Symbols.{symbols}
-use Rattle.fpl_algebra.specs.SourceRows.{IsSource}
 use Rattle.fpl_algebra.specs.Standard.{IsStandard}
 use Rattle.fpl_theorems.specs.Standard.{over_symbols}
 use Rattle.fpl_theorems.proofs.StandardLaws.{rows_are_zero}
@@ -26,11 +21,8 @@ use Rattle.fpl_model.specs.Meaning.{presentation_in}
 use Rattle.fpl_table.specs.Plain.{PlainTable, table_in, symbols_in}
 use Rattle.fpl_next.specs.Holds.{Holds}
 use Rattle.fpl_rewrite.specs.Origins.{origins_of}
-use Rattle.fpl_rewrite.specs.Rows.{row_of_origin}
-use Rattle.fpl_faithful.specs.Premises.{HasRows, HasWeights}
-use Rattle.fpl_faithful.specs.RowLaws.{Stands}
-use Rattle.fpl_faithful.specs.TableLaws.{vector_of_origin}
-use Rattle.fpl_faithful.proofs.Laws.{sound_stands, rows_of_shape, symbols_stand, weights_of_built, rows_stand, origins_are_sources, sources_are_origins}
+use Rattle.fpl_faithful.proofs.Laws.{sound_stands, symbols_stand}
+use Rattle.fpl_faithful.proofs.HeldTables.{RowsStand, InOriginSpan, origin_vector, is_field, origins_stand, source_origin, from_sources}
 use Rattle.fpl_check.specs.declared.fault.CheckFault.{CheckFault}
 use Rattle.fpl_check.specs.Refusal.{GivesCheck}
 use Rattle.fpl_check.specs.Premises.{IsSectionFor}
@@ -40,108 +32,71 @@ use Rattle.fpl_check.specs.Laws.{SpansSources}
 use Rattle.fpl_check.proofs.PassedTests.{passes, passed_closed, passed_spanned, passed_each, conclusions_spanned}
 
 module _ (p : Presentation) (T : PlainTable) (s : Section) (holds : Holds p T) (section : IsSectionFor T s) where
-  is_field : IsField T.kind
-  is_field = subst IsField (sym holds.kind) holds.sound.field
-
-  -- each row of an origin stands for its vector, over the field of kind k
-  abbrev RowsStand : (k : Kind) → (Origin → Vector (field_of k)) → Type 0
-  RowsStand k vector = (o : Origin) → Contains (origins_of T p) o → (row : List Num) → row_of_origin T p o ≡ Ok row → Stands k (length (symbols_in T)) (vector o) row
-
-  abbrev InSpan : (k : Kind) → (Origin → Vector (field_of k)) → Vector (field_of k) → Type 0
-  InSpan k vector v = Spanned (field_of k) (λ x. (o : Origin) × Contains (origins_of T p) o × (vector o ≡ x)) v
-
-  rows : HasRows T
-  rows = rows_of_shape T holds.shape
-
-  weights : HasWeights T
-  weights = weights_of_built p T holds.kind holds.generators holds.sound holds.built
-
-  vector : Origin → Vector (field_of p.field)
-  vector o = vector_of_origin (field_of p.field) (presentation_in p) (table_in p.field T) o
-
-  stand : RowsStand p.field vector
-  unfolding vector
-  stand = rows_stand p T holds.kind holds.generators holds.sound rows weights
-
-  -- the row of an origin is a row over the symbols
-  pub origin_rows : (o : Origin) → Contains (origins_of T p) o → (row : List Num) → row_of_origin T p o ≡ Ok row → IsRowOf T.kind (length (symbols_in T)) row
-  origin_rows o c row e = let h = stand o c row e in record { elements = subst (λ k. AreElements k row) (sym holds.kind) h.elements; length_is = h.long }
-
-  -- what the origins' vectors span, the source rows span
-  from_sources : (v : Vector (field_of p.field)) → InSpan p.field vector v → Spanned (field_of p.field) (IsSource (field_of p.field) (presentation_in p) (table_in p.field T)) v
-  unfolding vector
-  from_sources v h =
-      spanned_through (field_of p.field) _ (IsSource (field_of p.field) (presentation_in p) (table_in p.field T))
-      (λ x a. spanned_one (field_of p.field) _ x
-      (subst (IsSource (field_of p.field) (presentation_in p) (table_in p.field T)) a.2 (origins_are_sources p T holds.kind holds.generators holds.sound rows weights a.0 a.1)))
-      v h
-
   -- the closed rows and the origins' vectors span each other, over the field of kind k
   pub record SpanAt (k : Kind) (closed : List (List Num)) : Type 0 where
-    pub from : (vector : Origin → Vector (field_of k)) → RowsStand k vector → (i : ℕ) → i < length closed → InSpan k vector (row_in k closed i)
-    pub each : (vector : Origin → Vector (field_of k)) → RowsStand k vector → (o : Origin) → Contains (origins_of T p) o → InSpanOf k closed (vector o)
+    pub from : (vector : Origin → Vector (field_of k)) → RowsStand p T k vector → (i : ℕ) → i < length closed → InOriginSpan p T k vector (row_in k closed i)
+    pub each : (vector : Origin → Vector (field_of k)) → RowsStand p T k vector → (o : Origin) → Contains (origins_of T p) o → InSpanOf k closed (vector o)
 
   span_at : (closed : List (List Num)) → Accepts T p s closed → (k : Kind) → T.kind ≡ k → SpanAt k closed
   span_at closed accepts k e =
-      let h = passes T is_field p s section closed accepts in
+      let h = passes T (is_field p T holds) p s section closed accepts in
       subst (λ k. SpanAt k closed) e (record {
-        from = λ vector stand i l. (passed_spanned T is_field p s section vector stand closed h i [] l).spanned;
-        each = λ vector stand o c. passed_each T is_field p s section vector stand closed h o c;
+        from = λ vector stand i l. (passed_spanned T (is_field p T holds) p s section vector stand closed h i [] l).spanned;
+        each = λ vector stand o c. passed_each T (is_field p T holds) p s section vector stand closed h o c;
       })
 
   pub accepted_closed : (closed : List (List Num)) → Accepts T p s closed → IsClosedList T.kind (length (symbols_in T)) closed
-  accepted_closed closed accepts = passed_closed T is_field p s section closed (passes T is_field p s section closed accepts)
+  accepted_closed closed accepts = passed_closed T (is_field p T holds) p s section closed (passes T (is_field p T holds) p s section closed accepts)
 
   pub accepted_spans : (closed : List (List Num)) → Accepts T p s closed → SpansSources p T closed
-  unfolding vector
   accepted_spans closed accepts =
       let span = span_at closed accepts p.field holds.kind in
       record {
         each = λ v source.
-            let o = sources_are_origins p T holds.kind holds.generators holds.sound rows weights v source in
-            subst (InSpanOf p.field closed) o.2 (span.each vector stand o.0 o.1);
-        from = λ i l. from_sources (row_in p.field closed i) (span.from vector stand i l);
+            let o = source_origin p T holds v source in
+            subst (InSpanOf p.field closed) o.2 (span.each (origin_vector p T) (origins_stand p T holds) o.0 o.1);
+        from = λ i l. from_sources p T holds (row_in p.field closed i) (span.from (origin_vector p T) (origins_stand p T holds) i l);
       }
 
   -- conclusions
   abbrev ConcludedAt : Kind → List (List Num) → Type 0
   ConcludedAt k conclusions =
-      (vector : Origin → Vector (field_of k)) → RowsStand k vector → (i : ℕ) (d : List Num) → i < length conclusions → InSpan k vector (vector_in k (slice_index_or conclusions i d)) × (length (slice_index_or conclusions i d) ≡ length (symbols_in T))
+      (vector : Origin → Vector (field_of k)) → RowsStand p T k vector → (i : ℕ) (d : List Num) → i < length conclusions → InOriginSpan p T k vector (vector_in k (slice_index_or conclusions i d)) × (length (slice_index_or conclusions i d) ≡ length (symbols_in T))
 
   concluded_at : (conclusions : List (List Num)) → conclusions_of T p s ≡ Ok conclusions → (k : Kind) → T.kind ≡ k → ConcludedAt k conclusions
   concluded_at conclusions e k same =
       subst (λ k. ConcludedAt k conclusions) same (λ vector stand i d l.
-      let h = (conclusions_spanned T is_field p vector stand s.steps [] s.steps conclusions (λ i d l. absurd (omega (arith, l))) section.numbers.steps e).0 i d l in
+      let h = (conclusions_spanned T (is_field p T holds) p vector stand s.steps [] s.steps conclusions (λ i d l. absurd (omega (arith, l))) section.numbers.steps e).0 i d l in
       (h.spanned, h.row.length_is))
 
   -- conclusions are rows, one a step
   pub record Concluded (k : Kind) (conclusions : List (List Num)) : Type 0 where
-    pub rows : (vector : Origin → Vector (field_of k)) → RowsStand k vector → AreRows T.kind (length (symbols_in T)) conclusions
-    pub whole : (vector : Origin → Vector (field_of k)) → RowsStand k vector → length conclusions ≡ length s.steps
+    pub rows : (vector : Origin → Vector (field_of k)) → RowsStand p T k vector → AreRows T.kind (length (symbols_in T)) conclusions
+    pub whole : (vector : Origin → Vector (field_of k)) → RowsStand p T k vector → length conclusions ≡ length s.steps
 
   concluded : (conclusions : List (List Num)) → conclusions_of T p s ≡ Ok conclusions → (k : Kind) → T.kind ≡ k → Concluded k conclusions
   concluded conclusions e k same =
       subst (λ k. Concluded k conclusions) same (record {
-        rows = λ vector stand i d l. ((conclusions_spanned T is_field p vector stand s.steps [] s.steps conclusions (λ i d l. absurd (omega (arith, l))) section.numbers.steps e).0 i d l).row;
-        whole = λ vector stand. (let r = conclusions_spanned T is_field p vector stand s.steps [] s.steps conclusions (λ i d l. absurd (omega (arith, l))) section.numbers.steps e in let l = r.1 in omega (arith, l));
+        rows = λ vector stand i d l. ((conclusions_spanned T (is_field p T holds) p vector stand s.steps [] s.steps conclusions (λ i d l. absurd (omega (arith, l))) section.numbers.steps e).0 i d l).row;
+        whole = λ vector stand. (let r = conclusions_spanned T (is_field p T holds) p vector stand s.steps [] s.steps conclusions (λ i d l. absurd (omega (arith, l))) section.numbers.steps e in let l = r.1 in omega (arith, l));
       })
 
   pub conclusions_rows : (conclusions : List (List Num)) → conclusions_of T p s ≡ Ok conclusions → AreRows T.kind (length (symbols_in T)) conclusions
-  conclusions_rows conclusions e = (concluded conclusions e p.field holds.kind).rows vector stand
+  conclusions_rows conclusions e = (concluded conclusions e p.field holds.kind).rows (origin_vector p T) (origins_stand p T holds)
 
   pub conclusions_whole : (conclusions : List (List Num)) → conclusions_of T p s ≡ Ok conclusions → length conclusions ≡ length s.steps
-  conclusions_whole conclusions e = (concluded conclusions e p.field holds.kind).whole vector stand
+  conclusions_whole conclusions e = (concluded conclusions e p.field holds.kind).whole (origin_vector p T) (origins_stand p T holds)
 
   pub conclusions_zero : (conclusions : List (List Num)) → conclusions_of T p s ≡ Ok conclusions → (tree : ℕ → Expression (field_of p.field)) → IsStandard (field_of p.field) (presentation_in p) (table_in p.field T) tree →
       All (λ row. Derives (field_of p.field) (presentation_in p) (over_symbols (field_of p.field) (presentation_in p) (table_in p.field T) tree (vector_in p.field row)) none) conclusions
   conclusions_zero conclusions e tree standard i d l =
       let K = field_of p.field in
       let row = slice_index_or conclusions i d in
-      let h = concluded_at conclusions e p.field holds.kind vector stand i d l in
+      let h = concluded_at conclusions e p.field holds.kind (origin_vector p T) (origins_stand p T holds) i d l in
       let count : length (symbols (presentation_in p) (table_in p.field T)) ≡ length (symbols_in T) = ap length (symbols_stand p T holds.kind holds.generators) in
       (rows_are_zero K (presentation_in p) (sound_stands p holds.sound) (table_in p.field T) tree standard (vector_in p.field row)
       (λ t m. vector_past K (number_of p.field) row t (omega (arith, m, count, h.1)))).1
-      (from_sources (vector_in p.field row) h.0)
+      (from_sources p T holds (vector_in p.field row) h.0)
 
 pub spans_when : (p : Presentation) (T : PlainTable) (s : Section) → Holds p T → IsSectionFor T s → (r : Result (List (List Num)) CheckFault) → GivesCheck (λ (rows : List (List Num)). rows) r (check_of T p s) →
     IfOk r (λ rows. SpansSources p T rows)

@@ -1,17 +1,13 @@
 -- Origins that pass their test are those of the weight; and the tests of origins, one after the other.
-use Rattle.std.specs.Prelude.{◌≡◌, ℕ, zero, suc, ◌+◌, ◌-◌, ◌*◌, ◌<◌, ◌≤◌, List, [], ◌∷◌, length, slice_get, Option, Some, None, Result, Ok, Err, Bool, true, false, ◌&&◌, nat_le, nat_lt, nat_eq, Contains, All}
+use Rattle.std.specs.Prelude.{◌≡◌, ℕ, zero, suc, ◌+◌, ◌-◌, ◌<◌, ◌≤◌, List, [], ◌∷◌, length, slice_get, Option, Some, None, Result, Ok, Err, Bool, true, false, ◌&&◌, nat_le, nat_lt, Contains, All}
 use mathlib.Core.Path.{refl, sym, ap, subst, ◌∙◌}
 use native.Mathlib.Omega.{arith}
-use Rattle.std.proofs.lemmas.Bool.Decides.{nat_tests}
 use Rattle.std.proofs.lemmas.Option.{slice_get_within, get_or_from_slice_get}
 use Rattle.fpl_numbers.specs.declared.number.Num.{Num}
 use Rattle.fpl_numbers.specs.declared.number.Kind.{Kind}
-use Rattle.fpl_numbers.specs.declared.number.Kind.TheVariants.{Rational, Prime}
 use Rattle.fpl_numbers.specs.Numbers.{IsElement}
 use Rattle.fpl_rows.proofs.Fits.{all_cons, all_head, all_tail}
-use Rattle.fpl_algebra.specs.Tree.{Parity, even, odd}
-use Rattle.fpl_algebra.specs.Symbols.{is_odd}
-use Rattle.fpl_algebra.specs.Degrees.{Degree, any, exact, mixed}
+use Rattle.fpl_algebra.specs.Degrees.{exact}
 use Rattle.fpl_model.specs.declared.presentation.Equation.{Equation}
 use Rattle.fpl_model.specs.declared.presentation.Presentation.{Presentation}
 use Rattle.fpl_log.specs.declared.terms.Term.{Term}
@@ -20,9 +16,8 @@ use Rattle.fpl_log.specs.declared.step.Origin.{Origin}
 use Rattle.fpl_log.specs.declared.step.Origin.TheVariants.{Relation, Jacobi, Cube, Row}
 use Rattle.fpl_log.specs.Plain.{IsTermOf}
 use Rattle.fpl_table.specs.Plain.{PlainTable}
-use Rattle.fpl_rewrite.specs.Origins.{relation_weight, is_exactly, is_triple, is_cube, is_three, origins_of}
-use Rattle.fpl_faithful.proofs.Pairs.{weight, parity}
-use Rattle.fpl_faithful.proofs.Listed.{IsTriple, IsCube, IsListed, listed_relation, listed_triple, listed_cube, is_listed}
+use Rattle.fpl_rewrite.specs.Origins.{relation_weight, is_triple, is_cube, is_three, origins_of}
+use Rattle.fpl_faithful.proofs.Listed.{is_three_kind, exactly_is, triple_is, cube_is, IsTriple, IsCube, IsListed, listed_relation, listed_triple, listed_cube, is_listed}
 use Rattle.fpl_check.specs.declared.fault.CheckFault.{CheckFault}
 use Rattle.fpl_check.specs.declared.fault.Spot.TheVariants.{Step as AtStep}
 use Rattle.fpl_check.specs.declared.fault.Why.TheVariants.{BadCite}
@@ -44,34 +39,6 @@ demanded false spot why e = absurd (let k : ⊥ = cc in k)
 pub passing_first : {X : Type 0} (t : Result (Unit {0}) Refusal) (r : Result X Refusal) (x : X) → passing t r ≡ Ok x → (t ≡ Ok tt) × (r ≡ Ok x)
 passing_first (Ok u) r x e = (refl, e)
 passing_first (Err k) r x e = absurd (let z : ⊥ = cc in z)
-
-exactly_is : (w : ℕ) (d : Degree ℕ) → is_exactly w d ≡ true → d ≡ exact w
-exactly_is w any e = absurd (let k : ⊥ = cc in k)
-exactly_is w (exact v) e = ap exact (grind (arith, nat_tests))
-exactly_is w mixed e = absurd (let k : ⊥ = cc in k)
-
-is_three_kind : (k : Kind) → is_three k ≡ true → k ≡ Prime 3
-is_three_kind Rational e = absurd (let k : ⊥ = cc in k)
-is_three_kind (Prime p) e = ap Prime (grind (arith, nat_tests))
-
-odd_is : (s : Parity) → is_odd s ≡ true → s ≡ odd
-odd_is odd e = refl
-odd_is even e = absurd (let k : ⊥ = cc in k)
-
-is_same : (a b : ℕ) → nat_eq a b ≡ true → a ≡ b
-is_same a b e = grind (arith, nat_tests)
-
-triple_is : (T : PlainTable) (i j k : ℕ) → k < length T.basis → is_triple T i j k ≡ true → IsTriple T i j k
-triple_is T i j k l e =
-    let a = both_true _ (nat_eq (weight T i + weight T j + weight T k) (suc T.weight)) e in
-    let b = both_true (nat_le i j) (nat_le j k) a.0 in
-    record { first = is_most i j b.0; second = is_most j k b.1; third = l; sum = is_same _ _ a.1 }
-
-cube_is : (T : PlainTable) (i : ℕ) → is_cube T i ≡ true → (parity T i ≡ odd) × (weight T i + weight T i + weight T i ≡ suc T.weight)
-cube_is T i e =
-    let a = both_true (is_odd (parity T i)) _ e in
-    let b = is_same (3 * weight T i) (suc T.weight) a.1 in
-    (odd_is (parity T i) a.0, omega (arith, b))
 
 module _ (T : PlainTable) (p : Presentation) where
   relation_is : (r : ℕ) (q : Option Equation) → slice_get p.relations (r - 1) ≡ q → 1 ≤ r → weighs_next T q ≡ true → IsListed T p (Relation r)
@@ -157,10 +124,7 @@ terms_pass kind cited steps count (t ∷ ts) all e =
     all_cons (IsTermOf kind count) t ts (record { from_one = b.0; to_end = b.1; factor = all_head (λ t. IsElement kind t.factor) t ts all })
     (terms_pass kind cited steps count ts (all_tail (λ t. IsElement kind t.factor) t ts all) a.1)
 
--- the head and the rest of a list are in it
-pub contains_head : {A : Type 0} (xs rest : List A) (x : A) → xs ≡ x ∷ rest → Contains xs x
-contains_head xs rest x e = subst (λ ys. Contains ys x) (sym e) (0, omega arith, refl)
-
+-- the rest of a list is in it
 pub contains_rest : {A : Type 0} (xs rest : List A) (x y : A) → xs ≡ x ∷ rest → Contains rest y → Contains xs y
 contains_rest xs rest x y e h = subst (λ ys. Contains ys y) (sym e) (suc h.0, (let l = h.1 in omega arith), h.2)
 

@@ -1,5 +1,5 @@
 -- How each test of a list goes on past an element, and where it stops.
-use Rattle.std.specs.Prelude.{◌≡◌, ℕ, zero, suc, ◌+◌, ◌-◌, ◌<◌, ◌≤◌, ◌⊎◌, List, [], ◌∷◌, ◌++◌, length, drop, slice_get, slice_set, slice_index_or, Option, Some, None, Result, Ok, Err, Bool, true, false, not, ◌&&◌, ◌||◌, if◌then◌else◌, nat_lt, nat_le, nat_eq, IsTrue, ◌↔◌}
+use Rattle.std.specs.Prelude.{◌≡◌, ℕ, zero, suc, ◌+◌, ◌-◌, ◌<◌, ◌≤◌, ◌⊎◌, List, [], ◌∷◌, ◌++◌, length, drop, slice_get, slice_index_or, Option, Some, None, Result, Ok, Err, Bool, true, false, not, ◌&&◌, ◌||◌, if◌then◌else◌, nat_lt, nat_le, nat_eq, IsTrue, ◌↔◌}
 use mathlib.Core.Path.{refl, sym, ap, ap₂, subst, ◌∙◌}
 use mathlib.Core.Logic.{inl, inr}
 use native.Mathlib.Omega.{arith}
@@ -11,7 +11,7 @@ use Rattle.fpl_numbers.specs.Numbers.{is_nought, residue, IsElement}
 use Rattle.fpl_numbers.specs.Results.{and_then}
 use Rattle.fpl_numbers.specs.declared.number.Kind.{Kind}
 use Rattle.fpl_scalar.specs.Vectors.{AreElements}
-use Rattle.fpl_rows.proofs.Fits.{none_some, some_same}
+use Rattle.fpl_rows.proofs.Fits.{none_some}
 use Rattle.fpl_rows.specs.Positions.{lead_of}
 use Rattle.fpl_log.proofs.TermsTaken.{drop_next}
 use Rattle.fpl_log.specs.declared.terms.Term.{Term}

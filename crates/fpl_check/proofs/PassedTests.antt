@@ -35,7 +35,7 @@ use Rattle.fpl_model.specs.declared.presentation.Presentation.{Presentation}
 use Rattle.fpl_table.specs.Plain.{PlainTable, symbols_in}
 use Rattle.fpl_rewrite.specs.Origins.{origins_of}
 use Rattle.fpl_rewrite.specs.Rows.{row_of_origin}
-use Rattle.fpl_faithful.specs.RowLaws.{Stands}
+use Rattle.fpl_faithful.proofs.HeldTables.{RowsStand}
 use Rattle.fpl_check.specs.declared.fault.Spot.{Spot}
 use Rattle.fpl_check.specs.declared.fault.Spot.TheVariants.{Step as AtStep, Closed as AtClosed, Origin as AtOrigin}
 use Rattle.fpl_check.specs.declared.fault.Why.TheVariants.{BadOrigin, BadCite, Differs}
@@ -105,9 +105,6 @@ module _ (T : PlainTable) (is_field : IsField T.kind) (p : Presentation) (vector
   abbrev InSpan : Vector (field_of T.kind) → Type 0
   InSpan x = Spanned (field_of T.kind) IsAmong x
 
-  abbrev pub RowsStand : Type 0
-  RowsStand = (o : Origin) → Contains (origins_of T p) o → (row : List Num) → row_of_origin T p o ≡ Ok row → Stands T.kind n (vector o) row
-
   -- a row in the span of the origins' vectors
   pub record IsSpannedRow (xs : List Num) : Type 0 where
     pub row : IsRowOf T.kind n xs
@@ -152,7 +149,7 @@ module _ (T : PlainTable) (is_field : IsField T.kind) (p : Presentation) (vector
       go true f = absurd (let z : ⊥ = cc in z)
       go false f = subst (IsElement T.kind) (let h : scale ≡ c = cc in h) is
 
-  module _ (stand : RowsStand) (steps : List Step) where
+  module _ (stand : RowsStand p T T.kind vector) (steps : List Step) where
     insert_spanned : (earlier : List (List Num)) (o : Origin) (ts : List Term) (k : Num) (row : List Num) → All IsSpannedRow earlier → AreFactorsOf T.kind ts → IsElement T.kind k →
         insert_of_step T p steps earlier o ts k ≡ Ok row → IsSpannedRow row
     insert_spanned earlier o ts k row spans factors is e =
@@ -307,7 +304,7 @@ module _ (T : PlainTable) (is_field : IsField T.kind) (p : Presentation) (s : Se
   pub passed_same : (rows : List (List Num)) (k : Passes rows) → AreRows T.kind (length (symbols_in T)) k.conclusions → length k.conclusions ≡ length s.steps → rows ≡ close_rows s.steps k.conclusions
   passed_same rows k are whole = stored_same T is_field s section rows k.conclusions k.are k.closes k.same are whole
 
-  module _ (vector : Origin → Vector (field_of T.kind)) (stand : RowsStand T is_field p vector) where
+  module _ (vector : Origin → Vector (field_of T.kind)) (stand : RowsStand p T T.kind vector) where
     -- the closed rows are conclusions, so they are in the span of the origins' vectors
     pub passed_spanned : (rows : List (List Num)) → Passes rows → All (IsSpannedRow T is_field p vector) rows
     passed_spanned rows k =

@@ -13,7 +13,7 @@ use Rattle.fpl_numbers.specs.declared.number.Num.{Num}
 use Rattle.fpl_numbers.specs.declared.number.Kind.{Kind}
 use Rattle.fpl_numbers.specs.declared.number.Unfit.{Unfit}
 use Rattle.fpl_numbers.specs.declared.number.Kind.TheVariants.{Rational, Prime}
-use Rattle.fpl_numbers.specs.Numbers.{IsField, is_nought, residue, negative_of}
+use Rattle.fpl_numbers.specs.Numbers.{IsField, is_nought}
 use Rattle.fpl_numbers.specs.Results.{and_then}
 use Rattle.fpl_numbers.specs.Kinds.{field_of, number_of}
 use Rattle.fpl_numbers.proofs.KindReads.{kind_reads}
@@ -29,16 +29,15 @@ use Rattle.fpl_log.specs.declared.section.Section.{Section}
 use Rattle.fpl_log.specs.Conclusion.{cited, terms_sum}
 use Rattle.fpl_log.specs.Plain.{IsTermOf, conclude_of, less_in, conclusion_in}
 use Rattle.fpl_log.proofs.TermsTaken.{conclusion_means, term_got}
-use Rattle.fpl_elimination.specs.Plain.{take_at, take_row, sweep_rows}
+use Rattle.fpl_elimination.specs.Plain.{sweep_rows}
 use Rattle.fpl_elimination.proofs.Remainders.{sweep_means}
 use Rattle.fpl_model.specs.declared.presentation.Presentation.{Presentation}
 use Rattle.fpl_table.specs.Plain.{PlainTable, symbols_in}
 use Rattle.fpl_next.specs.Holds.{Holds}
 use Rattle.fpl_rewrite.specs.Origins.{origins_of}
 use Rattle.fpl_rewrite.specs.Rows.{row_of_origin}
-use Rattle.fpl_faithful.specs.PrimeLaws.{DoesFit}
-use Rattle.fpl_faithful.proofs.Fits.{then_fits}
-use Rattle.fpl_faithful.proofs.Fitting.{Always, prime_always, if_fits, axpy_fits}
+use Rattle.fpl_faithful.proofs.Fitting.{Always, prime_always, sweep_rows_fits}
+use Rattle.fpl_faithful.proofs.HeldTables.{is_field, origin_rows}
 use Rattle.fpl_check.specs.declared.cites.Cited.TheVariants.{Inserts, Closes}
 use Rattle.fpl_check.specs.declared.fault.Spot.TheVariants.{Step as AtStep, Origin as AtOrigin}
 use Rattle.fpl_check.specs.Refusal.{exactly}
@@ -52,7 +51,7 @@ use Rattle.fpl_check.proofs.Loops.{both_true}
 use Rattle.fpl_check.proofs.PassedTests.{stored_same, zero_is}
 use Rattle.fpl_check.proofs.StepParts.{StepParts, all_cited}
 use Rattle.fpl_check.proofs.Conclusions.{Concludes, are_concluded, scale_in}
-use Rattle.fpl_check.proofs.LawsPassed.{conclusions_rows, conclusions_whole, origin_rows}
+use Rattle.fpl_check.proofs.LawsPassed.{conclusions_rows, conclusions_whole}
 
 module _ (K : Field) where
   back : (v t : Vector K) → vplus K (vplus K v (scale K (K.minus K.unit) t)) t ≡ v
@@ -135,16 +134,6 @@ module _ (T : PlainTable) (p : Presentation) (steps : List Step) where
       let c = k.count in
       record { before = k.before; row = k.row; after = k.after; is = sym (append_assoc earlier (x ∷ []) rest) ∙ k.is; count = omega (arith, l, c); parts = k.parts }
 
--- over a prime sweeping is never refused
-module _ (kind : Kind) (always : Always kind) where
-  take_fits : (u : List Num) (o : Option ℕ) (v : List Num) → DoesFit (take_at kind u o v)
-  take_fits u None v = (v, refl)
-  take_fits u (Some s) v = if_fits (is_nought (get_or v (s - 1) (residue 0))) _ _ (v, refl) (axpy_fits kind always v (negative_of kind (get_or v (s - 1) (residue 0))) u)
-
-  sweep_rows_fits : (us : List (List Num)) (v : List Num) → DoesFit (sweep_rows kind us v)
-  sweep_rows_fits [] v = (v, refl)
-  sweep_rows_fits (u ∷ us) v = then_fits (λ w. take_row kind u w) (sweep_rows kind us v) (sweep_rows_fits us v) (λ w. take_fits u (lead_of u) w)
-
 prime_fits : (kind : Kind) → is_prime kind ≡ true → Always kind
 prime_fits Rational e = absurd (let k : ⊥ = cc in k)
 prime_fits (Prime p) e = prime_always p
@@ -163,7 +152,7 @@ module _ (T : PlainTable) (p : Presentation) (s : Section) (rows : List (List Nu
   InClosed v = InSpanOf T.kind rows v
 
   listed : IsField T.kind
-  listed = subst IsField (sym holds.kind) holds.sound.field
+  listed = is_field p T holds
 
   are : AreRows T.kind (length (symbols_in T)) tested.conclusions
   are = conclusions_rows p T s holds section tested.conclusions tested.concluded
@@ -353,7 +342,7 @@ module _ (T : PlainTable) (p : Presentation) (s : Section) (rows : List (List Nu
   passes_by prime m o ts k e listed_one =
       let h = place m (Insert o ts k) e in
       let source = h.parts.source in
-      let is = origin_rows p T s holds section o listed_one h.parts.source h.parts.reads in
+      let is = origin_rows p T holds o listed_one h.parts.source h.parts.reads in
       let f = sweep_rows_fits T.kind (prime_fits T.kind prime) rows h.parts.source in
       let m = (sweep_means T.kind rows h.parts.source f.0 listed (subst (λ i. IsClosedList T.kind i rows) (sym is.length_is) closed) is.elements f.1).1 in
       let none = m.zero.1 (source_in _ o ts k e h.parts.source is h.parts.reads) in

@@ -1,5 +1,5 @@
 -- Rows that coefficients tell.
-use Rattle.std.specs.Prelude.{◌≡◌, ◌≢◌, ℕ, zero, suc, ◌+◌, ◌-◌, ◌<◌, ◌≤◌, min, nat_eq, List, [], ◌∷◌, length, get_or, map, drop, slice_get, slice_set, Option, Some, None, All, Bool, true, false, not, if◌then◌else◌}
+use Rattle.std.specs.Prelude.{◌≡◌, ◌≢◌, ℕ, suc, ◌+◌, ◌-◌, ◌<◌, ◌≤◌, min, nat_eq, List, [], ◌∷◌, length, get_or, map, drop, slice_get, slice_set, Option, Some, None, All, Bool, true, false, not, if◌then◌else◌}
 use mathlib.Core.Path.{refl, sym, ap, subst, ◌∙◌}
 use native.Mathlib.Omega.{arith}
 use Rattle.std.proofs.Common.{length-set}

@@ -1,5 +1,5 @@
 -- The parts of a weight's run make its whole.
-use Rattle.std.specs.Prelude.{suc, ◌≡◌, List, length, Result, Ok, Err}
+use Rattle.std.specs.Prelude.{◌≡◌, List, Result, Ok, Err}
 use mathlib.Core.Path.{refl, sym, subst, ap, ◌∙◌}
 use Rattle.fpl_numbers.specs.declared.number.Num.{Num}
 use Rattle.fpl_numbers.specs.declared.number.Unfit.{Unfit}
@@ -7,19 +7,17 @@ use Rattle.fpl_numbers.specs.declared.number.Fault.{Fault}
 use Rattle.fpl_numbers.specs.declared.number.Fault.TheVariants.{NoMemory}
 use Rattle.fpl_numbers.specs.declared.number.Fault.TheVariants.{Unfit as Unfits}
 use Rattle.fpl_numbers.specs.Results.{and_then, map_ok, IsFault}
+use Rattle.fpl_rows.proofs.Fits.{part_fits}
 use Rattle.fpl_log.specs.declared.step.Step.{Step}
 use Rattle.fpl_elimination.specs.Plain.{Elimination, Held, rows_of, close_of}
 use Rattle.fpl_echelon.specs.Outcomes.{ClosedParts, closed_as}
 use Rattle.fpl_model.specs.declared.presentation.Presentation.{Presentation}
-use Rattle.fpl_algebra.specs.Symbols.{symbols, symbols_of}
-use Rattle.fpl_table.specs.Plain.{PlainTable, symbols_in}
-use Rattle.fpl_table.specs.Standard.{count_of}
+use Rattle.fpl_table.specs.Plain.{PlainTable}
 use Rattle.fpl_rewrite.specs.Origins.{origins_of}
-use Rattle.fpl_faithful.proofs.Fits.{part_fits}
 use Rattle.fpl_faithful.proofs.Fitting.{Always}
 use Rattle.fpl_completion.specs.Weight.{begun, gather, again, close_weight}
+use Rattle.fpl_completion.proofs.Gathered.{again_same}
 use Rattle.fpl_completion.proofs.Fitting.{close_weight_fits}
-use Rattle.fpl_complete.proofs.Runs.{again_same}
 
 abbrev pub parts : Held → ClosedParts
 parts h = closed_as (rows_of h.pivots) h.steps
@@ -79,9 +77,4 @@ module _ (T : PlainTable) (p : Presentation) where
       let r = part_fits parts (close_of e) (closed_as rows steps) k in
       let fits = close_weight_fits T always p in
       let whole : checked r.0 ≡ Ok fits.0 = sym (with_closed e r.0 g r.1.0) ∙ fits.1 in
-      ap (map_ok parts) (fits.1 ∙ sym (again_same T p (rows_of r.0.pivots) (origins_of T p) r.0 fits.0 whole)) ∙ ap Ok (sym r.1.1)
-
--- the symbols that the plain run counts are those of the weight after the table's
-pub symbols_counted : (T : PlainTable) → length (symbols_in T) ≡ count_of T (suc T.weight)
-unfolding symbols symbols_of
-symbols_counted T = refl
+      ap (map_ok parts) (fits.1 ∙ sym (ap Ok (again_same T p (rows_of r.0.pivots) (origins_of T p) r.0 fits.0 whole))) ∙ ap Ok (sym r.1.1)

@@ -29,20 +29,19 @@ use Rattle.fpl_next.specs.Holds.{Holds}
 use Rattle.fpl_next.specs.Raised.{IsRaised}
 use Rattle.fpl_next.specs.Raised.IsRaised.{pushed}
 use Rattle.fpl_next.proofs.Holding.{push_holds}
-use Rattle.fpl_faithful.proofs.Fits.{part_fits}
+use Rattle.fpl_rewrite.proofs.SymbolCounts.{symbols_counted}
 use Rattle.fpl_faithful.proofs.Fitting.{Always, prime_always}
 use Rattle.fpl_completion.specs.Weight.{close_weight}
-use Rattle.fpl_completion.specs.Section.{section_of}
+use Rattle.fpl_completion.specs.Section.{slimmed, section_of}
 use Rattle.fpl_completion.proofs.Fitting.{close_weight_fits}
 use Rattle.fpl_completion.proofs.Completed.{next_holds, next_raised}
 use Rattle.fpl_completion.proofs.Counts.{counts_pushed}
 use Rattle.fpl_sections.specs.Stored.{IsWritable}
 use Rattle.fpl_check.specs.Premises.{IsSectionFor}
-use Rattle.fpl_complete.specs.State.{section_at, no_section, AreOfWeights, PlainState, IsStorable, IsState, slimmed, PlainWeighed, weighed_as}
-use Rattle.fpl_complete.proofs.Closing.{symbols_counted}
+use Rattle.fpl_complete.specs.State.{section_at, no_section, AreOfWeights, PlainState, IsStorable, IsState, PlainWeighed, weighed_as}
 use Rattle.fpl_complete.proofs.Weighing.{weighed}
 use Rattle.fpl_complete.proofs.Writable.{section_writable, slimmed_writable}
-use Rattle.fpl_rows.proofs.Fits.{all_more}
+use Rattle.fpl_rows.proofs.Fits.{part_fits, all_more}
 
 pub no_sections : AreOfWeights 0 []
 no_sections = record { count = refl; weights = λ w one end. absurd (omega arith) }
@@ -136,13 +135,25 @@ pub keeps : (s : PlainState) (T : PlainTable) (sections : List Section) (rows : 
 keeps s T sections rows section c e f = (c.held, c.run, e ∙ ap (push_of s.table) c.rows_are, f ∙ ap (λ (x : Section). s.sections ++ x ∷ []) c.section_is)
 
 -- the counts of a table with a weight more
-pub counts_more : (T : PlainTable) → HasShape T → (rows : List (List Num)) (v : ℕ) → v ≤ T.weight + 1 → count_through (push_of T rows) v ≡ count_through T v
+counts_more : (T : PlainTable) → HasShape T → (rows : List (List Num)) (v : ℕ) → v ≤ T.weight + 1 → count_through (push_of T rows) v ≡ count_through T v
 counts_more T shape rows v l = counts_pushed T shape rows v (omega arith)
 
-pub whole_within : (T : PlainTable) → HasShape T → (rows : List (List Num)) (m e : ℕ) → m ≡ count_through T (T.weight + 1) → m ≤ e → count_through (push_of T rows) (push_of T rows).weight ≤ e
+whole_within : (T : PlainTable) → HasShape T → (rows : List (List Num)) (m e : ℕ) → m ≡ count_through T (T.weight + 1) → m ≤ e → count_through (push_of T rows) (push_of T rows).weight ≤ e
 whole_within T shape rows m e whole few =
     let a = counts_more T shape rows (suc T.weight) (omega arith) in
     let q = ap (count_through T) (let s : T.weight + 1 ≡ suc T.weight = omega arith in s) in omega arith
+
+-- the same, of the table that a state had and of the one that it has then
+pub whole_here : (T old : PlainTable) (m : ℕ) → T ≡ old → m ≡ count_through old (old.weight + 1) → m ≡ count_through T (T.weight + 1)
+whole_here T old m same whole = subst (λ (S : PlainTable). m ≡ count_through S (S.weight + 1)) (sym same) whole
+
+pub within_then : (T old new : PlainTable) (rows : List (List Num)) (m e : ℕ) → HasShape T → T ≡ old → new ≡ push_of T rows → m ≡ count_through old (old.weight + 1) → m ≤ e → count_through new new.weight ≤ e
+within_then T old new rows m e shape same is whole few =
+    subst (λ (S : PlainTable). count_through S S.weight ≤ e) (sym is) (whole_within T shape rows m e (whole_here T old m same whole) few)
+
+pub counts_then : (T old new : PlainTable) (rows : List (List Num)) → HasShape T → T ≡ old → new ≡ push_of T rows → (v : ℕ) → v ≤ old.weight + 1 → count_through new v ≡ count_through old v
+counts_then T old new rows shape same is v l =
+    ap (λ (S : PlainTable). count_through S v) is ∙ counts_more T shape rows v (subst (λ (S : PlainTable). v ≤ S.weight + 1) (sym same) l) ∙ ap (λ (S : PlainTable). count_through S v) same
 
 -- symbols of a weight are at most as many as generators and pairs
 joined_small : (b : ℕ) (f : ℕ → List Symbol) → ((i : ℕ) → length (f i) ≤ b) → (n : ℕ) → length (joined n f) ≤ n * b

@@ -1,7 +1,6 @@
 -- What origins that are still to come make of an elimination, or of a sweep, as each is done.
-use Rattle.std.specs.Prelude.{suc, ◌≡◌, List, [], ◌∷◌, Result, Ok, Err, Contains}
+use Rattle.std.specs.Prelude.{◌≡◌, List, [], ◌∷◌, Result, Ok, Err}
 use mathlib.Core.Path.{refl, sym, subst, ◌∙◌}
-use native.Mathlib.Omega.{arith}
 use Rattle.fpl_numbers.specs.declared.number.Num.{Num}
 use Rattle.fpl_numbers.specs.declared.number.Unfit.{Unfit}
 use Rattle.fpl_numbers.specs.declared.number.Fault.{Fault}
@@ -14,13 +13,6 @@ use Rattle.fpl_model.specs.declared.presentation.Presentation.{Presentation}
 use Rattle.fpl_table.specs.Plain.{PlainTable}
 use Rattle.fpl_rewrite.specs.Rows.{row_of_origin}
 use Rattle.fpl_completion.specs.Weight.{put_of, gather, again}
-
--- the head and the rest of a list are in it
-pub contains_head : {A : Type 0} (xs rest : List A) (x : A) → xs ≡ x ∷ rest → Contains xs x
-contains_head xs rest x e = subst (λ ys. Contains ys x) (sym e) (0, omega arith, refl)
-
-pub contains_rest : {A : Type 0} (xs rest : List A) (x y : A) → xs ≡ x ∷ rest → Contains rest y → Contains xs y
-contains_rest xs rest x y e h = subst (λ ys. Contains ys y) (sym e) (suc h.0, (let l = h.1 in omega arith), h.2)
 
 module _ (T : PlainTable) (p : Presentation) where
   pub gather_next : (os rest : List Origin) (o : Origin) (e f : Elimination) (all : Result Elimination Unfit) → os ≡ o ∷ rest → put_of T p o e ≡ Ok f → gather T p os e ≡ all → gather T p rest f ≡ all
@@ -66,17 +58,3 @@ module _ (T : PlainTable) (p : Presentation) where
   pub again_stops : (rows : List (List Num)) (os rest : List Origin) (o : Origin) (h : Held) (fault : Fault) (all : Result Held Unfit) → os ≡ o ∷ rest → IsFault fault (swept_again rows o h) → again T p rows os h ≡ all → IsFault fault all
   again_stops rows os rest o h (Unfits u) all list put run = sym (subst (λ os. again T p rows os h ≡ all) list run) ∙ stopped rows rest h u (row_of_origin T p o) put
   again_stops rows os rest o h NoMemory all list put run = tt
-
-  -- where all fits, forming and sweeping again gives back what it was given
-  pub again_same : (rows : List (List Num)) (os : List Origin) (x y : Held) → again T p rows os x ≡ Ok y → ◌≡◌ {A = Result Held Unfit} (Ok x) (Ok y)
-  again_same rows [] x y e = e
-  again_same rows (o ∷ os) x y e = back (row_of_origin T p o) e (λ e. again_same rows os x y e)
-    where
-      again_back : (s : Result (List Num) Unfit) → and_then (λ left. again T p rows os x) s ≡ Ok y → again T p rows os x ≡ Ok y
-      again_back (Ok left) e = e
-      again_back (Err u) e = absurd (let k : ⊥ = cc in k)
-
-      back : (r : Result (List Num) Unfit) → and_then (λ row. and_then (λ left. again T p rows os x) (sweep_rows T.kind rows row)) r ≡ Ok y → (again T p rows os x ≡ Ok y → ◌≡◌ {A = Result Held Unfit} (Ok x) (Ok y)) →
-          ◌≡◌ {A = Result Held Unfit} (Ok x) (Ok y)
-      back (Ok row) e later = later (again_back (sweep_rows T.kind rows row) e)
-      back (Err u) e later = absurd (let k : ⊥ = cc in k)

@@ -8,6 +8,7 @@ use Rattle.fpl_numbers.specs.declared.number.Fault.{Fault}
 use Rattle.fpl_numbers.specs.declared.number.Fault.TheVariants.{NoMemory}
 use Rattle.fpl_numbers.specs.declared.number.Fault.TheVariants.{Unfit as Unfits}
 use Rattle.fpl_numbers.specs.Results.{map_ok, IsFault}
+use Rattle.fpl_rows.proofs.Fits.{part_fits}
 use Rattle.fpl_log.specs.declared.step.Step.{Step}
 use Rattle.fpl_log.specs.declared.section.Section.{Section}
 use Rattle.fpl_log.specs.Slim.{AllNameEarlier, slim_steps}
@@ -18,7 +19,6 @@ use Rattle.fpl_model.specs.declared.presentation.Presentation.{Presentation}
 use Rattle.fpl_table.specs.Plain.{PlainTable}
 use Rattle.fpl_rewrite.specs.Origins.{origins_of}
 use Rattle.fpl_next.specs.Holds.{Holds}
-use Rattle.fpl_faithful.proofs.Fits.{part_fits}
 use Rattle.fpl_completion.specs.Weight.{close_weight}
 use Rattle.fpl_completion.specs.Section.{closed_list, section_of}
 use Rattle.fpl_completion.proofs.Completed.{weighed_in_order}

@@ -1,9 +1,9 @@
 -- The section of a weight has bytes: its numbers are elements, its counts are small, and it has no step with scale 0.
-use Rattle.std.specs.Prelude.{ℕ, zero, suc, ◌+◌, ◌-◌, ◌*◌, ◌^◌, ◌≡◌, ◌≤◌, ◌<◌, List, [], ◌∷◌, ◌++◌, length, map, get_or, All, Contains, Option, Some, None, IsSome, Ok, Bool, true, false, cond}
+use Rattle.std.specs.Prelude.{ℕ, zero, suc, ◌+◌, ◌-◌, ◌^◌, ◌≡◌, ◌≤◌, ◌<◌, List, [], ◌∷◌, ◌++◌, length, get_or, All, Option, Some, None, Ok, Bool, true, false, cond}
 use Rattle.std.specs.List.{find}
-use mathlib.Core.Path.{refl, sym, subst, ap, ◌∙◌}
+use mathlib.Core.Path.{refl, sym, subst}
 use native.Mathlib.Omega.{arith}
-use Rattle.std.proofs.lemmas.List.{length-append, length-map, get_or-map}
+use Rattle.std.proofs.lemmas.List.{length-append, length-map}
 use Rattle.fpl_linear.specs.Vector.{Vector, vzero}
 use Rattle.fpl_numbers.specs.declared.number.Num.{Num}
 use Rattle.fpl_numbers.specs.declared.number.Kind.{Kind}
@@ -36,16 +36,13 @@ use Rattle.fpl_rewrite.specs.Origins.{joined, relation_weight, is_exactly, relat
 use Rattle.fpl_next.specs.Holds.{Holds}
 use Rattle.fpl_next.proofs.Pushed.{zero_element}
 use Rattle.fpl_completion.specs.Weight.{put_of, gather, close_weight}
-use Rattle.fpl_completion.specs.Section.{coefficients_from, closed_list, section_of}
+use Rattle.fpl_completion.specs.Section.{slimmed, coefficients_from, closed_list, section_of}
 use Rattle.fpl_completion.proofs.Gathered.{ReadsRows, first_of, rest}
 use Rattle.fpl_completion.proofs.Recorded.{put_parts, run_parts}
 use Rattle.fpl_completion.proofs.Completed.{weighed_closed, with_rows}
-use Rattle.std.proofs.lemmas.List.Elements.{All-append}
+use Rattle.std.proofs.lemmas.List.Elements.{All-nil, All-append}
 use Rattle.fpl_sections.specs.Stored.{IsWritableOrigin, AreWritableTerms, IsWritableStep, IsWritableRow, IsWritable}
-use Rattle.fpl_complete.specs.State.{IsStorableStep, IsStorable, slimmed}
-
-none_all : {X : Type 0} (P : X → Type 0) → All P []
-none_all P i d l = absurd (omega (arith, l))
+use Rattle.fpl_complete.specs.State.{IsStorableStep, IsStorable}
 
 module _ (kind : Kind) where
   abbrev AreFactors : List Term → Type 0
@@ -75,7 +72,7 @@ module _ (kind : Kind) where
   kept_writable numbers s ss false e h all = all_cons (IsWritableStep kind) (slim_step numbers s) ss (step_writable numbers s e h) all
 
   pub slim_steps_writable : (numbers : List (Option ℕ)) (count : ℕ) (ss : List Step) → All (IsStorableStep kind) ss → All (IsWritableStep kind) (slim_steps numbers count ss)
-  slim_steps_writable numbers count [] h = none_all (IsWritableStep kind)
+  slim_steps_writable numbers count [] h = All-nil (IsWritableStep kind)
   slim_steps_writable numbers count (s ∷ ss) h =
       kept_writable numbers s (slim_steps (numbers ++ (next_number (is_left_out s) count) ∷ []) (next_count (is_left_out s) count) ss) (is_left_out s) refl (all_head (IsStorableStep kind) s ss h)
       (slim_steps_writable (numbers ++ (next_number (is_left_out s) count) ∷ []) (next_count (is_left_out s) count) ss (all_tail (IsStorableStep kind) s ss h))
@@ -87,7 +84,7 @@ module _ (kind : Kind) where
   front_few false s c cs a h = (omega arith, all_cons (λ c. IsElement kind c.number) (record { symbol = s; number = c }) cs a h)
 
   coefficients_few : (s : ℕ) (row : List Num) → AreElements kind row → (length (coefficients_from s row) ≤ length row) × All (λ c. IsElement kind c.number) (coefficients_from s row)
-  coefficients_few s [] h = (omega arith, none_all (λ c. IsElement kind c.number))
+  coefficients_few s [] h = (omega arith, All-nil (λ c. IsElement kind c.number))
   coefficients_few s (c ∷ cs) h =
       let r = coefficients_few (s + 1) cs (all_tail (IsElement kind) c cs h) in
       let f = front_few (is_nought c) s c (coefficients_from (s + 1) cs) (all_head (IsElement kind) c cs h) r.1 in
@@ -129,7 +126,7 @@ module _ (kind : Kind) (listed : IsField kind) (n : ℕ) where
   module _ (small : n < 2 ^ 32) where
     swept_writable : (pivots : List PivotRow) (s : ℕ) (row : List Num) (y : Swept) → All (IsPivotRow kind n) pivots → s ≤ n → AreElements kind row → length row ≡ n → sweep_of kind pivots s (record { row = row; terms = [] }) ≡ Ok y → AreWritableTerms kind y.terms
     swept_writable pivots s row y all l a len e =
-        let r = sweep_few pivots s (record { row = row; terms = [] }) y all l a len (none_all (λ t. IsElement kind t.factor)) e in
+        let r = sweep_few pivots s (record { row = row; terms = [] }) y all l a len (All-nil (λ t. IsElement kind t.factor)) e in
         ((let c = r.count in omega arith), r.factors)
 
     keep_writable : (h g : Held) (origin : Origin) (x : Swept) (o : Option ℕ) → AreElements kind x.row → lead_of x.row ≡ o → AreWritableTerms kind x.terms → IsWritableOrigin origin → All (IsStorableStep kind) h.steps → keep_of kind h origin x o ≡ Ok g →
@@ -172,23 +169,23 @@ ascends_few m n (p ∷ ps) h = let a = h.0 in let b = ascends_few p.lead n ps h.
 
 -- origins of a weight are rows of no other list
 all_cond : (b : Bool) (x : Origin) → IsWritableOrigin x → All IsWritableOrigin (cond b (x ∷ []) [])
-all_cond true x h = all_cons IsWritableOrigin x [] h (none_all IsWritableOrigin)
-all_cond false x h = none_all IsWritableOrigin
+all_cond true x h = all_cons IsWritableOrigin x [] h (All-nil IsWritableOrigin)
+all_cond false x h = All-nil IsWritableOrigin
 
 all_joined : (n : ℕ) (f : ℕ → List Origin) → ((i : ℕ) → All IsWritableOrigin (f i)) → All IsWritableOrigin (joined n f)
 unfolding joined
-all_joined zero f h = none_all IsWritableOrigin
+all_joined zero f h = All-nil IsWritableOrigin
 all_joined (suc n) f h = All-append IsWritableOrigin (joined n f) (f n) (all_joined n f h) (h n)
 
 relations_writable : (T : PlainTable) (r : ℕ) (qs : List Equation) → All IsWritableOrigin (relations_from T r qs)
-relations_writable T r [] = none_all IsWritableOrigin
+relations_writable T r [] = All-nil IsWritableOrigin
 relations_writable T r (q ∷ qs) =
     All-append IsWritableOrigin (cond (is_exactly (suc T.weight) (relation_weight T q)) (Relation r ∷ []) []) (relations_from T (r + 1) qs)
     (all_cond (is_exactly (suc T.weight) (relation_weight T q)) (Relation r) tt) (relations_writable T (r + 1) qs)
 
 cubes_writable : (T : PlainTable) (b : Bool) → All IsWritableOrigin (cond b (joined (length T.basis) (λ i. cond (is_cube T i) (Cube (i + 1) ∷ []) [])) [])
 cubes_writable T true = all_joined (length T.basis) (λ i. cond (is_cube T i) (Cube (i + 1) ∷ []) []) (λ i. all_cond (is_cube T i) (Cube (i + 1)) tt)
-cubes_writable T false = none_all IsWritableOrigin
+cubes_writable T false = All-nil IsWritableOrigin
 
 triples_writable : (T : PlainTable) → All IsWritableOrigin (triples_of T)
 triples_writable T =
@@ -226,7 +223,7 @@ module _ (T : PlainTable) (p : Presentation) (n : ℕ) (small : n < 2 ^ 32) (is_
   steps_writable reads size h eq =
       let r = run_parts T p h eq in
       let begin = subst (λ w. gather T p (origins_of T p) (record { kind = T.kind; size = w; held = record { pivots = []; steps = [] } }) ≡ Ok r.gathered) (sym size) r.gathers in
-      let g = gather_writable (origins_of T p) (record { pivots = []; steps = [] }) r.gathered reads (origins_writable T p) (none_all (IsPivotRow T.kind n)) (none_all (IsStorableStep T.kind)) begin in
+      let g = gather_writable (origins_of T p) (record { pivots = []; steps = [] }) r.gathered reads (origins_writable T p) (All-nil (IsPivotRow T.kind n)) (All-nil (IsStorableStep T.kind)) begin in
       closing r.gathered g r.closes
     where
       closing : (e : Elimination) → Gathered e → close_of e ≡ Ok h → All (IsStorableStep T.kind) h.steps × (length h.pivots ≤ n)
@@ -239,7 +236,7 @@ module _ (T : PlainTable) (p : Presentation) (n : ℕ) (small : n < 2 ^ 32) (is_
 
 -- closed rows
 rows_writable : (kind : Kind) (n : ℕ) → n < 2 ^ 32 → (rows : List (List Num)) → AreRows kind n rows → All (IsWritableRow kind) (closed_list rows)
-rows_writable kind n small [] h = none_all (IsWritableRow kind)
+rows_writable kind n small [] h = All-nil (IsWritableRow kind)
 rows_writable kind n small (row ∷ rows) h =
     let first = all_head (IsRowOf kind n) row rows h in
     all_cons (IsWritableRow kind) (coefficients_from 1 row) (closed_list rows) (row_writable kind row first.elements (let l = first.length_is in omega arith)) (rows_writable kind n small rows (all_tail (IsRowOf kind n) row rows h))

@@ -9,9 +9,8 @@
 --   unfit_of op a b             an operation with its operands
 --   sum_after count from n      the sum of count v over the n weights v that follow `from`
 --   BoundsOrigins p from d count   each weight v of p above `from` and up to d has at most count v origins
---   slimmed T p s               a section of the weight after T's, without the steps of dependent origins, and with the number of origins
 --   weighed_as rows section     the closed rows of a weight, and its section
-use Rattle.std.specs.Prelude.{ℕ, zero, suc, ◌≡◌, ◌≤◌, ◌<◌, ◌+◌, ◌-◌, List, [], length, All, Some, None, slice_index_or}
+use Rattle.std.specs.Prelude.{ℕ, zero, suc, ◌≡◌, ◌≤◌, ◌<◌, ◌+◌, ◌-◌, List, [], length, All, None, slice_index_or}
 use Rattle.fpl_numbers.specs.declared.number.Num.{Num}
 use Rattle.fpl_numbers.specs.declared.number.Op.{Op}
 use Rattle.fpl_numbers.specs.declared.number.Unfit.{Unfit}
@@ -20,7 +19,6 @@ use Rattle.fpl_numbers.specs.Numbers.{IsElement}
 use Rattle.fpl_log.specs.declared.step.Step.{Step}
 use Rattle.fpl_log.specs.declared.step.Step.TheVariants.{Insert, Close}
 use Rattle.fpl_log.specs.declared.section.Section.{Section}
-use Rattle.fpl_log.specs.Slim.{slim_steps}
 use Rattle.fpl_sections.specs.Stored.{IsWritableOrigin, AreWritableTerms, IsWritableRow, IsWritable}
 use Rattle.fpl_model.specs.declared.presentation.Presentation.{Presentation}
 use Rattle.fpl_table.specs.Plain.{PlainTable}
@@ -78,9 +76,6 @@ sum_after count from (suc n) = sum_after count from n + count (suc (from + n))
 
 abbrev pub BoundsOrigins : Presentation → ℕ → ℕ → (ℕ → ℕ) → Type 0
 BoundsOrigins p from d count = (v : ℕ) → from < v → v ≤ d → (T : PlainTable) → IsRaised p T → suc T.weight ≡ v → length (origins_of T p) ≤ count v
-
-abbrev pub slimmed : PlainTable → Presentation → Section → Section
-slimmed T p s = record { weight = s.weight; origins = Some (length (origins_of T p)); steps = slim_steps [] 0 s.steps; closed = s.closed }
 
 -- the closed rows of a weight, and its section
 pub record PlainWeighed : Type 0 where

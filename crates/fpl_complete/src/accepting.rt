@@ -7,10 +7,10 @@ ghost use Rattle.fpl_model.specs.Meaning.{presentation_in};
 ghost use Rattle.fpl_table.specs.Plain.{symbols_in, table_in};
 ghost use Rattle.fpl_next.specs.Holds.{Holds};
 ghost use Rattle.fpl_rewrite.specs.Origins.{origins_of};
+ghost use Rattle.fpl_completion.specs.Section.{slimmed};
 ghost use Rattle.fpl_check.specs.Refusal.{GivesCheck};
 ghost use Rattle.fpl_check.specs.Premises.{IsSectionFor};
 ghost use Rattle.fpl_check.specs.Check.{check_of};
-ghost use Rattle.fpl_complete.specs.State.{slimmed};
 
 use crate::weighed::Weighed;
 use fpl_check::{CheckFault, check_section, count_origins};

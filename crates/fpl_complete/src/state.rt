@@ -9,14 +9,14 @@ ghost use Rattle.fpl_table.specs.Standard.{start_of, count_through, IsTableOf};
 ghost use Rattle.fpl_rewrite.specs.Origins.{origins_of};
 ghost use Rattle.fpl_next.specs.Raised.{IsRaised};
 ghost use Rattle.fpl_completion.specs.Weight.{close_weight, next_of};
-ghost use Rattle.fpl_completion.specs.Section.{section_of, Computes, OverflowsAt};
+ghost use Rattle.fpl_completion.specs.Section.{slimmed, section_of, Computes, OverflowsAt};
 ghost use Rattle.fpl_check.specs.declared.fault.Spot.{Spot};
 ghost use Rattle.fpl_check.specs.declared.fault.Why.{Why};
 ghost use Rattle.fpl_check.specs.Refusal.{bad, unfit};
 ghost use Rattle.fpl_check.specs.Premises.{IsSectionFor};
 ghost use Rattle.fpl_check.specs.Check.{check_of, Accepts};
 ghost use Rattle.fpl_sections.specs.Stored.{IsWritable};
-ghost use Rattle.fpl_complete.specs.State.{AreOfWeights, BoundsOrigins, IsStorable, PassesAfter, section_at, slimmed, sum_after, unfit_of};
+ghost use Rattle.fpl_complete.specs.State.{AreOfWeights, BoundsOrigins, IsStorable, PassesAfter, section_at, sum_after, unfit_of};
 
 use crate::accepting::accept;
 use crate::weight::complete_weight;

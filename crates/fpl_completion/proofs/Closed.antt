@@ -10,11 +10,11 @@ use Rattle.fpl_numbers.specs.declared.number.Num.{Num}
 use Rattle.fpl_numbers.specs.Numbers.{IsField}
 use Rattle.fpl_numbers.specs.Kinds.{field_of, number_of}
 use Rattle.fpl_rows.specs.Meaning.{IsClosedList, InSpanOf}
+use Rattle.fpl_rows.proofs.Fits.{first_fits}
 use Rattle.fpl_log.specs.declared.step.Origin.{Origin}
 use Rattle.fpl_elimination.specs.Plain.{Held, Elimination, close_of, rows_of}
 use Rattle.fpl_elimination.specs.Spans.{InSpanAt}
 use Rattle.fpl_elimination.proofs.Found.{close_means}
-use Rattle.fpl_faithful.proofs.Fits.{first_fits}
 use Rattle.fpl_model.specs.declared.presentation.Presentation.{Presentation}
 use Rattle.fpl_table.specs.Plain.{PlainTable, symbols_in}
 use Rattle.fpl_rewrite.specs.Origins.{origins_of}

@@ -1,9 +1,9 @@
 -- What the plain run of a weight gives is the table's next weight.
-use Rattle.std.specs.Prelude.{◌≡◌, ◌<◌, ◌≤◌, ◌↔◌, List, [], length, Ok, Contains}
-use mathlib.Core.Path.{sym, subst}
+use Rattle.std.specs.Prelude.{◌≡◌, ◌<◌, ◌≤◌, ◌↔◌, List, [], length, Ok}
+use mathlib.Core.Path.{subst}
 use Rattle.fpl_linear.specs.Vector.{Vector}
-use Rattle.fpl_linear.specs.Span.{Spanned, SpansKind}
-use Rattle.fpl_linear.proofs.Span.{spanned_one, spanned_through, in_span}
+use Rattle.fpl_linear.specs.Span.{SpansKind}
+use Rattle.fpl_linear.proofs.Span.{spanned_one, in_span}
 use Rattle.fpl_numbers.specs.declared.number.Num.{Num}
 use Rattle.fpl_numbers.specs.declared.number.Kind.{Kind}
 use Rattle.fpl_numbers.specs.Numbers.{IsField}
@@ -22,94 +22,50 @@ use Rattle.fpl_next.specs.Raised.{IsRaised}
 use Rattle.fpl_next.specs.Raised.IsRaised.{pushed}
 use Rattle.fpl_next.proofs.Holding.{push_holds}
 use Rattle.fpl_rewrite.specs.Origins.{origins_of}
-use Rattle.fpl_rewrite.specs.Rows.{row_of_origin}
-use Rattle.fpl_faithful.specs.Premises.{HasRows, HasWeights}
-use Rattle.fpl_faithful.specs.RowLaws.{Stands}
-use Rattle.fpl_faithful.specs.TableLaws.{vector_of_origin}
-use Rattle.fpl_faithful.proofs.Laws.{rows_of_shape, weights_of_built, rows_stand, origins_are_sources, sources_are_origins}
+use Rattle.fpl_faithful.proofs.HeldTables.{RowsStand, InOriginSpan, origin_vector, is_field, origins_stand, source_origin, from_sources}
 use Rattle.fpl_completion.specs.Weight.{close_weight}
 use Rattle.fpl_completion.proofs.Closed.{close_weight_closes}
 use Rattle.fpl_completion.proofs.Gathered.{ReadsRows}
 use Rattle.fpl_completion.proofs.Recorded.{steps_in_order}
 
 module _ (p : Presentation) (T : PlainTable) where
-  -- each row of an origin stands for its vector, over the field of kind k
-  abbrev RowsStand : (k : Kind) → (Origin → Vector (field_of k)) → Type 0
-  RowsStand k vector = (o : Origin) → Contains (origins_of T p) o → (row : List Num) → row_of_origin T p o ≡ Ok row → Stands k (length (symbols_in T)) (vector o) row
-
   -- the rows span what the vectors of the origins span, over the field of kind k
   abbrev SpanAt : (k : Kind) → List (List Num) → Type 0
-  SpanAt k rows =
-      (vector : Origin → Vector (field_of k)) → RowsStand k vector → (v : Vector (field_of k)) →
-      InSpanOf k rows v ↔ Spanned (field_of k) (λ x. (o : Origin) × Contains (origins_of T p) o × (vector o ≡ x)) v
+  SpanAt k rows = (vector : Origin → Vector (field_of k)) → RowsStand p T k vector → (v : Vector (field_of k)) → InSpanOf k rows v ↔ InOriginSpan p T k vector v
+
+  reads_rows : (listed : IsField T.kind) (vector : Origin → Vector (field_of T.kind)) → RowsStand p T T.kind vector → ReadsRows T listed p (length (symbols_in T)) vector (origins_of T p)
+  reads_rows listed vector stand = record {
+    elements = λ o c row f. (stand o c row f).elements;
+    long = λ o c row f. (stand o c row f).long;
+    stands = λ o c row f. (stand o c row f).vector;
+  }
 
   closed_at : IsField T.kind → (k : Kind) → T.kind ≡ k → (h : Held) → close_weight T p ≡ Ok h → SpanAt k (rows_of h.pivots)
-  closed_at is_field k e h run =
-      subst (λ k. SpanAt k (rows_of h.pivots)) e (λ vector stand v.
-      (close_weight_closes T is_field p vector
-      (record {
-        elements = λ o c row f. (stand o c row f).elements;
-        long = λ o c row f. (stand o c row f).long;
-        stands = λ o c row f. (stand o c row f).vector;
-      }) h run).span v)
+  closed_at listed k e h run = subst (λ k. SpanAt k (rows_of h.pivots)) e (λ vector stand v. (close_weight_closes T listed p vector (reads_rows listed vector stand) h run).span v)
 
   module _ (holds : Holds p T) where
-    is_field : IsField T.kind
-    is_field = subst IsField (sym holds.kind) holds.sound.field
-
-    rows : HasRows T
-    rows = rows_of_shape T holds.shape
-
-    weights : HasWeights T
-    weights = weights_of_built p T holds.kind holds.generators holds.sound holds.built
-
-    vector : Origin → Vector (field_of p.field)
-    vector o = vector_of_origin (field_of p.field) (presentation_in p) (table_in p.field T) o
-
-    stand : RowsStand p.field vector
-    unfolding vector
-    stand = rows_stand p T holds.kind holds.generators holds.sound rows weights
-
     -- what follows from rows that stand for vectors
-    pub with_rows : (Q : Type 0) → ((is_field : IsField T.kind) (vector : Origin → Vector (field_of T.kind)) → ReadsRows T is_field p (length (symbols_in T)) vector (origins_of T p) → Q) → Q
+    pub with_rows : (Q : Type 0) → ((listed : IsField T.kind) (vector : Origin → Vector (field_of T.kind)) → ReadsRows T listed p (length (symbols_in T)) vector (origins_of T p) → Q) → Q
     with_rows Q follows =
-        subst (λ k. (vector : Origin → Vector (field_of k)) → RowsStand k vector → Q) holds.kind
-        (λ vector stand. follows is_field vector
-        (record {
-          elements = λ o c row f. (stand o c row f).elements;
-          long = λ o c row f. (stand o c row f).long;
-          stands = λ o c row f. (stand o c row f).vector;
-        }))
-        vector stand
+        subst (λ k. (vector : Origin → Vector (field_of k)) → RowsStand p T k vector → Q) holds.kind
+        (λ vector stand. follows (is_field p T holds) vector (reads_rows (is_field p T holds) vector stand)) (origin_vector p T) (origins_stand p T holds)
 
     -- the rows are closed
     pub weighed_closed : (h : Held) → close_weight T p ≡ Ok h → IsClosedList T.kind (length (symbols_in T)) (rows_of h.pivots)
-    weighed_closed h run =
-        subst (λ k. (vector : Origin → Vector (field_of k)) → RowsStand k vector → IsClosedList T.kind (length (symbols_in T)) (rows_of h.pivots)) holds.kind
-        (λ vector stand.
-        (close_weight_closes T is_field p vector
-        (record {
-          elements = λ o c row f. (stand o c row f).elements;
-          long = λ o c row f. (stand o c row f).long;
-          stands = λ o c row f. (stand o c row f).vector;
-        }) h run).closed)
-        vector stand
+    weighed_closed h run = with_rows (IsClosedList T.kind (length (symbols_in T)) (rows_of h.pivots)) (λ listed vector reads. (close_weight_closes T listed p vector reads h run).closed)
 
     -- and span exactly the source rows
     pub weighed_spans : (h : Held) → close_weight T p ≡ Ok h →
         SpansKind (field_of p.field) (IsSource (field_of p.field) (presentation_in p) (table_in p.field T)) (length (rows_of h.pivots)) (row_in p.field (rows_of h.pivots))
-    unfolding vector
     weighed_spans h run =
-        let span = closed_at is_field p.field holds.kind h run vector stand in
+        let span = closed_at (is_field p T holds) p.field holds.kind h run (origin_vector p T) (origins_stand p T holds) in
         record {
           each = λ v s.
-              let o = sources_are_origins p T holds.kind holds.generators holds.sound rows weights v s in
+              let o = source_origin p T holds v s in
               (span v).1 (spanned_one (field_of p.field) _ v (o.0, o.1, o.2));
           from = λ i l.
-              spanned_through (field_of p.field) _ (IsSource (field_of p.field) (presentation_in p) (table_in p.field T))
-              (λ x a. spanned_one (field_of p.field) _ x
-              (subst (IsSource (field_of p.field) (presentation_in p) (table_in p.field T)) a.2 (origins_are_sources p T holds.kind holds.generators holds.sound rows weights a.0 a.1)))
-              (row_in p.field (rows_of h.pivots) i) ((span (row_in p.field (rows_of h.pivots) i)).0 (in_span (field_of p.field) (length (rows_of h.pivots)) (row_in p.field (rows_of h.pivots)) i l));
+              from_sources p T holds (row_in p.field (rows_of h.pivots) i)
+              ((span (row_in p.field (rows_of h.pivots) i)).0 (in_span (field_of p.field) (length (rows_of h.pivots)) (row_in p.field (rows_of h.pivots)) i l));
         }
 
     -- so the table with the weight pushed is built again
@@ -121,4 +77,4 @@ module _ (p : Presentation) (T : PlainTable) where
     next_raised h run raised = pushed T (rows_of h.pivots) raised (weighed_closed h run) (weighed_spans h run)
 
     pub weighed_in_order : (h : Held) → close_weight T p ≡ Ok h → AreInOrder [] 0 h.steps
-    weighed_in_order h run = with_rows (AreInOrder [] 0 h.steps) (λ is_field vector reads. steps_in_order T p is_field vector reads h run)
+    weighed_in_order h run = with_rows (AreInOrder [] 0 h.steps) (λ listed vector reads. steps_in_order T p listed vector reads h run)

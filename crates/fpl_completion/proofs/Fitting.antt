@@ -8,14 +8,14 @@ use Rattle.fpl_numbers.specs.Numbers.{is_nought, residue, negative_of, inverse_o
 use Rattle.fpl_numbers.specs.Results.{and_then, map_ok}
 use Rattle.fpl_rows.specs.Positions.{lead_of}
 use Rattle.fpl_log.specs.declared.step.Origin.{Origin}
-use Rattle.fpl_elimination.specs.Plain.{PivotRow, Swept, stands_at, taken_off, sweep_by, sweep_at, sweep_of, Held, Elimination, kept, keep_of, inserted_as, insert_of, closed_with, close_by, close_at, close_to, close_of, rows_of, take_at, take_row, sweep_rows}
+use Rattle.fpl_elimination.specs.Plain.{PivotRow, Swept, stands_at, taken_off, sweep_by, sweep_at, sweep_of, Held, Elimination, kept, keep_of, inserted_as, insert_of, closed_with, close_by, close_at, close_to, close_of, rows_of, sweep_rows}
 use Rattle.fpl_model.specs.declared.presentation.Presentation.{Presentation}
 use Rattle.fpl_table.specs.Plain.{PlainTable}
 use Rattle.fpl_table.specs.Push.{push_of}
 use Rattle.fpl_rewrite.specs.Origins.{origins_of}
 use Rattle.fpl_rewrite.specs.Rows.{row_of_origin}
 use Rattle.fpl_faithful.proofs.Fits.{DoesFit, then_fits, map_fits}
-use Rattle.fpl_faithful.proofs.Fitting.{Always, if_fits, axpy_fits, scale_fits, origin_fits}
+use Rattle.fpl_faithful.proofs.Fitting.{Always, if_fits, axpy_fits, scale_fits, sweep_rows_fits, origin_fits}
 use Rattle.fpl_completion.specs.Weight.{begun, with_held, put_of, gather, again, close_weight, next_of}
 
 module _ (kind : Kind) (always : Always kind) where
@@ -46,14 +46,6 @@ module _ (kind : Kind) (always : Always kind) where
   close_fits : (pivots : List PivotRow) (n : ℕ) (h : Held) → DoesFit (close_to kind pivots n h)
   close_fits pivots zero h = (h, refl)
   close_fits pivots (suc s) h = then_fits (λ g. close_at kind pivots s g) (close_to kind pivots s h) (close_fits pivots s h) (λ g. close_by_fits (find (stands_at (s + 1)) pivots) s g)
-
-  take_fits : (u : List Num) (o : Option ℕ) (v : List Num) → DoesFit (take_at kind u o v)
-  take_fits u None v = (v, refl)
-  take_fits u (Some s) v = if_fits (is_nought (slice_index_or v (s - 1) (residue 0))) _ _ (v, refl) (axpy_fits kind always v (negative_of kind (slice_index_or v (s - 1) (residue 0))) u)
-
-  sweep_rows_fits : (us : List (List Num)) (v : List Num) → DoesFit (sweep_rows kind us v)
-  sweep_rows_fits [] v = (v, refl)
-  sweep_rows_fits (u ∷ us) v = then_fits (λ w. take_row kind u w) (sweep_rows kind us v) (sweep_rows_fits us v) (λ w. take_fits u (lead_of u) w)
 
 module _ (T : PlainTable) (always : Always T.kind) (p : Presentation) where
   -- all is gathered, and the kind stays the table's

@@ -15,11 +15,11 @@ use Rattle.fpl_numbers.specs.Reads.{Reads}
 use Rattle.fpl_numbers.proofs.KindReads.{kind_reads}
 use Rattle.fpl_scalar.specs.Vectors.{AreElements}
 use Rattle.fpl_rows.specs.Meaning.{vector_in}
+use Rattle.fpl_rows.proofs.Fits.{ok_same, first_fits, part_fits}
 use Rattle.fpl_log.specs.declared.step.Origin.{Origin}
 use Rattle.fpl_elimination.specs.Plain.{PivotRow, IsPivotRow, Held, Elimination, Inserted, insert_of, sweep_rows}
 use Rattle.fpl_elimination.specs.Spans.{InSpanAt}
 use Rattle.fpl_elimination.proofs.Spans.{standing, insert_reads, spans_more}
-use Rattle.fpl_faithful.proofs.Fits.{ok_same, first_fits, part_fits}
 use Rattle.fpl_model.specs.declared.presentation.Presentation.{Presentation}
 use Rattle.fpl_table.specs.Plain.{PlainTable}
 use Rattle.fpl_rewrite.specs.Rows.{row_of_origin}

@@ -25,9 +25,6 @@ use Rattle.fpl_log.specs.Slim.{is_left_out, new_number, next_number, next_count,
 use Rattle.fpl_elimination.specs.Plain.{PivotRow, IsPivotRow, stands_at, Swept, taken_off, sweep_by, sweep_at, sweep_of, Held, Inserted, keep_of, insert_of, close_by, close_to}
 use Rattle.fpl_elimination.proofs.Sweeping.{sweep_reads}
 
-longer : {X : Type 0} (xs : List X) (x : X) → length (xs ++ x ∷ []) ≡ length xs + 1
-longer xs x = length-append xs (x ∷ [])
-
 -- the new numbers, after one step more
 numbers_more : (numbers : List (Option ℕ)) (count : ℕ) (ss : List Step) (s : Step) → (c : ℕ) × (numbers_after numbers count (ss ++ s ∷ []) ≡ numbers_after numbers count ss ++ (next_number (is_left_out s) c) ∷ [])
 numbers_more numbers count [] s = (count, refl)
@@ -37,7 +34,7 @@ numbers_long : (numbers : List (Option ℕ)) (count : ℕ) (ss : List Step) → 
 numbers_long numbers count [] = omega arith
 numbers_long numbers count (r ∷ ss) =
     let h = numbers_long (numbers ++ (next_number (is_left_out r) count) ∷ []) (next_count (is_left_out r) count) ss in
-    let k = longer numbers (next_number (is_left_out r) count) in omega arith
+    let k = length-append numbers ((next_number (is_left_out r) count) ∷ []) in omega arith
 
 order_more : (numbers : List (Option ℕ)) (count : ℕ) (ss : List Step) (s : Step) → AreInOrder numbers count ss → CitesEarlier (numbers_after numbers count ss) s → AreInOrder numbers count (ss ++ s ∷ [])
 order_more numbers count [] s h c = (c, tt)
@@ -63,7 +60,7 @@ some_stays o e f = let k : ⊥ = cc in k
 stays_more : (ss : List Step) (s : Step) (i : ℕ) → Stays ss i → Stays (ss ++ s ∷ []) i
 stays_more ss s i h =
     let m = numbers_more [] 0 ss s in
-    let l = longer (numbered ss) (next_number (is_left_out s) m.0) in
+    let l = length-append (numbered ss) ((next_number (is_left_out s) m.0) ∷ []) in
     let a = h.earlier.from_one in
     let b = h.earlier.to_end in
     let same = get_or_append_left (numbered ss) ((next_number (is_left_out s) m.0) ∷ []) None (i - 1) (omega arith) in
@@ -75,7 +72,7 @@ stays_more ss s i h =
 stays_last : (ss : List Step) (s : Step) → is_left_out s ≡ false → Stays (ss ++ s ∷ []) (length ss + 1)
 stays_last ss s kept =
     let m = numbers_more [] 0 ss s in
-    let l = longer (numbered ss) (next_number (is_left_out s) m.0) in
+    let l = length-append (numbered ss) ((next_number (is_left_out s) m.0) ∷ []) in
     let long = numbers_long [] 0 ss in
     let here = get_or_push (numbered ss) (next_number (is_left_out s) m.0) None (length ss + 1 - 1) (omega arith) ∙ ap (λ b. next_number b m.0) kept in
     record {
@@ -190,8 +187,8 @@ close_order kind pivots m h g none r e = (close_recorded kind pivots m h g none 
 
 -- inserting records one step, and closing one for each closed row
 keep_counts : (kind : Kind) (h g : Held) (origin : Origin) (x : Swept) (o : Option ℕ) → keep_of kind h origin x o ≡ Ok g → length g.steps ≡ length h.steps + 1
-keep_counts kind h g origin x None e = ap (λ g. length g.steps) (sym (ok_same e)) ∙ longer h.steps _
-keep_counts kind h g origin x (Some s) e = let f = part_fits _ (scale_of kind (inverse_of kind (get_or x.row (s - 1) (residue 0))) x.row) g e in ap (λ g. length g.steps) f.1.1 ∙ longer h.steps _
+keep_counts kind h g origin x None e = ap (λ g. length g.steps) (sym (ok_same e)) ∙ length-append h.steps (_ ∷ [])
+keep_counts kind h g origin x (Some s) e = let f = part_fits _ (scale_of kind (inverse_of kind (get_or x.row (s - 1) (residue 0))) x.row) g e in ap (λ g. length g.steps) f.1.1 ∙ length-append h.steps (_ ∷ [])
 
 pub insert_counts : (kind : Kind) (n : ℕ) (h : Held) (row : List Num) (origin : Origin) (r : Inserted) → insert_of (record { kind = kind; size = n; held = h }) row origin ≡ Ok r → length r.held.steps ≡ length h.steps + 1
 insert_counts kind n h row origin r e =
@@ -203,8 +200,8 @@ step_counts : (kind : Kind) (s : ℕ) (f g : Held) (o : Option PivotRow) → clo
 step_counts kind s f g None e = subst (λ g. length g.steps + length f.pivots ≡ length f.steps + length g.pivots) (ok_same e) refl
 step_counts kind s f g (Some p) e =
     let r = part_fits _ (sweep_of kind f.pivots s (record { row = p.row; terms = [] })) g e in
-    let a = longer f.steps (Close p.step r.0.terms) in
-    let b = longer f.pivots (record { lead = s + 1; step = length f.steps + 1; row = r.0.row }) in
+    let a = length-append f.steps ((Close p.step r.0.terms) ∷ []) in
+    let b = length-append f.pivots ((record { lead = s + 1; step = length f.steps + 1; row = r.0.row }) ∷ []) in
     subst (λ g. length g.steps + length f.pivots ≡ length f.steps + length g.pivots) (sym r.1.1) (omega arith)
 
 pub close_counts : (kind : Kind) (pivots : List PivotRow) (m : ℕ) (h g : Held) → close_to kind pivots m h ≡ Ok g → length g.steps + length h.pivots ≡ length h.steps + length g.pivots

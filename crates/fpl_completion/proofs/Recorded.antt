@@ -7,11 +7,11 @@ use Rattle.fpl_numbers.specs.declared.number.Num.{Num}
 use Rattle.fpl_numbers.specs.Numbers.{IsField}
 use Rattle.fpl_numbers.specs.Kinds.{field_of}
 use Rattle.fpl_numbers.specs.Results.{map_ok}
+use Rattle.fpl_rows.proofs.Fits.{ok_same, first_fits, part_fits}
 use Rattle.fpl_log.specs.declared.step.Origin.{Origin}
 use Rattle.fpl_log.specs.Slim.{AreInOrder}
 use Rattle.fpl_elimination.specs.Plain.{IsPivotRow, Held, Elimination, Inserted, insert_of, close_of, rows_of}
 use Rattle.fpl_elimination.proofs.Found.{insert_pivots}
-use Rattle.fpl_faithful.proofs.Fits.{ok_same, first_fits, part_fits}
 use Rattle.fpl_model.specs.declared.presentation.Presentation.{Presentation}
 use Rattle.fpl_table.specs.Plain.{PlainTable, symbols_in}
 use Rattle.fpl_rewrite.specs.Origins.{origins_of}

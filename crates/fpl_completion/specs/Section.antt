@@ -1,8 +1,10 @@
--- What is kept of the computing of a weight, and what computing a weight of a presentation gives.
+-- What is kept of the section of a weight, and what computing a weight of a presentation gives.
 --
+--   slimmed T p s             a section of the weight after T's as it is kept: without the steps of dependent origins, and with the number of origins
+--   coefficient s c           the number c at symbol s
 --   coefficients_from s row   the numbers of a row that are not 0, each with its symbol, the first place being symbol s
 --   closed_list rows          closed rows, each as its coefficients, with symbols from 1
---   section_of T p h          the section of closed rows and the steps that made them: without the steps of dependent origins, and with the number of origins
+--   section_of T p h          the section of closed rows and the steps that made them, slimmed
 --   section_after T p         that of the weight after the table's, or the first operation that does not fit
 --   Computes p w r            computing weight w of p gives r: its section, or the first operation that does not fit
 --   FitsAt p w                each operation in computing weight w of p fits
@@ -26,9 +28,15 @@ use Rattle.fpl_rewrite.specs.Origins.{origins_of}
 use Rattle.fpl_next.specs.Raised.{IsRaised}
 use Rattle.fpl_completion.specs.Weight.{close_weight}
 
+abbrev pub slimmed : PlainTable → Presentation → Section → Section
+slimmed T p s = record { weight = s.weight; origins = Some (length (origins_of T p)); steps = slim_steps [] 0 s.steps; closed = s.closed }
+
+abbrev pub coefficient : ℕ → Num → Coefficient
+coefficient s c = record { symbol = s; number = c }
+
 abbrev pub coefficients_from : ℕ → List Num → List Coefficient
 coefficients_from s [] = []
-coefficients_from s (c ∷ cs) = if is_nought c then coefficients_from (s + 1) cs else (record { symbol = s; number = c }) ∷ coefficients_from (s + 1) cs
+coefficients_from s (c ∷ cs) = if is_nought c then coefficients_from (s + 1) cs else coefficient s c ∷ coefficients_from (s + 1) cs
 
 abbrev pub closed_list : List (List Num) → List (List Coefficient)
 closed_list rows = map (λ row. coefficients_from 1 row) rows

@@ -1,5 +1,5 @@
 -- Over a prime every operation fits, so nothing in the plain run is refused.
-use Rattle.std.specs.Prelude.{ℕ, ◌+◌, ◌-◌, List, [], ◌∷◌, length, get_or, map, set, Result, Bool, true, false, cond, nat_eq, if◌then◌else◌}
+use Rattle.std.specs.Prelude.{ℕ, ◌+◌, ◌-◌, List, [], ◌∷◌, length, get_or, map, set, Option, Some, None, Result, Bool, true, false, cond, nat_eq, if◌then◌else◌}
 use mathlib.Core.Path.{refl}
 use Rattle.fpl_numbers.specs.declared.number.Num.{Num}
 use Rattle.fpl_numbers.specs.declared.number.Op.{Op}
@@ -7,9 +7,10 @@ use Rattle.fpl_numbers.specs.declared.number.Op.TheVariants.{Add, Mul}
 use Rattle.fpl_numbers.specs.declared.number.Kind.{Kind}
 use Rattle.fpl_numbers.specs.declared.number.Kind.TheVariants.{Prime}
 use Rattle.fpl_numbers.specs.declared.number.Unfit.{Unfit}
-use Rattle.fpl_numbers.specs.Numbers.{operate, result_of, residue, negative_of}
+use Rattle.fpl_numbers.specs.Numbers.{operate, result_of, is_nought, residue, negative_of}
 use Rattle.fpl_numbers.specs.Results.{map_ok, and_then}
 use Rattle.fpl_scalar.specs.Vectors.{fused, axpy_of, scale_of}
+use Rattle.fpl_rows.specs.Positions.{lead_of}
 use Rattle.fpl_algebra.specs.Tree.{Tree, Trees, gen, none, sum_of, multiple, bracket_of as br, end, more}
 use Rattle.fpl_algebra.specs.Degrees.{weight_of}
 use Rattle.fpl_model.specs.declared.presentation.Equation.{Equation}
@@ -17,6 +18,7 @@ use Rattle.fpl_model.specs.declared.presentation.Presentation.{Presentation}
 use Rattle.fpl_model.specs.Meaning.{plain}
 use Rattle.fpl_log.specs.declared.step.Origin.{Origin}
 use Rattle.fpl_log.specs.declared.step.Origin.TheVariants.{Relation, Jacobi, Cube, Row}
+use Rattle.fpl_elimination.specs.Plain.{take_at, take_row, sweep_rows}
 use Rattle.fpl_table.specs.Plain.{PlainTable, plain_basis, entry_row, image_row, symbols_in, Pairing, nothing, plus, minus, pairing}
 use Rattle.fpl_table.specs.Value.{zero_row, padded, add_at, add_row, add_entry, add_product, bracket_with, bracket_from, bracket_of, is_light, value_of, values_of}
 use Rattle.fpl_rewrite.specs.Rows.{pair_place, generator_place, add_signed, add_outer, outer_with, outer_from, outer_of, counts, form_of, forms_of, relation_row_of, entry_if, spread, first_terms, second_terms, swapped, third_terms, jacobi_row_of, cube_row_of, equation_row, row_of_origin}
@@ -56,6 +58,15 @@ module _ (kind : Kind) (always : Always kind) where
   pub scale_fits : (c : Num) (xs : List Num) → DoesFit (scale_of kind c xs)
   scale_fits c [] = ([], refl)
   scale_fits c (x ∷ xs) = then_fits (λ m. map_ok (λ rest. m ∷ rest) (scale_of kind c xs)) _ (always Mul c x) (λ m. map_fits (λ rest. m ∷ rest) _ (scale_fits c xs))
+
+  -- sweeping by closed rows
+  take_fits : (u : List Num) (o : Option ℕ) (v : List Num) → DoesFit (take_at kind u o v)
+  take_fits u None v = (v, refl)
+  take_fits u (Some s) v = if_fits (is_nought (get_or v (s - 1) (residue 0))) _ _ (v, refl) (axpy_fits v (negative_of kind (get_or v (s - 1) (residue 0))) u)
+
+  pub sweep_rows_fits : (us : List (List Num)) (v : List Num) → DoesFit (sweep_rows kind us v)
+  sweep_rows_fits [] v = (v, refl)
+  sweep_rows_fits (u ∷ us) v = then_fits (λ w. take_row kind u w) (sweep_rows kind us v) (sweep_rows_fits us v) (λ w. take_fits u (lead_of u) w)
 
 module _ (T : PlainTable) (always : Always T.kind) where
   entry_fits : (i j : ℕ) (m : Num) (v : List Num) → DoesFit (add_entry T i j m v)

@@ -15,6 +15,7 @@ use Rattle.fpl_numbers.specs.Numbers.{IsField, IsElement, operate, is_nought, re
 use Rattle.fpl_numbers.specs.Results.{and_then}
 use Rattle.fpl_numbers.specs.Kinds.{field_of, number_of, Number}
 use Rattle.fpl_scalar.specs.Vectors.{AreElements, scale_of}
+use Rattle.fpl_rows.proofs.Fits.{ok_same, first_fits}
 use Rattle.fpl_algebra.specs.Tree.{Tree, Trees, gen, none, sum_of, multiple, bracket_of as br, end, more, generator}
 use Rattle.fpl_algebra.specs.Degrees.{IsVoid, AreVoid, Degree, any, exact, mixed, of_both, of_bracket, weight_of, weights_of, weight_of_both}
 use Rattle.fpl_algebra.specs.Degrees.IsVoid.{void_none, void_sum, void_multiple, void_left, void_right}
@@ -34,7 +35,6 @@ use Rattle.fpl_table.specs.Plain.{PlainTable, vector_in, table_in, shell_in, sym
 use Rattle.fpl_table.specs.Value.{zero_row, add_row, value_of}
 use Rattle.fpl_rewrite.specs.Rows.{pair_place, generator_place, add_signed, add_outer, outer_with, outer_from, outer_of, has_weight, counts, symbol_unit, form_of, forms_of, relation_row_of, spread}
 use Rattle.fpl_faithful.specs.Premises.{IsRowIn, HasRows, HasWeights}
-use Rattle.fpl_faithful.proofs.Fits.{ok_same, first_fits}
 use Rattle.fpl_faithful.proofs.Rows.{zero_row_reads, add_at_reads, add_row_reads, scale_reads, minus_reads, at_place}
 use Rattle.fpl_faithful.proofs.Walks.{Places, both_walks}
 use Rattle.fpl_faithful.proofs.Pairs.{paired, weight, paired_is, IsPairOf, IsPaired, pairing_is}

@@ -11,3 +11,4 @@ pub mod Listed
 pub mod Sources
 pub mod Fitting
 pub mod Laws
+pub mod HeldTables

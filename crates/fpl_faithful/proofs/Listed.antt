@@ -7,7 +7,7 @@ use native.Mathlib.Decide.{ℕ_discrete}
 use Rattle.std.proofs.lemmas.List.Elements.{Contains-append_left, Contains-append_right, Contains-append_cases}
 use Rattle.fpl_numbers.specs.declared.number.Kind.{Kind}
 use Rattle.fpl_numbers.specs.declared.number.Kind.TheVariants.{Rational, Prime}
-use Rattle.fpl_algebra.specs.Tree.{Parity, even, odd}
+use Rattle.fpl_algebra.specs.Tree.{odd}
 use Rattle.fpl_algebra.specs.Degrees.{Degree, any, exact, mixed}
 use Rattle.fpl_algebra.specs.Symbols.{is_odd}
 use Rattle.fpl_model.specs.declared.presentation.Equation.{Equation}
@@ -16,32 +16,16 @@ use Rattle.fpl_log.specs.declared.step.Origin.{Origin}
 use Rattle.fpl_log.specs.declared.step.Origin.TheVariants.{Relation, Jacobi, Cube}
 use Rattle.fpl_table.specs.Plain.{PlainTable}
 use Rattle.fpl_rewrite.specs.Origins.{joined, relation_weight, is_exactly, relations_from, relations_of, is_triple, triples_of, is_cube, is_three, cubes_of, origins_of}
+use Rattle.fpl_rewrite.proofs.Listed.{one_if, in_joined, odd_is}
 use Rattle.fpl_faithful.proofs.Pairs.{weight, parity}
 
-is_three_kind : (k : Kind) → is_three k ≡ true → k ≡ Prime 3
+pub is_three_kind : (k : Kind) → is_three k ≡ true → k ≡ Prime 3
 is_three_kind Rational e = absurd (let k : ⊥ = cc in k)
 is_three_kind (Prime p) e = ap Prime (grind arith)
-
-one_if : {A : Type 0} (b : Bool) (x y : A) → Contains (cond b (x ∷ []) []) y → (b ≡ true) × (x ≡ y)
-one_if true x y h = (refl, go h.0 h.1 h.2)
-  where
-    go : (k : ℕ) → k < 1 → get_or (x ∷ []) k y ≡ y → x ≡ y
-    go zero l e = e
-    go (suc k) l e = absurd (omega arith)
-one_if false x y h = absurd (let l = h.1 in omega arith)
 
 if_one : {A : Type 0} (b : Bool) (x : A) → b ≡ true → Contains (cond b (x ∷ []) []) x
 if_one true x e = (0, omega arith, refl)
 if_one false x e = absurd (let k : ⊥ = cc in k)
-
-in_joined : {A : Type 0} (n : ℕ) (f : ℕ → List A) (x : A) → Contains (joined n f) x → (i : ℕ) × (i < n) × Contains (f i) x
-unfolding joined
-in_joined zero f x h = absurd (let l = h.1 in omega arith)
-in_joined (suc n) f x h = go (Contains-append_cases (joined n f) (f n) x h) (in_joined n f x)
-  where
-    go : Contains (joined n f) x ⊎ Contains (f n) x → (Contains (joined n f) x → (i : ℕ) × (i < n) × Contains (f i) x) → (i : ℕ) × (i < suc n) × Contains (f i) x
-    go (inl k) t = let r = t k in (r.0, (let l = r.1 in omega arith), r.2)
-    go (inr k) t = (n, omega arith, k)
 
 joined_has : {A : Type 0} (n : ℕ) (f : ℕ → List A) (x : A) (i : ℕ) → i < n → Contains (f i) x → Contains (joined n f) x
 unfolding joined
@@ -52,17 +36,13 @@ joined_has (suc n) f x i l h = go (ℕ_discrete i n) (λ k. joined_has n f x i k
     go (yes e) t = Contains-append_right (joined n f) (f n) x (subst (λ i. Contains (f i) x) e h)
     go (no d) t = Contains-append_left (joined n f) (f n) x (t (omega arith))
 
-exactly_is : (w : ℕ) (d : Degree ℕ) → is_exactly w d ≡ true → d ≡ exact w
+pub exactly_is : (w : ℕ) (d : Degree ℕ) → is_exactly w d ≡ true → d ≡ exact w
 exactly_is w any e = absurd (let k : ⊥ = cc in k)
 exactly_is w (exact v) e = ap exact (grind arith)
 exactly_is w mixed e = absurd (let k : ⊥ = cc in k)
 
 is_exact : (w : ℕ) (d : Degree ℕ) → d ≡ exact w → is_exactly w d ≡ true
 is_exact w d e = ap (is_exactly w) e ∙ (let f : is_exactly w (exact w) ≡ true = grind arith in f)
-
-odd_is : (s : Parity) → is_odd s ≡ true → s ≡ odd
-odd_is odd e = refl
-odd_is even e = absurd (let k : ⊥ = cc in k)
 
 module _ (T : PlainTable) where
   abbrev n : ℕ
@@ -98,7 +78,7 @@ module _ (T : PlainTable) where
     pub third : k < n
     pub sum : weight T i + weight T j + weight T k ≡ suc T.weight
 
-  triple_is : (i j k : ℕ) → k < n → is_triple T i j k ≡ true → IsTriple i j k
+  pub triple_is : (i j k : ℕ) → k < n → is_triple T i j k ≡ true → IsTriple i j k
   triple_is i j k l e = record { first = grind arith; second = grind arith; third = l; sum = grind arith }
 
   is_triple_of : (i j k : ℕ) → IsTriple i j k → is_triple T i j k ≡ true
@@ -125,7 +105,7 @@ module _ (T : PlainTable) where
       (joined_has n (λ j. joined n (λ k. cond (is_triple T i j k) (Jacobi (i + 1) (j + 1) (k + 1) ∷ []) [])) (Jacobi (i + 1) (j + 1) (k + 1)) j (omega arith)
       (joined_has n (λ k. cond (is_triple T i j k) (Jacobi (i + 1) (j + 1) (k + 1) ∷ []) []) (Jacobi (i + 1) (j + 1) (k + 1)) k c (if_one _ (Jacobi (i + 1) (j + 1) (k + 1)) (is_triple_of i j k h))))
 
-  cube_is : (i : ℕ) → is_cube T i ≡ true → (parity T i ≡ odd) × (weight T i + weight T i + weight T i ≡ suc T.weight)
+  pub cube_is : (i : ℕ) → is_cube T i ≡ true → (parity T i ≡ odd) × (weight T i + weight T i + weight T i ≡ suc T.weight)
   cube_is i e = (odd_is (parity T i) (grind arith), grind arith)
 
   is_cube_of : (i : ℕ) → IsCube i → is_cube T i ≡ true

@@ -16,13 +16,13 @@ use Rattle.fpl_numbers.specs.Kinds.{field_of, number_of}
 use Rattle.fpl_numbers.specs.Reads.{Reads}
 use Rattle.fpl_numbers.proofs.KindReads.{kind_reads}
 use Rattle.fpl_scalar.specs.Vectors.{axpy_of}
+use Rattle.fpl_rows.proofs.Fits.{ok_same, first_fits}
 use Rattle.fpl_algebra.specs.Table.{product, bracket}
 use Rattle.fpl_values.proofs.Parts.{product_past}
 use Rattle.fpl_table.specs.Plain.{PlainTable, entry_row, vector_in, table_in, Pairing, nothing, plus, minus, pairing}
 use Rattle.fpl_table.specs.Value.{zero_row, add_entry, add_product, bracket_with, bracket_from, bracket_of}
 use Rattle.fpl_rewrite.specs.Rows.{spread}
 use Rattle.fpl_faithful.specs.Premises.{IsFor, IsRowIn, HasRows}
-use Rattle.fpl_faithful.proofs.Fits.{ok_same, first_fits}
 use Rattle.fpl_faithful.proofs.Rows.{HasUnits, for_same, zero_row_reads, axpy_reads}
 use Rattle.fpl_faithful.proofs.Units.{kind_units}
 use Rattle.fpl_faithful.proofs.Walks.{Places, both_walks}

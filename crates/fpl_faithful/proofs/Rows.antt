@@ -17,9 +17,9 @@ use Rattle.fpl_numbers.specs.Numbers.{IsElement, operate, residue, negative_of}
 use Rattle.fpl_numbers.specs.Results.{and_then}
 use Rattle.fpl_numbers.specs.Reads.{Reads}
 use Rattle.fpl_scalar.specs.Vectors.{AreElements, axpy_of, scale_of}
+use Rattle.fpl_rows.proofs.Fits.{ok_same, first_fits, part_fits}
 use Rattle.fpl_table.specs.Value.{zero_row, padded, add_at, add_row}
 use Rattle.fpl_faithful.specs.Premises.{IsFor}
-use Rattle.fpl_faithful.proofs.Fits.{ok_same, first_fits, part_fits}
 
 -- 0 and 1 as plain numbers
 pub record HasUnits (kind : Kind) (K : Field) (value : Num → K.Carrier) : Type 0 where

@@ -12,6 +12,7 @@ use Rattle.fpl_numbers.specs.declared.number.Unfit.{Unfit}
 use Rattle.fpl_numbers.specs.Numbers.{IsField, IsElement, negative_of}
 use Rattle.fpl_numbers.specs.Results.{and_then}
 use Rattle.fpl_numbers.specs.Kinds.{field_of, number_of}
+use Rattle.fpl_rows.proofs.Fits.{first_fits}
 use Rattle.fpl_algebra.specs.Tree.{Parity, even, odd}
 use Rattle.fpl_algebra.specs.Derives.{sign}
 use Rattle.fpl_algebra.specs.Table.{IsOf, product}
@@ -21,7 +22,6 @@ use Rattle.fpl_table.specs.Plain.{PlainTable, vector_in, table_in, shell_in, Pai
 use Rattle.fpl_table.specs.Value.{zero_row}
 use Rattle.fpl_rewrite.specs.Rows.{add_signed, entry_by, entry_if, spread, first_terms, second_terms, swapped, third_terms, jacobi_row_of, cube_row_of}
 use Rattle.fpl_faithful.specs.Premises.{IsRowIn, HasRows, HasWeights}
-use Rattle.fpl_faithful.proofs.Fits.{first_fits}
 use Rattle.fpl_faithful.proofs.Walks.{Adds, Places, walk_reads}
 use Rattle.fpl_faithful.proofs.Pairs.{paired, weight, parity, pairing_below, pairing_itself, IsPaired, pairing_is}
 use Rattle.fpl_faithful.proofs.Products.{reads, units, Stands, same, entry, pair_row, empty_row, product_within}

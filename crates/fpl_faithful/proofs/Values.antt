@@ -11,6 +11,7 @@ use Rattle.fpl_numbers.specs.Numbers.{IsField}
 use Rattle.fpl_numbers.specs.Results.{and_then}
 use Rattle.fpl_numbers.specs.Kinds.{field_of, number_of, Number}
 use Rattle.fpl_scalar.specs.Vectors.{scale_of}
+use Rattle.fpl_rows.proofs.Fits.{ok_same, first_fits}
 use Rattle.fpl_algebra.specs.Tree.{Tree, Trees, gen, none, sum_of, multiple, bracket_of as br, end, more, Presentation, IsOver, AreOver}
 use Rattle.fpl_algebra.specs.Tree.IsOver.{over_gen, over_none, over_sum, over_multiple, over_bracket}
 use Rattle.fpl_algebra.specs.Tree.AreOver.{over_end, over_more}
@@ -26,7 +27,6 @@ use Rattle.fpl_model.specs.Sound.{IsWithin, AreWithin}
 use Rattle.fpl_table.specs.Plain.{PlainTable, image_row, table_in, shell_in}
 use Rattle.fpl_table.specs.Value.{zero_row, padded, add_row, bracket_of, is_weight_light, is_light, value_of, values_of}
 use Rattle.fpl_faithful.specs.Premises.{IsRowIn, HasRows, HasWeights}
-use Rattle.fpl_faithful.proofs.Fits.{ok_same, first_fits}
 use Rattle.fpl_faithful.proofs.Rows.{zero_row_reads, padded_reads, scale_reads, add_row_reads}
 use Rattle.fpl_faithful.proofs.Products.{reads, units, Stands, same, bracket_reads}
 

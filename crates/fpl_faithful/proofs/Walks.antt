@@ -13,9 +13,9 @@ use Rattle.fpl_numbers.specs.declared.number.Unfit.{Unfit}
 use Rattle.fpl_numbers.specs.Numbers.{IsElement, is_nought}
 use Rattle.fpl_numbers.specs.Reads.{Reads}
 use Rattle.fpl_scalar.specs.Vectors.{AreElements}
+use Rattle.fpl_rows.proofs.Fits.{ok_same, first_fits}
 use Rattle.fpl_table.specs.Plain.{PlainTable}
 use Rattle.fpl_rewrite.specs.Rows.{spread}
-use Rattle.fpl_faithful.proofs.Fits.{ok_same, first_fits}
 use Rattle.fpl_faithful.specs.Premises.{IsFor}
 use Rattle.fpl_faithful.proofs.Rows.{HasUnits, for_same}
 

@@ -6,3 +6,4 @@ pub mod Relations
 pub mod Thirds
 pub mod TriplesInOrder
 pub mod Spreading
+pub mod SymbolCounts

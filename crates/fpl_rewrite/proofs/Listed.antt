@@ -20,7 +20,7 @@ IsOrigin T p (Jacobi i j k) = ((1 ≤ i) × (i ≤ j) × (j ≤ k) × (k ≤ len
 IsOrigin T p (Cube i) = ((1 ≤ i) × (i ≤ length T.basis)) × ((plain_basis T (i - 1)).parity ≡ odd) × (3 * (plain_basis T (i - 1)).weight ≡ T.weight + 1)
 IsOrigin T p (Row n) = ⊥
 
-one_if : {A : Type 0} (b : Bool) (x y : A) → Contains (cond b (x ∷ []) []) y → (b ≡ true) × (x ≡ y)
+pub one_if : {A : Type 0} (b : Bool) (x y : A) → Contains (cond b (x ∷ []) []) y → (b ≡ true) × (x ≡ y)
 one_if true x y h = (refl, go h.0 h.1 h.2)
   where
     go : (k : ℕ) → k < 1 → get_or (x ∷ []) k y ≡ y → x ≡ y
@@ -28,7 +28,7 @@ one_if true x y h = (refl, go h.0 h.1 h.2)
     go (suc k) l e = absurd (omega arith)
 one_if false x y h = absurd (let l = h.1 in omega arith)
 
-in_joined : {A : Type 0} (n : ℕ) (f : ℕ → List A) (x : A) → Contains (joined n f) x → (i : ℕ) × (i < n) × Contains (f i) x
+pub in_joined : {A : Type 0} (n : ℕ) (f : ℕ → List A) (x : A) → Contains (joined n f) x → (i : ℕ) × (i < n) × Contains (f i) x
 unfolding joined
 in_joined zero f x h = absurd (let l = h.1 in omega arith)
 in_joined (suc n) f x h = go (Contains-append_cases (joined n f) (f n) x h) (in_joined n f x)
@@ -37,7 +37,7 @@ in_joined (suc n) f x h = go (Contains-append_cases (joined n f) (f n) x h) (in_
     go (inl k) t = let r = t k in (r.0, (let l = r.1 in omega arith), r.2)
     go (inr k) t = (n, omega arith, k)
 
-odd_is : (s : Parity) → is_odd s ≡ true → s ≡ odd
+pub odd_is : (s : Parity) → is_odd s ≡ true → s ≡ odd
 odd_is odd e = refl
 odd_is even e = absurd (let k : ⊥ = cc in k)
 

@@ -6,7 +6,7 @@ use native.Mathlib.Omega.{arith}
 use Rattle.std.proofs.lemmas.List.{length-map}
 use Rattle.fpl_numbers.specs.declared.number.Num.{Num}
 use Rattle.fpl_numbers.specs.declared.number.Kind.{Kind}
-use Rattle.fpl_numbers.specs.Numbers.{IsField, IsElement, is_nought}
+use Rattle.fpl_numbers.specs.Numbers.{IsElement, is_nought}
 use Rattle.fpl_numbers.specs.Results.{map_ok}
 use Rattle.fpl_scalar.specs.Vectors.{AreElements}
 use Rattle.fpl_rows.specs.Meaning.{IsRowOf, AreRows}
@@ -20,18 +20,16 @@ use Rattle.fpl_table.specs.Plain.{PlainTable, symbols_in}
 use Rattle.fpl_table.specs.Push.{push_of}
 use Rattle.fpl_next.specs.Holds.{Holds}
 use Rattle.fpl_rewrite.specs.Origins.{origins_of}
-use Rattle.fpl_faithful.specs.Premises.{HasRows, HasWeights}
-use Rattle.fpl_faithful.proofs.Laws.{rows_of_shape, weights_of_built, rows_stand}
+use Rattle.fpl_faithful.proofs.HeldTables.{is_field, origin_rows}
 use Rattle.fpl_completion.specs.Weight.{close_weight}
-use Rattle.fpl_completion.specs.Section.{coefficients_from, closed_list, section_of}
+use Rattle.fpl_completion.specs.Section.{slimmed, coefficient, coefficients_from, closed_list, section_of}
 use Rattle.fpl_completion.proofs.Completed.{weighed_in_order}
 use Rattle.fpl_check.specs.declared.fault.Spot.TheVariants.{Whole}
 use Rattle.fpl_check.specs.declared.fault.Why.TheVariants.{OriginCount}
 use Rattle.fpl_check.specs.Refusal.{demand}
 use Rattle.fpl_check.specs.Premises.{AreCoefficientsOf, IsSectionFor}
 use Rattle.fpl_check.specs.Check.{test_count, Accepts}
-use Rattle.fpl_valid.specs.Valid.{slimmed, whole_section, TellsOrigins, AcceptedInOrder, SlimIsAccepted, SlimIsFor, SlimIsSlim, WholeIsAccepted, SectionIsAccepted, SectionIsFor, SectionIsSlim, OneStepEach}
-use Rattle.fpl_check.proofs.Conclusions.{HaveRows}
+use Rattle.fpl_valid.specs.Valid.{whole_section, TellsOrigins, AcceptedInOrder, SlimIsAccepted, SlimIsFor, SlimIsSlim, WholeIsAccepted, SectionIsAccepted, SectionIsFor, SectionIsSlim, OneStepEach}
 use Rattle.fpl_valid.proofs.Accepted.{accepted_parts, accepts_whole}
 use Rattle.fpl_valid.proofs.InOrder.{accepted_in_order}
 use Rattle.fpl_valid.proofs.Tests.{same_true}
@@ -46,21 +44,6 @@ use Rattle.fpl_check.proofs.PassedTests.{same_count}
 use Rattle.fpl_valid.specs.Valid.{insert_count}
 
 module _ (p : Presentation) (T : PlainTable) (holds : Holds p T) where
-  is_field : IsField T.kind
-  is_field = subst IsField (sym holds.kind) holds.sound.field
-
-  rows : HasRows T
-  rows = rows_of_shape T holds.shape
-
-  weights : HasWeights T
-  weights = weights_of_built p T holds.kind holds.generators holds.sound holds.built
-
-  -- the row of each origin is one of elements over the symbols
-  have_rows : HaveRows T p (length (symbols_in T))
-  have_rows o c row e =
-      let h = rows_stand p T holds.kind holds.generators holds.sound rows weights o c row e in
-      subst (λ k. IsRowOf k (length (symbols_in T)) row) (sym holds.kind) (record { elements = h.elements; length_is = h.long })
-
   -- the computed section of a weight
   pub record IsComputed (s : Section) : Type 0 where
     pub held : Held
@@ -75,13 +58,13 @@ count_passes n origins (inl e) = ap (λ o. test_count o n) e
 count_passes n origins (inr e) = ap (λ o. test_count o n) e ∙ ap (λ b. demand b Whole (OriginCount n n)) (same_true n n refl)
 
 pub held_in_order : AcceptedInOrder
-held_in_order p T s rows holds is e = accepted_in_order T p (is_field p T holds) (have_rows p T holds) s rows is e
+held_in_order p T s rows holds is e = accepted_in_order T p (is_field p T holds) (origin_rows p T holds) s rows is e
 
 pub slim_is_accepted : SlimIsAccepted
 slim_is_accepted p T s rows holds is e =
     let n = length (origins_of T p) in
     let h = accepted_parts T p s rows e in
-    let slim = slim_parts T p (is_field p T holds) (have_rows p T holds) s (Some n) (count_passes n (Some n) (inr refl)) (held_in_order p T s rows holds is e) is.numbers.steps h.0 in
+    let slim = slim_parts T p (is_field p T holds) (origin_rows p T holds) s (Some n) (count_passes n (Some n) (inr refl)) (held_in_order p T s rows holds is e) is.numbers.steps h.0 in
     subst (Accepts T p (slimmed T p s)) h.1 (accepts_whole T p (slimmed T p s) slim)
 
 pub slim_is_for : SlimIsFor
@@ -91,15 +74,15 @@ pub slim_is_slim : SlimIsSlim
 slim_is_slim p T s order = ap (λ steps. record { weight = s.weight; origins = Some (length (origins_of T p)); steps = steps; closed = s.closed }) (slim_again s.steps order)
 
 pub whole_is_accepted : WholeIsAccepted
-whole_is_accepted p T h origins holds tells run = whole_accepted T p (is_field p T holds) (have_rows p T holds) origins h (count_passes (length (origins_of T p)) origins tells) run
+whole_is_accepted p T h origins holds tells run = whole_accepted T p (is_field p T holds) (origin_rows p T holds) origins h (count_passes (length (origins_of T p)) origins tells) run
 
 pub section_is_accepted : SectionIsAccepted
 section_is_accepted p T s holds e =
     let n = length (origins_of T p) in
     let count = count_passes n (Some n) (inr refl) in
     let c = computed p T holds s e in
-    let w = whole_parts T p (is_field p T holds) (have_rows p T holds) (Some n) c.held count c.run in
-    let slim = slim_parts T p (is_field p T holds) (have_rows p T holds) (whole_section T (Some n) c.held) (Some n) count (weighed_in_order p T holds c.held c.run) (run_numbers T p (is_field p T holds) (have_rows p T holds) c.held c.run) w.0 in (
+    let w = whole_parts T p (is_field p T holds) (origin_rows p T holds) (Some n) c.held count c.run in
+    let slim = slim_parts T p (is_field p T holds) (origin_rows p T holds) (whole_section T (Some n) c.held) (Some n) count (weighed_in_order p T holds c.held c.run) (run_numbers T p (is_field p T holds) (origin_rows p T holds) c.held c.run) w.0 in (
       rows_of c.held.pivots,
       subst (λ s. Accepts T p s (rows_of c.held.pivots)) (sym c.is) (subst (Accepts T p (section_of T p c.held)) w.1 (accepts_whole T p (section_of T p c.held) slim)),
       ap (map_ok (λ h. push_of T (rows_of h.pivots))) c.run,
@@ -114,9 +97,9 @@ coefficients_are : (kind : Kind) (s : ℕ) (row : List Num) → AreElements kind
 coefficients_are kind s [] all = λ i d l. absurd (omega (arith, l))
 coefficients_are kind s (c ∷ cs) all = go (is_nought c) (coefficients_are kind (s + 1) cs (all_tail (IsElement kind) c cs all))
   where
-    go : (b : Bool) → AreCoefficientsOf kind (coefficients_from (s + 1) cs) → AreCoefficientsOf kind (if b then coefficients_from (s + 1) cs else (record { symbol = s; number = c }) ∷ coefficients_from (s + 1) cs)
+    go : (b : Bool) → AreCoefficientsOf kind (coefficients_from (s + 1) cs) → AreCoefficientsOf kind (if b then coefficients_from (s + 1) cs else coefficient s c ∷ coefficients_from (s + 1) cs)
     go true h = h
-    go false h = all_cons (λ (c : Coefficient). IsElement kind c.number) (record { symbol = s; number = c }) (coefficients_from (s + 1) cs) (all_head (IsElement kind) c cs all) h
+    go false h = all_cons (λ (c : Coefficient). IsElement kind c.number) (coefficient s c) (coefficients_from (s + 1) cs) (all_head (IsElement kind) c cs all) h
 
 all_coefficients : (kind : Kind) (n : ℕ) (rows : List (List Num)) → AreRows kind n rows → All (AreCoefficientsOf kind) (closed_list rows)
 all_coefficients kind n [] all = λ i d l. absurd (omega (arith, l))
@@ -126,7 +109,7 @@ all_coefficients kind n (row ∷ rows) all =
 -- a weight has no more closed rows than symbols
 pub few_closed : (p : Presentation) (T : PlainTable) (h : Held) → Holds p T → close_weight T p ≡ Ok h → length (closed_list (rows_of h.pivots)) ≤ length (symbols_in T)
 few_closed p T h holds run =
-    let up = as_few 0 (length (symbols_in T)) h.pivots (ascending T p (is_field p T holds) (have_rows p T holds) h run).up in
+    let up = as_few 0 (length (symbols_in T)) h.pivots (ascending T p (is_field p T holds) (origin_rows p T holds) h run).up in
     let long : length (closed_list (rows_of h.pivots)) ≡ length h.pivots = length-map (rows_of h.pivots) (coefficients_from 1) ∙ length-map h.pivots (λ q. q.row) in
     omega (arith, up, long)
 
@@ -139,8 +122,8 @@ section_is_for p T s holds few e =
     (record {
       weight = refl;
       numbers = record {
-        steps = slim_numbers T.kind [] 0 c.held.steps (run_numbers T p (is_field p T holds) (have_rows p T holds) c.held c.run);
-        closed = all_coefficients T.kind (length (symbols_in T)) rows (rows_closed T p (is_field p T holds) (have_rows p T holds) c.held c.run).are_rows;
+        steps = slim_numbers T.kind [] 0 c.held.steps (run_numbers T p (is_field p T holds) (origin_rows p T holds) c.held c.run);
+        closed = all_coefficients T.kind (length (symbols_in T)) rows (rows_closed T p (is_field p T holds) (origin_rows p T holds) c.held c.run).are_rows;
       };
       few = omega (arith, closed, few);
     })
@@ -154,7 +137,7 @@ pub one_step_each : OneStepEach
 one_step_each p T s holds e =
     let c = computed p T holds s e in
     let rows = rows_of c.held.pivots in
-    let inserts = inserts_counted T p (is_field p T holds) (have_rows p T holds) c.held c.run in
+    let inserts = inserts_counted T p (is_field p T holds) (origin_rows p T holds) c.held c.run in
     let long : length (closed_list rows) ≡ length c.held.pivots = length-map rows (coefficients_from 1) ∙ length-map c.held.pivots (λ q. q.row) in
     let accepted = section_is_accepted p T s holds e in
     let h = accepted_parts T p s accepted.0 accepted.1 in

@@ -12,18 +12,14 @@ use Rattle.fpl_numbers.proofs.KindReads.{kind_reads}
 use Rattle.fpl_scalar.specs.Vectors.{AreElements}
 use Rattle.fpl_rows.specs.Meaning.{IsRowOf, AreRows}
 use Rattle.fpl_rows.proofs.Fits.{all_head, all_tail}
-use Rattle.fpl_log.specs.declared.closed.Coefficient.{Coefficient}
 use Rattle.fpl_next.proofs.Pushed.{zero_element}
-use Rattle.fpl_completion.specs.Section.{coefficients_from, closed_list}
+use Rattle.fpl_completion.specs.Section.{coefficient, coefficients_from, closed_list}
 use Rattle.fpl_check.specs.declared.fault.Spot.TheVariants.{Closed as AtClosed}
 use Rattle.fpl_check.specs.declared.fault.Why.TheVariants.{RowForm}
 use Rattle.fpl_check.specs.Refusal.{passing, demand}
 use Rattle.fpl_check.proofs.Loops.{and_true, below_true}
 use Rattle.fpl_valid.proofs.Tests.{most_true}
 use Rattle.fpl_check.specs.ClosedRows.{is_formed, test_forms, stored_in, stored_row}
-
-abbrev coefficient : ℕ → Num → Coefficient
-coefficient s c = record { symbol = s; number = c }
 
 set_there : (xs ys : List Num) (z c : Num) → slice_set (xs ++ z ∷ ys) (length xs) c ≡ xs ++ c ∷ ys
 set_there [] ys z c = refl

@@ -1,7 +1,6 @@
 -- Valid sections: those that the check of a section of the weight after a held table's accepts, and what can be said of them.
 --
 --   IsValid T p s         the check accepts s, with some closed rows
---   slimmed T p s         s as it is kept: without the steps of dependent origins, and with the number of origins
 --   whole_section T o h   the section of a computed weight as it was recorded: with the steps of dependent origins, and telling o origins
 --   TellsOrigins n o      o tells nothing, or the number n
 --   AcceptedInOrder       each step of an accepted section names earlier steps, and a Close step one that is not left out: a row that is zero is never closed
@@ -19,7 +18,7 @@ use Rattle.fpl_numbers.specs.declared.number.Num.{Num}
 use Rattle.fpl_log.specs.declared.step.Step.{Step}
 use Rattle.fpl_log.specs.declared.step.Step.TheVariants.{Insert, Close}
 use Rattle.fpl_log.specs.declared.section.Section.{Section}
-use Rattle.fpl_log.specs.Slim.{slim_steps, AreInOrder}
+use Rattle.fpl_log.specs.Slim.{AreInOrder}
 use Rattle.fpl_elimination.specs.Plain.{Held, rows_of}
 use Rattle.fpl_model.specs.declared.presentation.Presentation.{Presentation}
 use Rattle.fpl_table.specs.Plain.{PlainTable, symbols_in}
@@ -27,16 +26,13 @@ use Rattle.fpl_table.specs.Push.{push_of}
 use Rattle.fpl_next.specs.Holds.{Holds}
 use Rattle.fpl_rewrite.specs.Origins.{origins_of}
 use Rattle.fpl_completion.specs.Weight.{close_weight, next_of}
-use Rattle.fpl_completion.specs.Section.{closed_list, section_after}
+use Rattle.fpl_completion.specs.Section.{slimmed, closed_list, section_after}
 use Rattle.fpl_check.specs.ClosedRows.{close_count}
 use Rattle.fpl_check.specs.Check.{Accepts}
 use Rattle.fpl_check.specs.Premises.{IsSectionFor}
 
 abbrev pub IsValid : PlainTable → Presentation → Section → Type 0
 IsValid T p s = (rows : List (List Num)) × Accepts T p s rows
-
-abbrev pub slimmed : PlainTable → Presentation → Section → Section
-slimmed T p s = record { weight = s.weight; origins = Some (length (origins_of T p)); steps = slim_steps [] 0 s.steps; closed = s.closed }
 
 abbrev pub whole_section : PlainTable → Option ℕ → Held → Section
 whole_section T origins h = record { weight = suc T.weight; origins = origins; steps = h.steps; closed = closed_list (rows_of h.pivots) }

@@ -1,10 +1,10 @@
 use Rattle.std.specs.Prelude.{suc}
+use Rattle.fpl_rows.proofs.Fits.{part_fits}
 use mathlib.Core.Path.{sym, subst}
 use Rattle.fpl_elimination.specs.Plain.{Held, rows_of}
 use Rattle.fpl_table.specs.Push.{push_of}
 use Rattle.fpl_table.specs.Standard.{IsTableOf}
 use Rattle.fpl_next.proofs.Holding.{held_is_table}
-use Rattle.fpl_faithful.proofs.Fits.{part_fits}
 use Rattle.fpl_faithful.proofs.Fitting.{Always, prime_always}
 use Rattle.fpl_completion.specs.Weight.{close_weight}
 use Rattle.fpl_completion.proofs.Completed.{weighed_closed, next_holds, next_raised}

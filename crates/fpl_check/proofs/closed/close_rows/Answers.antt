@@ -1,8 +1,7 @@
-use Rattle.std.proofs.Common.{rules, ◌≡◌, ℕ, ◌+◌, ◌++◌, ◌∷◌, [], ◌∙◌, refl, sym, ap, ap₂, arith, length, List}
+use Rattle.std.proofs.Common.{ℕ, ◌++◌, ◌∷◌, [], ◌∙◌, refl, sym, ap, ap₂, arith, List}
 use Rattle.std.specs.Prelude.{slice_get, if◌then◌else◌}
 use Rattle.std.proofs.lemmas.List.{length-append, append_assoc}
 use Rattle.fpl_numbers.specs.declared.number.Num.{Num}
-use Rattle.fpl_check.specs.ClosedRows.{close_rows}
 use Rattle.fpl_check.specs.Steps.{is_close}
 use Rattle.fpl_check.proofs.Loops.{no_closes, closes_next}
 use Rattle.fpl_check.proofs.closed.close_rows.Goals as goal

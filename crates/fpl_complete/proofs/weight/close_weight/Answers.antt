@@ -1,14 +1,12 @@
-use Rattle.std.proofs.Common.{◌≡◌, ◌≤◌, ◌+◌, ℕ, suc, sym, subst, arith}
+use Rattle.std.proofs.Common.{◌≡◌, sym, subst, arith}
 use Rattle.fpl_numbers.specs.declared.number.Kind.TheVariants.{Prime}
-use Rattle.fpl_table.specs.Standard.{count_of}
+use Rattle.fpl_rewrite.proofs.SymbolCounts.{few_at}
 use Rattle.fpl_faithful.proofs.Fitting.{Always, prime_always}
-use Rattle.fpl_complete.proofs.Closing.{again_fault, weighed, weighed_once, symbols_counted}
+use Rattle.fpl_complete.proofs.Closing.{again_fault, weighed, weighed_once}
 use Rattle.fpl_complete.proofs.weight.close_weight.Goals as goal
 
 pub symbols-requires-clause-few : goal.symbols-requires-clause-few
-symbols-requires-clause-few g c =
-    let w : c.weight.result + 1 ≡ suc c.args.table.now.weight = omega (arith, c.weight.ensures.value) in
-    subst (λ (w : ℕ). count_of c.args.table.now w ≤ 2000000) (sym w) (subst (λ (n : ℕ). n ≤ 2000000) (symbols_counted c.args.table.now) c.requires.few)
+symbols-requires-clause-few g c = few_at c.args.table.now _ (omega (arith, c.weight.ensures.value)) c.requires.few
 
 pub returns-in-Prime-clause-value : goal.returns-in-Prime-clause-value
 returns-in-Prime-clause-value g c =

@@ -2,7 +2,8 @@ use Rattle.std.proofs.Common.{◌≡◌, ◌∙◌, ◌∷◌}
 use Rattle.fpl_rewrite.specs.Origins.{origins_of}
 use Rattle.fpl_rewrite.specs.Cursor.{to_come}
 use Rattle.fpl_completion.specs.Weight.{again}
-use Rattle.fpl_complete.proofs.Runs.{contains_rest, again_next, again_stops}
+use Rattle.fpl_check.proofs.ListedOrigins.{contains_rest}
+use Rattle.fpl_complete.proofs.Runs.{again_next, again_stops}
 use Rattle.fpl_complete.proofs.weight.sweep_again.Goals as goal
 
 pub origins-preserved : goal.origins-preserved
