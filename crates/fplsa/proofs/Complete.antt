@@ -13,8 +13,8 @@ use Rattle.fpl_model.specs.Sound.{IsSound}
 use Rattle.fpl_reader.proofs.OneAnswer.{one_presentation, not_both}
 use Rattle.fpl_reader.proofs.Soundness.{presentation_sound}
 use Rattle.fpl_table.specs.Plain.{PlainTable, symbols_in}
-use Rattle.fpl_algebra.specs.Symbols.{symbols, symbols_of}
 use Rattle.fpl_table.specs.Standard.{count_of, count_through}
+use Rattle.fpl_rewrite.proofs.SymbolCounts.{symbols_counted}
 use Rattle.fpl_next.specs.Holds.{Holds}
 use Rattle.fpl_next.specs.Raised.{IsRaised}
 use Rattle.fpl_next.specs.Raised.IsRaised.{started}
@@ -59,10 +59,6 @@ free_cases NotBuilt h = absurd h
 -- the stage after a computed weight
 abbrev raised_by : Stage → Presentation → Held → Stage
 raised_by stage p held = raised stage (rows_of held.pivots) (section_of stage.table p held) stage.place false
-
-symbols_counted : (T : PlainTable) → length (symbols_in T) ≡ count_of T (suc T.weight)
-unfolding symbols symbols_of
-symbols_counted T = refl
 
 computed_next : (e : ℕ) (p : Presentation) (at : Stored) (stage : Stage) → stage.stored ≡ false → nat_lt e (count_through stage.table (next_weight stage)) ≡ false →
     step_of true e p at stage ≡ computed_as stage p (close_weight stage.table p)

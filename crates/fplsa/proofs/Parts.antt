@@ -1,6 +1,6 @@
 -- The part of a standard table through a lower weight, and the numbers of symbols that it shares with the whole.
-use Rattle.std.specs.Prelude.{ℕ, zero, suc, ◌≡◌, ◌<◌, ◌≤◌, ◌+◌, ◌-◌, length, List, [], ◌∷◌, get_or}
-use mathlib.Core.Path.{sym, refl, ap, ap₂, ◌∙◌}
+use Rattle.std.specs.Prelude.{ℕ, zero, suc, ◌≡◌, ◌<◌, ◌≤◌, ◌+◌, ◌-◌, length}
+use mathlib.Core.Path.{sym, refl, ap, ◌∙◌}
 use mathlib.Core.Logic.{inl, inr}
 use native.Mathlib.Omega.{arith}
 use native.Mathlib.Decide.{ℕ_discrete, dec_lt}
@@ -22,6 +22,7 @@ use Rattle.fpl_model.specs.Sound.{IsSound}
 use Rattle.fpl_table.specs.Plain.{PlainTable, table_in, shell_in}
 use Rattle.fpl_table.specs.Standard.{IsTableOf, count_of, count_through}
 use Rattle.fpl_next.proofs.Holding.{sound_is_sound, symbols_are_same}
+use Rattle.fpl_next.proofs.One.{list_same}
 
 module _ (K : Field) (P : Presentation K.Carrier) where
   record IsRanked (T : Table K) : Type 0 where
@@ -100,12 +101,6 @@ module _ (K : Field) (P : Presentation K.Carrier) where
       go (no d) below =
           let b : IsPart T a = below (omega (arith, l, d, next.basis.weight)) in
           record { part = b.part; tree = b.tree; standard = b.standard; through = b.through; low = lower_next T T' b.part tree tree' b.low next }
-
-list_same : {X : Type 0} (xs ys : List X) (d : X) → length xs ≡ length ys → ((i : ℕ) → i < length xs → get_or xs i d ≡ get_or ys i d) → xs ≡ ys
-list_same [] [] d l h = refl
-list_same [] (y ∷ ys) d l h = absurd (omega (arith, l))
-list_same (x ∷ xs) [] d l h = absurd (omega (arith, l))
-list_same (x ∷ xs) (y ∷ ys) d l h = ap₂ (λ a b. a ∷ b) (h 0 (omega arith)) (list_same xs ys d (omega (arith, l)) (λ i k. h (suc i) (omega (arith, k))))
 
 agreed_symbols : (K : Field) (P : Presentation K.Carrier) (T S : Table K) → T.basis ≡ S.basis → (w : ℕ) → symbols_of P T w ≡ symbols_of P S w
 unfolding symbols_of
