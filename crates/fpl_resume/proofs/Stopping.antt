@@ -1,6 +1,6 @@
 -- The stop that a fault stands for is the one that the plain run tells.
-use Rattle.std.proofs.Common.{◌≡◌, ◌≤◌, ◌<◌, ◌+◌, ℕ, Bool, List, Result, Ok, Err, true, false, nat_lt, length, ap, refl, subst, arith}
-use Rattle.std.specs.Prelude.{IsErrOf, ◌&&◌, if◌then◌else◌}
+use Rattle.std.proofs.Common.{◌≡◌, ◌≤◌, ◌<◌, ◌+◌, ℕ, Bool, List, Result, Ok, Err, true, false, nat_lt, ap, refl, subst, arith}
+use Rattle.std.specs.Prelude.{IsErrOf}
 use Rattle.fpl_numbers.specs.declared.number.Num.{Num}
 use Rattle.fpl_numbers.specs.declared.number.Op.{Op}
 use Rattle.fpl_numbers.specs.declared.number.Unfit.{Unfit}
@@ -22,8 +22,7 @@ use Rattle.fpl_bytes.specs.declared.fault.BadBytes.{BadBytes}
 use Rattle.fpl_sections.specs.declared.frame.Frame.{Frame}
 use Rattle.fpl_sections.specs.declared.frame.Frame.TheVariants.{Tail}
 use Rattle.fpl_sections.specs.Frames.{frame_of}
-use Rattle.fpl_rewrite.specs.Origins.{origins_of}
-use Rattle.fpl_resume.specs.Walk.{Stage, Stored, Stop, failed, overflow, bad_section, next_weight, computed, computed_as, adopted, step_of, step_cost, computing_cost}
+use Rattle.fpl_resume.specs.Walk.{Stage, Stored, failed, overflow, bad_section, next_weight, computed, computed_as, adopted, step_of, step_cost, computing_cost}
 use Rattle.fpl_resume.specs.Stops.{IsStop, stop_for, stop_from}
 
 closes_badly : (p : Presentation) (stage : Stage) (w : ℕ) (u : Unfit) (r : Result Held Unfit) → w ≡ stage.table.weight + 1 → r ≡ Err u → computed_as stage p r ≡ Err (failed (overflow w u))

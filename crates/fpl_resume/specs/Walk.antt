@@ -26,8 +26,7 @@ use Rattle.fpl_table.specs.Push.{push_of}
 use Rattle.fpl_table.specs.Standard.{start_of, count_through}
 use Rattle.fpl_rewrite.specs.Origins.{origins_of}
 use Rattle.fpl_completion.specs.Weight.{close_weight}
-use Rattle.fpl_completion.specs.Section.{section_of}
-use Rattle.fpl_complete.specs.State.{slimmed}
+use Rattle.fpl_completion.specs.Section.{slimmed, section_of}
 use Rattle.fpl_check.specs.declared.fault.Spot.{Spot}
 use Rattle.fpl_check.specs.declared.fault.Why.{Why}
 use Rattle.fpl_check.specs.Refusal.{Refusal, bad, unfit}

@@ -1,14 +1,12 @@
 -- How many basis elements and how many origins there are at most.
-use Rattle.std.specs.Prelude.{ℕ, zero, suc, ◌≡◌, ◌≤◌, ◌<◌, ◌+◌, ◌*◌, ◌^◌, List, [], ◌∷◌, ◌++◌, length, map, sum, cond, Bool, true, false}
-use mathlib.Core.Path.{refl, ap, ◌∙◌}
+use Rattle.std.specs.Prelude.{ℕ, zero, suc, ◌≡◌, ◌≤◌, ◌+◌, ◌*◌, ◌^◌, List, [], ◌∷◌, ◌++◌, length, map, cond, Bool, true, false}
+use mathlib.Core.Path.{ap, ◌∙◌}
 use native.Mathlib.Omega.{arith}
 use Rattle.std.proofs.lemmas.List.{length-append, length-map}
-use Rattle.std.proofs.lemmas.List.Sums.{sum_by-cons}
 use Rattle.fpl_numbers.specs.declared.number.Num.{Num}
 use Rattle.fpl_model.specs.declared.presentation.Equation.{Equation}
 use Rattle.fpl_model.specs.declared.presentation.Presentation.{Presentation}
-use Rattle.fpl_model.specs.Sound.{IsSound, count_equation}
-use Rattle.fpl_algebra.specs.Symbols.{symbols, symbols_of}
+use Rattle.fpl_model.specs.Sound.{IsSound}
 use Rattle.fpl_log.specs.declared.step.Origin.TheVariants.{Relation, Jacobi, Cube}
 use Rattle.fpl_table.specs.Plain.{PlainTable, symbols_in}
 use Rattle.fpl_table.specs.Push.{free_of, new_basis, push_of}
@@ -16,11 +14,9 @@ use Rattle.fpl_table.specs.Shape.{HasShape}
 use Rattle.fpl_table.specs.Standard.{count_of, count_through}
 use Rattle.fpl_table.proofs.Leads.{free_few}
 use Rattle.fpl_rewrite.specs.Origins.{joined, relation_weight, is_exactly, relations_from, relations_of, is_triple, triples_of, is_cube, is_three, cubes_of, origins_of}
+use Rattle.fpl_rewrite.proofs.Relations.{few_relations}
+use Rattle.fpl_rewrite.proofs.SymbolCounts.{symbols_counted}
 use Rattle.fpl_completion.proofs.Counts.{counts_pushed}
-
-pub symbols_counted : (T : PlainTable) → length (symbols_in T) ≡ count_of T (suc T.weight)
-unfolding symbols symbols_of
-symbols_counted T = refl
 
 -- no more basis elements than symbols
 abbrev pub IsFew : PlainTable → Type 0
@@ -71,15 +67,6 @@ triples_most T few =
     firsts_few : {A : Type 0} (n : ℕ) (f : ℕ → List A) → n ≤ 2000000 → ((i : ℕ) → length (f i) ≤ 4000000000000) → length (joined n f) ≤ 2 ^ 63
     firsts_few n f few most = omega (arith, few, joined_most n 4000000000000 f most)
 
-equations_counted : (qs : List Equation) → length qs ≤ sum (map count_equation qs)
-equations_counted [] = omega arith
-equations_counted (q ∷ qs) =
-    let more : sum (map count_equation (q ∷ qs)) ≡ count_equation q + sum (map count_equation qs) = sum_by-cons (λ (n : ℕ). n) (count_equation q) (map count_equation qs) in
-    omega (arith, equations_counted qs, more)
-
-pub relations_few : (p : Presentation) → IsSound p → length p.relations < 2 ^ 32
-relations_few p sound = omega (arith, equations_counted p.relations, sound.small)
-
 pub origins_few : (T : PlainTable) (p : Presentation) → IsSound p → length T.basis ≤ 2000000 → length (origins_of T p) ≤ 2 ^ 63 + 2 ^ 33
 origins_few T p sound few =
     omega (
@@ -87,7 +74,7 @@ origins_few T p sound few =
       length-append (relations_of T p ++ triples_of T) (cubes_of T),
       length-append (relations_of T p) (triples_of T),
       relations_most T 1 p.relations,
-      relations_few p sound,
+      few_relations p sound,
       triples_most T few,
       cubes_most T (is_three T.kind),
       few,

@@ -10,10 +10,9 @@ use Rattle.fpl_table.specs.Plain.{PlainTable}
 use Rattle.fpl_table.specs.Push.{push_of}
 use Rattle.fpl_next.specs.Holds.{Holds}
 use Rattle.fpl_completion.specs.Weight.{close_weight}
-use Rattle.fpl_completion.specs.Section.{section_of, section_after}
+use Rattle.fpl_completion.specs.Section.{slimmed, section_of, section_after}
 use Rattle.fpl_check.specs.Check.{Accepts}
 use Rattle.fpl_valid.proofs.Held.{whole_is_accepted, section_is_accepted, section_is_slim}
-use Rattle.fpl_complete.specs.State.{slimmed}
 use Rattle.fpl_bytes.specs.declared.version.Version.{Version}
 use Rattle.fpl_bytes.specs.declared.version.Version.TheVariants.{One, Two}
 use Rattle.fpl_streams.specs.Streams.{section_in}

@@ -24,6 +24,8 @@ use Rattle.fpl_elimination.specs.Plain.{Held, rows_of}
 use Rattle.fpl_model.specs.declared.presentation.Presentation.{Presentation}
 use Rattle.fpl_table.specs.Plain.{PlainTable, symbols_in}
 use Rattle.fpl_next.specs.Holds.{Holds}
+use Rattle.fpl_rewrite.proofs.Relations.{few_relations}
+use Rattle.fpl_faithful.proofs.HeldTables.{is_field}
 use Rattle.fpl_faithful.proofs.Listed.{IsListed as IsOfWeight, listed_relation, listed_triple, listed_cube, listed}
 use Rattle.fpl_completion.specs.Weight.{close_weight}
 use Rattle.fpl_completion.specs.Section.{coefficients_from, section_of, section_after}
@@ -46,7 +48,7 @@ use Rattle.fpl_complete.specs.State.{IsStorableStep}
 use Rattle.fpl_complete.proofs.Writable.{recorded_writable, section_writable}
 use Rattle.fpl_streams.specs.Streams.{HasBytes, IsSmallIn, IsNoCube, IsSmallStep, IsSmallSection}
 use Rattle.fpl_streams.proofs.Sizes.{payload_most}
-use Rattle.fpl_streams.proofs.OriginCounts.{relations_few, origins_few}
+use Rattle.fpl_streams.proofs.OriginCounts.{origins_few}
 
 -- ---- what a version asks of the parts of a section, beside what the check of the section has found
 
@@ -117,10 +119,10 @@ module _ (version : Version) (kind : Kind) (field : IsField kind) where
 
 module _ (T : PlainTable) (p : Presentation) (holds : Holds p T) where
   field : IsField T.kind
-  field = subst IsField (sym holds.kind) holds.sound.field
+  field = is_field p T holds
 
   origin_stored : (version : Version) (o : Origin) → IsOfWeight T p o → IsNamed version o → IsStoredOrigin version o
-  origin_stored version _ (listed_relation k l h) named = omega (arith, l, relations_few p holds.sound)
+  origin_stored version _ (listed_relation k l h) named = omega (arith, l, few_relations p holds.sound)
   origin_stored version _ (listed_triple i j k h) named =
       let a = h.first in
       let b = h.second in

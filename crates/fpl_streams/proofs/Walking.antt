@@ -30,7 +30,7 @@ use Rattle.fpl_sections.proofs.Bodies.{payload_again}
 use Rattle.fpl_resume.specs.Walk.{Stored, Stage, Stop, failed, too_many, Walked, adopted, formed, framed, weighed, computed_as, walk_on, walk_of}
 use Rattle.fpl_streams.specs.Streams.{nothing, version_number, section_in, sections_on, sections_in, HasBytes}
 use Rattle.fpl_streams.specs.Laws.{GiveSame, PassesWith}
-use Rattle.fpl_streams.proofs.OriginCounts.{symbols_counted}
+use Rattle.fpl_rewrite.proofs.SymbolCounts.{symbols_counted}
 use Rattle.fpl_streams.proofs.CutFrames.{take_past, frame_cut, frame_none, payload_there}
 use Rattle.fpl_streams.proofs.Sections.{StandsFor, section_stands}
 

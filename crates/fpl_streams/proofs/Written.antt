@@ -25,7 +25,8 @@ use Rattle.fpl_checkpoint.specs.Heads.{head_bytes_of}
 use Rattle.fpl_resume.specs.Walk.{Stage, Stop, failed, too_many, Walked, computed_as, walk_on, walk_of}
 use Rattle.fpl_streams.specs.Streams.{nothing, plain_walk, version_number, section_in, sections_on, sections_in, stream_of, HasBytes, IsSmallSection, IsStreamOf}
 use Rattle.fpl_streams.specs.Laws.{RunsKeepSections, RunsWriteStreams, SmallStreams}
-use Rattle.fpl_streams.proofs.OriginCounts.{symbols_counted, IsFew, few_pushed}
+use Rattle.fpl_rewrite.proofs.SymbolCounts.{symbols_counted}
+use Rattle.fpl_streams.proofs.OriginCounts.{IsFew, few_pushed}
 use Rattle.fpl_streams.proofs.StoredParts.{section_has_bytes, whole_has_bytes}
 use Rattle.fpl_streams.proofs.Walking.{here}
 

@@ -14,7 +14,7 @@ use Rattle.fpl_complete.specs.State.{unfit_of}
 use Rattle.fpl_bytes.specs.Numbers.{version_of}
 use Rattle.fpl_sections.specs.Reading.{payload_at}
 use Rattle.fpl_resume.specs.Walk.{next_weight}
-use Rattle.fpl_resume.specs.Stops.{PlainRun, IsStop}
+use Rattle.fpl_resume.specs.Stops.{PlainRun}
 use Rattle.fpl_resume.proofs.Stopping.{adopting_stops}
 use Rattle.fpl_resume.proofs.run.Run.adopt.Goals as goal
 

@@ -1,4 +1,4 @@
-use Rattle.std.proofs.Common.{◌≡◌, ◌+◌, ◌≤◌, ◌∙◌, ℕ, suc, Ok, true, false, nat_lt, sym, ap, subst, rules, arith}
+use Rattle.std.proofs.Common.{◌≡◌, ◌+◌, ◌≤◌, ◌∙◌, ℕ, suc, Ok, true, false, nat_lt, sym, subst, arith}
 use Rattle.fpl_table.specs.Standard.{count_through}
 use Rattle.fpl_check.proofs.Loops.{below_false}
 use Rattle.fpl_sections.specs.declared.frame.Frame.TheVariants.{Tail}

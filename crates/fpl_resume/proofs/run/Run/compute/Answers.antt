@@ -6,8 +6,7 @@ use Rattle.fpl_table.specs.Standard.{count_through}
 use Rattle.fpl_completion.specs.Weight.{close_weight}
 use Rattle.fpl_complete.specs.declared.fault.RaiseFault.TheVariants.{Limit, Overflow}
 use Rattle.fpl_complete.specs.State.{unfit_of}
-use Rattle.fpl_resume.specs.Stops.{PlainRun, IsStop}
-use Rattle.fpl_resume.specs.Walk.{computed}
+use Rattle.fpl_resume.specs.Stops.{PlainRun}
 use Rattle.fpl_resume.proofs.Stopping.{computing_stops}
 use Rattle.fpl_resume.proofs.run.Run.compute.Goals as goal
 
