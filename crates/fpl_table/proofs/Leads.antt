@@ -2,10 +2,10 @@
 use Rattle.std.proofs.Common.{◌≡◌, ◌≢◌, ◌≤◌, ◌<◌, ◌+◌, ◌-◌, ◌++◌, ℕ, zero, suc, List, [], ◌∷◌, length, get_or, drop, cond, nat_eq, Bool, true, false, Option, Some, None, refl, ap, sym, ◌∙◌, arith, inl, inr, get_or-set_other, get_or-set_same, add-one, length-append}
 use Rattle.std.proofs.Math.ListN.{set, get_or-append}
 use Rattle.std.proofs.Math.Nat.{mod_self}
-use Rattle.std.proofs.Math.Seq.{drop-cons}
+use Rattle.std.proofs.Math.Seq.{drop-cons, get_or-append_seam}
 use Rattle.std.proofs.lemmas.Bool.Decides.{nat_tests}
 use Rattle.std.proofs.lemmas.List.{length-map}
-use Rattle.std.specs.Prelude.{unwrap_or, slice_get}
+use Rattle.std.specs.Prelude.{unwrap_or}
 use Rattle.fpl_numbers.specs.declared.number.Num.{Num}
 use Rattle.fpl_numbers.specs.declared.number.Kind.{Kind}
 use Rattle.fpl_numbers.specs.declared.number.Kind.TheVariants.{Rational, Prime}
@@ -13,9 +13,10 @@ use Rattle.fpl_numbers.specs.Numbers.{IsElement, is_nought, residue, negative_of
 use Rattle.fpl_scalar.proofs.Noughts.{nought_is}
 use Rattle.fpl_rows.specs.Positions as positions
 use Rattle.fpl_rows.specs.Meaning.{pivot_of}
+use Rattle.fpl_rows.proofs.Packings.{get_or_default}
 use Rattle.fpl_table.specs.Push.{lead_place, lead_below, row_with_lead, is_lead, free_in, solved}
-use Rattle.fpl_table.specs.Leads.{row_by, AreLeads, IsAscending}
-use Rattle.fpl_table.proofs.Lists.{nat_same, nat_split, all_push, at_middle}
+use Rattle.fpl_table.specs.Leads.{row_by, AreLeads, AreRanks}
+use Rattle.fpl_table.proofs.Lists.{nat_same, all_push}
 
 lead_below_is : (row : List Num) (n : ℕ) → lead_below row n ≡ unwrap_or (positions.lead_below row n) 1 - 1
 lead_below_is row zero = refl
@@ -27,17 +28,6 @@ lead_below_is row (suc s) = step (is_nought (get_or row s (residue 0))) (lead_be
 
 pub lead_place_is : (row : List Num) → lead_place row ≡ pivot_of row
 lead_place_is row = lead_below_is row (length row)
-
--- what a list answers at a place
-pub get_some : {A : Type 0} (xs : List A) (k : ℕ) (x d : A) → slice_get xs k ≡ Some x → get_or xs k d ≡ x
-get_some [] k x d e = cc
-get_some (y ∷ ys) zero x d e = cc
-get_some (y ∷ ys) (suc k) x d e = get_some ys k x d e
-
-pub get_none : {A : Type 0} (xs : List A) (k : ℕ) → slice_get xs k ≡ None → length xs ≤ k
-get_none [] k e = omega arith
-get_none (y ∷ ys) zero e = cc
-get_none (y ∷ ys) (suc k) e = omega (arith, get_none ys k e)
 
 -- the leads of one row more, before the others
 module _ (rows : List (List Num)) (n : ℕ) (leads : List ℕ) (k : ℕ) (lt : k < length rows) (count : length leads ≡ n)
@@ -86,10 +76,13 @@ lead_lost (x ∷ rows) s row e = go (nat_eq (lead_place x) s) (lead_lost rows s 
     go true h e = refl
     go false h e = h e
 
+pub free_more : (rows : List (List Num)) (s : ℕ) → row_with_lead rows s ≡ None → free_in rows (s + 1) ≡ free_in rows s ++ s ∷ []
+unfolding free_in
+free_more rows s e = let no : is_lead rows s ≡ false = lead_found rows s e in rw (add-one, no) refl
+
 module _ (rows : List (List Num)) (n : ℕ) (leads : List ℕ) (are : AreLeads rows n leads) (s : ℕ) (lt : s < n) where
   pub free_here : get_or leads s 0 ≡ 0 → free_in rows (s + 1) ≡ free_in rows s ++ s ∷ []
-  unfolding free_in
-  free_here e = let no : is_lead rows s ≡ false = lead_found rows s (sym (are.rows_are s lt) ∙ ap (row_by rows) e) in rw (add-one, no) refl
+  free_here e = free_more rows s (sym (are.rows_are s lt) ∙ ap (row_by rows) e)
 
   pub free_not : get_or leads s 0 ≢ 0 → free_in rows (s + 1) ≡ free_in rows s
   unfolding free_in
@@ -98,6 +91,22 @@ module _ (rows : List (List Num)) (n : ℕ) (leads : List ℕ) (are : AreLeads r
       let same : get_or leads s 0 ≡ suc k = omega (arith, ne) in
       let yes : is_lead rows s ≡ true = lead_lost rows s (get_or rows k []) (sym (are.rows_are s lt) ∙ ap (row_by rows) same) in
       rw (add-one, yes) refl
+
+-- what is read at a place
+pub lead_at : (rows : List (List Num)) (n : ℕ) (leads : List ℕ) → AreLeads rows n leads → (s r : ℕ) → s < n → r ≡ get_or leads s r → get_or leads s 0 ≡ r
+lead_at rows n leads are s r lt is = sym (is ∙ get_or_default leads s r 0 (omega (arith, lt, are.count)))
+
+pub rank_at : (rows : List (List Num)) (n : ℕ) (ranks : List ℕ) → AreRanks rows n ranks → (s r : ℕ) → s < n → r ≡ get_or ranks s r → r ≡ length (free_in rows s)
+rank_at rows n ranks are s r lt is = is ∙ get_or_default ranks s r 0 (omega (arith, lt, are.count)) ∙ are.ranks_are s lt
+
+-- the rank of one place more
+pub ranks_more : (rows : List (List Num)) (s : ℕ) (ranks : List ℕ) (rank : ℕ) → length ranks ≡ s → rank ≡ length (free_in rows s) → ((t : ℕ) → t < s → get_or ranks t 0 ≡ length (free_in rows t)) →
+    (t : ℕ) → t < s + 1 → get_or (ranks ++ rank ∷ []) t 0 ≡ length (free_in rows t)
+ranks_more rows s ranks rank count is are t lt =
+    elim (nat_same t s) [
+      | inl e ↦ ap (λ i. get_or (ranks ++ rank ∷ []) i 0) (e ∙ sym count) ∙ get_or-append_seam ranks rank [] 0 ∙ is ∙ sym (ap (λ i. length (free_in rows i)) e)
+      | inr ne ↦ get_or-append ranks (rank ∷ []) 0 t (omega (arith, lt, ne, count)) ∙ are t (omega (arith, lt, ne))
+    ]
 
 -- each free place is below the end, and there are no more than places
 pub free_below : (rows : List (List Num)) (m i d : ℕ) → i < length (free_in rows m) → get_or (free_in rows m) i d < m
@@ -117,35 +126,6 @@ free_few rows (suc m) = go (is_lead rows m) (free_few rows m)
     go : (b : Bool) → length (free_in rows m) ≤ m → length (cond b (free_in rows m) (free_in rows m ++ m ∷ [])) ≤ suc m
     go true h = omega arith
     go false h = rw length-append (omega arith)
-
--- one place more, not below the others
-ascends_more : (xs : List ℕ) (m : ℕ) → IsAscending xs → ((j : ℕ) → j < length xs → get_or xs j 0 ≤ m) → IsAscending (xs ++ m ∷ [])
-ascends_more xs m h most i k le lt =
-    let count : length (xs ++ m ∷ []) ≡ length xs + 1 = length-append xs (m ∷ []) in
-    elim (nat_split k (length xs)) [
-      | inl within ↦ rw (get_or-append xs (m ∷ []) 0 i (omega arith), get_or-append xs (m ∷ []) 0 k within) (h i k le within)
-      | inr end ↦
-          let last : k ≡ length xs = omega arith in
-          rw (last, at_middle) (elim (nat_split i (length xs)) [
-            | inl within ↦ rw (get_or-append xs (m ∷ []) 0 i within) (most i within)
-            | inr same ↦ let e : i ≡ length xs = omega arith in rw (e, at_middle) (omega arith)
-          ])
-    ]
-
--- free places ascend
-pub free_ascends : (rows : List (List Num)) (m : ℕ) → IsAscending (free_in rows m)
-unfolding free_in
-free_ascends rows zero i k le lt = absurd (omega (arith, lt))
-free_ascends rows (suc m) i k le lt = go (is_lead rows m) (free_ascends rows m) (λ j. free_below rows m j 0) lt
-  where
-    go : (b : Bool) → IsAscending (free_in rows m) → ((j : ℕ) → j < length (free_in rows m) → get_or (free_in rows m) j 0 < m) → k < length (cond b (free_in rows m) (free_in rows m ++ m ∷ [])) →
-        get_or (cond b (free_in rows m) (free_in rows m ++ m ∷ [])) i 0 ≤ get_or (cond b (free_in rows m) (free_in rows m ++ m ∷ [])) k 0
-    go true h below ltk = h i k le ltk
-    go false h below ltk = ascends_more (free_in rows m) m h (λ j l. let q : get_or (free_in rows m) j 0 < m = below j l in omega arith) i k le ltk
-
--- a row by its number
-pub row_by_some : (rows : List (List Num)) (k : ℕ) → k ≢ 0 → row_by rows k ≡ Some (get_or rows (k - 1) [])
-row_by_some rows k ne = let same : k ≡ suc (k - 1) = omega arith in ap (row_by rows) same
 
 pub length-solved : (kind : Kind) (free : List ℕ) (s : ℕ) (row : Option (List Num)) → length (solved kind free s row) ≡ length free
 length-solved kind free s None = length-map free _

@@ -9,6 +9,7 @@ pub mod Padded
 pub mod Leads
 pub mod Walking
 pub mod Places
+pub mod NewNumbers
 pub mod NewRows
 pub mod Pushed
 pub mod Truncated

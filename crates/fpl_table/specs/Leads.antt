@@ -1,24 +1,24 @@
--- The leads of closed rows, by place.
+-- The leads of closed rows, by place. A place that leads none is free.
 --
 --   row_by rows k              row k, counted from 1; none for 0
 --   AreLeads rows n leads      for each place below n the number of the first row that it leads, or 0
---   IsAscending places         no place is below an earlier one
---   IsClear row t next         the row is 0 from place t on, below position next
---   IsSolved T rows leads free the rows, their leads by place, and the places that lead none
+--   AreRanks rows n ranks      for each place below n how many places below it lead none
+--   ArePlaces n closed         the leads and ranks of the places below n, and those that lead none
+--   IsSolved T closed          the same, for closed rows over the symbols of the next weight
 --   basis_of T x               the basis element of the next weight that stands for a symbol
 --   IsNext T rows free ..      what the next weight adds
 --   trees_of T free            the bracket trees of the symbols at some places
 use Rattle.std.specs.Prelude.{ℕ, zero, suc, ◌≡◌, ◌<◌, ◌≤◌, List, [], length, map, get_or, All, ◌+◌, true, Option, Some, None}
 use Rattle.fpl_numbers.specs.declared.number.Num.{Num}
-use Rattle.fpl_numbers.specs.Numbers.{residue, is_nought}
 use Rattle.fpl_algebra.specs.Tree.{Tree}
 use Rattle.fpl_algebra.specs.Symbols.{no_symbol, symbol_parity}
 use Rattle.fpl_algebra.specs.Table.{Symbol, Basis}
 use Rattle.fpl_rows.specs.Meaning.{AreRows}
 use Rattle.fpl_table.specs.Plain.{PlainTable, symbols_in, table_in, shell_in}
 use Rattle.fpl_table.specs.Shape.{IsRowUpTo, IsNumbered, basis_trees, symbol_tree_in}
-use Rattle.fpl_table.specs.Push.{row_with_lead, free_of, new_basis, new_images, new_entries}
+use Rattle.fpl_table.specs.Push.{row_with_lead, free_in, new_basis, new_images, new_entries}
 use Rattle.fpl_table.specs.declared.symbol.Symbol as code
+use Rattle.fpl_table.specs.declared.table.leads.ClosedRows.{ClosedRows}
 
 abbrev pub row_by : List (List Num) → ℕ → Option (List Num)
 row_by rows zero = None
@@ -29,12 +29,14 @@ pub record AreLeads (rows : List (List Num)) (n : ℕ) (leads : List ℕ) : Type
   pub within : (s : ℕ) → s < n → get_or leads s 0 ≤ length rows
   pub rows_are : (s : ℕ) → s < n → row_by rows (get_or leads s 0) ≡ row_with_lead rows s
 
-abbrev pub IsAscending : List ℕ → Type 0
-IsAscending places = (i k : ℕ) → i ≤ k → k < length places → get_or places i 0 ≤ get_or places k 0
+pub record AreRanks (rows : List (List Num)) (n : ℕ) (ranks : List ℕ) : Type 0 where
+  pub count : length ranks ≡ n
+  pub ranks_are : (s : ℕ) → s < n → get_or ranks s 0 ≡ length (free_in rows s)
 
--- positions count from 1: place u is position u + 1
-abbrev pub IsClear : List Num → ℕ → ℕ → Type 0
-IsClear row t next = (u : ℕ) → t ≤ u → u + 1 < next → is_nought (get_or row u (residue 0)) ≡ true
+pub record ArePlaces {F E : Type 0} (n : ℕ) (closed : ClosedRows F E) : Type 0 where
+  pub are_leads : AreLeads closed.rows.now n closed.leads.items
+  pub are_ranks : AreRanks closed.rows.now n closed.ranks.items
+  pub free_is : closed.free.items ≡ free_in closed.rows.now n
 
 -- the basis element that stands for a symbol of the next weight
 abbrev pub basis_of : PlainTable → Symbol → Basis
@@ -43,13 +45,12 @@ basis_of T x = record { weight = suc T.weight; parity = symbol_parity (shell_in 
 abbrev pub trees_of : PlainTable → List ℕ → List (Tree Num)
 trees_of T free = map (λ s. symbol_tree_in (basis_trees T) (get_or (symbols_in T) s no_symbol)) free
 
--- the closed rows over the symbols of the next weight, with their leads by place and the places that lead none
-pub record IsSolved (T : PlainTable) (rows : List (List Num)) (leads free : List ℕ) : Type 0 where
+-- the closed rows over the symbols of the next weight, with what they say of each
+pub record IsSolved {F E : Type 0} (T : PlainTable) (closed : ClosedRows F E) : Type 0 where
   pub below : T.weight < 1000
   pub few : length (symbols_in T) ≤ 2000000
-  pub are_rows : AreRows T.kind (length (symbols_in T)) rows
-  pub are_leads : AreLeads rows (length (symbols_in T)) leads
-  pub free_is : free ≡ free_of T rows
+  pub are_rows : AreRows T.kind (length (symbols_in T)) closed.rows.now
+  pub places : ArePlaces (length (symbols_in T)) closed
 
 -- what the next weight adds: its basis elements with their bracket trees and symbols, how many basis elements there are then, images and entries
 pub record IsNext (T : PlainTable) (rows : List (List Num)) (free : List ℕ) (basis : List Basis) (trees : List (Tree Num)) (codes : List code.Symbol)

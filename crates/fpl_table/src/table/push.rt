@@ -9,7 +9,7 @@ ghost use Rattle.fpl_table.specs.Standard.{count_of};
 ghost use Rattle.fpl_table.specs.Push.{free_of, new_basis, push_of};
 ghost use Rattle.fpl_table.specs.Leads.{IsSolved, IsNext, trees_of, basis_of};
 
-use super::leads::{free_places, leads_of};
+use super::leads::ClosedRows;
 use super::{Element, Level, Table};
 use crate::{Basis, Symbol};
 use fpl_model::{Mono, Parity};
@@ -93,20 +93,18 @@ impl<F: Field> Table<F> {
     fn next_by(
         &self,
         alloc: Global,
-        rows: &Rows<F>,
         symbols: &[Symbol],
-        leads: &[usize],
-        free: &[u32],
+        closed: &ClosedRows<F>,
     ) -> Result<Next<F>, AllocError>
-        requires solved { IsSolved self.now rows.now leads.now free.now }
+        requires solved { IsSolved self.now closed.now }
         requires symbols { map symbol_in symbols.now ≡ symbols_in self.now }
         requires numbered { All IsNumbered symbols.now }
-        ensures { IfOk result (λ n. IsNext self.now rows.now free.now (map (λ e. basis_in e.basis) n.elements.items) (map (λ e. plain (expr_of e.tree.value)) n.elements.items) (map (λ e. e.basis.symbol) n.elements.items) n.level.through n.level.images.items (map (λ v. v.items) n.level.entries.items)) }
+        ensures { IfOk result (λ n. IsNext self.now closed.now.rows.now closed.now.free.items (map (λ e. basis_in e.basis) n.elements.items) (map (λ e. plain (expr_of e.tree.value)) n.elements.items) (map (λ e. e.basis.symbol) n.elements.items) n.level.through n.level.images.items (map (λ v. v.items) n.level.entries.items)) }
     {
-        let images = self.new_images(alloc, rows, leads, free)?;
-        let entries = self.new_entries(alloc, rows, leads, free)?;
-        let elements = self.new_elements(alloc, symbols, free)?;
-        let through = self.basis_len() + free.len() as u32;
+        let images = self.new_images(alloc, closed)?;
+        let entries = self.new_entries(alloc, closed)?;
+        let elements = self.new_elements(alloc, symbols, closed.free.as_slice())?;
+        let through = self.size_with(closed);
         Ok(Next {
             elements,
             level: Level {
@@ -126,15 +124,8 @@ impl<F: Field> Table<F> {
         ensures shape { HasShape self.now }
     {
         let symbols = self.symbol_list(alloc, self.weight() + 1)?;
-        let leads = leads_of(alloc, rows, symbols.len())?;
-        let free = free_places(alloc, rows, leads.as_slice())?;
-        self.next_by(
-            alloc,
-            rows,
-            symbols.as_slice(),
-            leads.as_slice(),
-            free.as_slice(),
-        )
+        let closed = ClosedRows::of(alloc, rows, symbols.len())?;
+        self.next_by(alloc, symbols.as_slice(), &closed)
     }
 
     /// Adds the next weight, by closed rows over its symbols, of which there are at most

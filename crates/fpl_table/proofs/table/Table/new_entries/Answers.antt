@@ -39,17 +39,17 @@ loop-i-preserved g c =
     let most = through_within c.args.self.now shape (c.args.self.now.weight + 1 - (plain_basis c.args.self.now c.loop-i.i).weight) in
     let count = rw same at c.in_ok-partners.ensures.count in
     let more = simp length-append at (ap length (pairs_more c.args.self.now shape (c.args.self.now.weight + 1) c.loop-i.i)) in
-    let partners : c.in_ok-partners.partners.items ≡ new_partners c.args.self.now c.args.rows.now c.loop-i.i 0 c.args.self.now.basis =
-    c.in_ok-partners.ensures.value ∙ ap (λ k. new_partners c.args.self.now c.args.rows.now k 0 c.args.self.now.basis) same in
-    let step = entries_step c.args.self.now c.args.rows.now c.loop-i.i (omega arith) in
+    let partners : c.in_ok-partners.partners.items ≡ new_partners c.args.self.now c.args.closed.now.rows.now c.loop-i.i 0 c.args.self.now.basis =
+    c.in_ok-partners.ensures.value ∙ ap (λ k. new_partners c.args.self.now c.args.closed.now.rows.now k 0 c.args.self.now.basis) same in
+    let step = entries_step c.args.self.now c.args.closed.now.rows.now c.loop-i.i (omega arith) in
     record {
       few = omega (arith, row, most, count, c.loop-i.invariant.few, shape.small, shape.weight);
       place = omega (arith, count, more, c.loop-i.invariant.place);
       left = rw (c.in_ok-push.ensures.items, map-append, append_assoc, partners, ← step) c.loop-i.invariant.left;
-      whole = rw (c.in_ok-push.ensures.items, map-append) (all_push (λ partners. All (IsRowUpTo c.args.self.now.kind (length c.args.self.now.basis + length c.args.free.now)) partners) _ _ c.loop-i.invariant.whole c.in_ok-partners.ensures.whole);
+      whole = rw (c.in_ok-push.ensures.items, map-append) (all_push (λ partners. All (IsRowUpTo c.args.self.now.kind (length c.args.self.now.basis + length c.args.closed.now.free.items)) partners) _ _ c.loop-i.invariant.whole c.in_ok-partners.ensures.whole);
     }
 
 pub returns-clause-value : goal.returns-clause-value
 returns-clause-value g c =
-    let none = entries_end c.args.self.now c.args.rows.now c.loop-i.i (omega arith) in
+    let none = entries_end c.args.self.now c.args.closed.now.rows.now c.loop-i.i (omega arith) in
     sym (append-nil (map (λ v. v.items) c.loop-i.entries.items)) ∙ rw none at c.loop-i.invariant.left

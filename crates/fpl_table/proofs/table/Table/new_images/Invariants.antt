@@ -9,6 +9,6 @@ abbrev pub invariant-loop-g : goal.invariant-loop-g
 invariant-loop-g g l = record {
   few : l.place ≤ l.g;
   place : l.place ≡ length (joined l.g (generator_cell l.self (l.self.weight + 1)));
-  left : l.images.items ++ new_images l.self l.rows l.g (drop l.g l.self.generators) ≡ new_images l.self l.rows 0 l.self.generators;
-  whole : All (IsRowUpTo l.self.kind (length l.self.basis + length l.free)) l.images.items;
+  left : l.images.items ++ new_images l.self l.closed.rows.now l.g (drop l.g l.self.generators) ≡ new_images l.self l.closed.rows.now 0 l.self.generators;
+  whole : All (IsRowUpTo l.self.kind (length l.self.basis + length l.closed.free.items)) l.images.items;
 }

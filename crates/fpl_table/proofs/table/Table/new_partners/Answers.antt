@@ -18,7 +18,7 @@ loop-j-init g c =
     let to = rw next at c.partners-from.ensures.to in
     let light : (plain_basis c.args.self.now (c.args.i - 1)).weight ≤ c.args.self.now.weight = shape.light (c.args.i - 1) lti in
     let begin = from_within c.args.self.now shape (suc c.args.self.now.weight) (c.args.i - 1) lti (omega arith) in
-    let first = partners_first c.args.self.now c.args.rows.now shape (c.args.i - 1) lti begin in
+    let first = partners_first c.args.self.now c.args.closed.now.rows.now shape (c.args.i - 1) lti begin in
     record {
       within = omega (arith, begin, from);
       stop = omega arith;
@@ -60,16 +60,16 @@ loop-j-preserved g c =
     let light : (plain_basis c.args.self.now (c.args.i - 1)).weight ≤ c.args.self.now.weight = shape.light (c.args.i - 1) lti in
     let start = rw add-one at c.requires.start in
     let place = pair_place c.args.self.now shape (c.args.i - 1) lti c.loop-j.j (omega (arith, from)) (omega (arith, to)) in
-    let more = partners_more c.args.self.now c.args.rows.now shape (c.args.i - 1) lti c.loop-j.j (omega arith) (omega (arith, from)) (omega (arith, to)) in
-    let same : row_of_symbol c.args.self.now c.args.rows.now (of_pair (c.args.i - 1) c.loop-j.j) ≡ c.in_ok-symbol_row.field-0 =
-    ap (symbol_row c.args.self.now c.args.rows.now) (place ∙ omega (arith, start, from)) ∙ sym c.in_ok-symbol_row.ensures.value in
+    let more = partners_more c.args.self.now c.args.closed.now.rows.now shape (c.args.i - 1) lti c.loop-j.j (omega arith) (omega (arith, from)) (omega (arith, to)) in
+    let same : row_of_symbol c.args.self.now c.args.closed.now.rows.now (of_pair (c.args.i - 1) c.loop-j.j) ≡ c.in_ok-symbol_row.field-0 =
+    ap (symbol_row c.args.self.now c.args.closed.now.rows.now) (place ∙ omega (arith, start, from)) ∙ sym c.in_ok-symbol_row.ensures.value in
     let count = simp length-append at (ap length c.in_ok-push.ensures.items) in
     record {
       within = omega arith;
       stop = omega arith;
       count = omega (arith, count, c.loop-j.invariant.count);
       left = rw (c.in_ok-push.ensures.items, append_assoc, ← same, ← more) c.loop-j.invariant.left;
-      whole = rw c.in_ok-push.ensures.items (all_push (IsRowUpTo c.args.self.now.kind (length c.args.self.now.basis + length c.args.free.now)) _ _ c.loop-j.invariant.whole c.in_ok-symbol_row.ensures.whole);
+      whole = rw c.in_ok-push.ensures.items (all_push (IsRowUpTo c.args.self.now.kind (length c.args.self.now.basis + length c.args.closed.now.free.items)) _ _ c.loop-j.invariant.whole c.in_ok-symbol_row.ensures.whole);
     }
 
 pub returns-clause-value : goal.returns-clause-value
@@ -80,7 +80,7 @@ returns-clause-value g c =
     let from = rw next at c.partners-from.ensures.from in
     let to = rw next at c.partners-from.ensures.to in
     let light : (plain_basis c.args.self.now (c.args.i - 1)).weight ≤ c.args.self.now.weight = shape.light (c.args.i - 1) lti in
-    let none = partners_end c.args.self.now c.args.rows.now shape (c.args.i - 1) lti c.loop-j.j c.loop-j.invariant.within (omega (arith, to)) in
+    let none = partners_end c.args.self.now c.args.closed.now.rows.now shape (c.args.i - 1) lti c.loop-j.j c.loop-j.invariant.within (omega (arith, to)) in
     sym (append-nil c.loop-j.partners.items) ∙ rw none at c.loop-j.invariant.left
 
 pub returns-clause-count : goal.returns-clause-count
