@@ -10,7 +10,7 @@ use Rattle.fpl_model.specs.declared.presentation.Presentation.{Presentation}
 use Rattle.fpl_table.specs.Standard.{count_through}
 use Rattle.std.proofs.lemmas.List.{append-nil}
 use Rattle.fpl_completion.specs.Weight.{close_weight}
-use Rattle.fpl_completion.specs.Section.{section_of}
+use Rattle.fpl_completion.specs.Section.{slimmed, section_of}
 use Rattle.fpl_check.specs.Refusal.{Refusal, bad, unfit}
 use Rattle.fpl_check.specs.Check.{check_of}
 use Rattle.fpl_bytes.specs.declared.fault.BadBytes.{BadBytes}
@@ -22,7 +22,7 @@ use Rattle.fpl_sections.specs.Frames.{frame_of}
 use Rattle.fpl_sections.specs.Reading.{payload_at}
 use Rattle.fpl_resume.specs.declared.stop.Stop as code
 use Rattle.fpl_resume.specs.declared.stop.Stop.TheVariants as told
-use Rattle.fpl_complete.specs.State.{unfit_of, slimmed}
+use Rattle.fpl_complete.specs.State.{unfit_of}
 use Rattle.fpl_resume.specs.Stops.{PlainRun, stored_in, IsStop}
 use Rattle.fplsa.specs.Begin.{HasStopped}
 use Rattle.fpl_resume.specs.Walk.{Stored, Stage, too_many, bad_bytes, bad_section, overflow, Stop, ended, failed, Walked, next_weight, adopted, formed, computed_as, computed, framed, weighed, step_of, stopped, walk_on, walk_of, step_cost, cost_on, cost_of}

@@ -3,7 +3,8 @@ use Rattle.fpl_model.specs.declared.presentation.Presentation.{Presentation}
 use Rattle.fpl_table.specs.Plain.{PlainTable, symbols_in}
 use Rattle.fpl_next.specs.Holds.{Holds}
 use Rattle.fpl_next.proofs.Holding.{push_holds}
-use Rattle.fpl_check_tests.proofs.Counted.{few_symbols, rows_counted}
+use Rattle.fpl_rewrite.proofs.SymbolCounts.{rows_counted}
+use Rattle.fpl_check_tests.proofs.Counted.{few_symbols}
 use Rattle.fpl_check_tests.proofs.tests.tried.Goals as goal
 
 pub check_section-requires-clause-few : goal.check_section-requires-clause-few
