@@ -8,7 +8,7 @@
 --   basis_of T x               the basis element of the next weight that stands for a symbol
 --   IsNext T rows free ..      what the next weight adds
 --   trees_of T free            the bracket trees of the symbols at some places
-use Rattle.std.specs.Prelude.{ℕ, zero, suc, ◌≡◌, ◌<◌, ◌≤◌, List, [], length, map, get_or, All, ◌+◌, true, Option, Some, None}
+use Rattle.std.specs.Prelude.{ℕ, zero, suc, ◌≡◌, ◌<◌, ◌≤◌, List, [], length, map, get_or, All, ◌+◌, Option, Some, None}
 use Rattle.fpl_numbers.specs.declared.number.Num.{Num}
 use Rattle.fpl_algebra.specs.Tree.{Tree}
 use Rattle.fpl_algebra.specs.Symbols.{no_symbol, symbol_parity}

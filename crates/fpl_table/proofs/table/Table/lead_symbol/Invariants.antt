@@ -1,4 +1,4 @@
-use Rattle.std.proofs.Common.{◌≡◌, ◌≤◌, ◌-◌, length, map, get_or}
+use Rattle.std.proofs.Common.{◌≤◌, ◌-◌, length, map, get_or}
 use Rattle.fpl_numbers.specs.Numbers.{negative_of, residue}
 use Rattle.fpl_scalar.specs.Vectors.{AreElements}
 use Rattle.fpl_table.specs.Push.{free_in}
