@@ -1,6 +1,6 @@
 -- The part of a standard table through a lower weight, and the numbers of symbols that it shares with the whole.
 use Rattle.std.specs.Prelude.{ℕ, zero, suc, ◌≡◌, ◌<◌, ◌≤◌, ◌+◌, ◌-◌, length}
-use mathlib.Core.Path.{sym, refl, ap, ◌∙◌}
+use mathlib.Core.Path.{sym, refl, ap, ap₂, ◌∙◌}
 use mathlib.Core.Logic.{inl, inr}
 use native.Mathlib.Omega.{arith}
 use native.Mathlib.Decide.{ℕ_discrete, dec_lt}
