@@ -13,7 +13,7 @@
 use Rattle.std.specs.Prelude.{ℕ, List, [], ◌∷◌, ◌++◌, Bool, true, false, if◌then◌else◌, codes, decimal}
 use Rattle.fpl_numbers.specs.declared.number.Num.{Num}
 use Rattle.fpl_numbers.specs.declared.number.Kind.{Kind}
-use Rattle.fpl_algebra.specs.Tree.{Tree, Trees, gen, none, sum_of, multiple, bracket_of, end, more}
+use Rattle.math_algebra.specs.Tree.{Tree, Trees, gen, none, sum_of, multiple, bracket_of, end, more}
 use Rattle.fpl_model.specs.Meaning.{plain, parity_in}
 use Rattle.fpl_model.specs.declared.expr.Expr.{Expr}
 use Rattle.fpl_model.specs.declared.presentation.Generator.{Generator}

@@ -1,6 +1,6 @@
 //! The texts of expressions.
 ghost use Rattle.std.specs.Prelude.{◌≡◌, ◌++◌, true, map, OnOk};
-ghost use Rattle.fpl_algebra.specs.Tree.{trees};
+ghost use Rattle.math_algebra.specs.Tree.{trees};
 ghost use Rattle.fpl_model.specs.Meaning.{plain};
 ghost use Rattle.fpl_canonical.specs.Canonical.{opening, closing, encloses_sum, encloses_multiple, own_sign, begins_below, expression_text, sum_text};
 

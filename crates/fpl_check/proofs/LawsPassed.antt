@@ -2,27 +2,27 @@
 use Rattle.std.specs.Prelude.{◌≡◌, ℕ, ◌<◌, List, [], length, Result, Ok, Err, IfOk, Contains, All, slice_index_or}
 use mathlib.Core.Path.{ap, subst}
 use native.Mathlib.Omega.{arith}
-use Rattle.fpl_linear.specs.Vector.{Vector}
+use Rattle.math_linear.specs.Vector.{Vector}
 use Rattle.fpl_numbers.specs.declared.number.Num.{Num}
 use Rattle.fpl_numbers.specs.declared.number.Kind.{Kind}
 use Rattle.fpl_numbers.specs.Kinds.{field_of, number_of}
 use Rattle.fpl_rows.specs.Meaning.{row_in, vector_in, AreRows, IsClosedList, InSpanOf}
 use Rattle.fpl_rows.proofs.Readings.{vector_past}
-use Rattle.fpl_algebra.specs.Tree.{none}
-use Rattle.fpl_algebra.specs.Derives.{Derives, Expression}
-use Rattle.fpl_algebra.specs.Symbols.{symbols}
-use Rattle.fpl_algebra.specs.Standard.{IsStandard}
-use Rattle.fpl_theorems.specs.Standard.{over_symbols}
-use Rattle.fpl_theorems.proofs.StandardLaws.{rows_are_zero}
+use Rattle.math_algebra.specs.Tree.{none}
+use Rattle.math_algebra.specs.Derives.{Derives, Expression}
+use Rattle.math_algebra.specs.Symbols.{symbols}
+use Rattle.math_algebra.specs.Standard.{IsStandard}
+use Rattle.math_theorems.specs.Standard.{over_symbols}
+use Rattle.math_theorems.proofs.StandardLaws.{rows_are_zero}
 use Rattle.fpl_log.specs.declared.step.Origin.{Origin}
 use Rattle.fpl_log.specs.declared.section.Section.{Section}
 use Rattle.fpl_model.specs.declared.presentation.Presentation.{Presentation}
 use Rattle.fpl_model.specs.Meaning.{presentation_in}
 use Rattle.fpl_table.specs.Plain.{PlainTable, table_in, symbols_in}
-use Rattle.fpl_next.specs.Holds.{Holds}
+use Rattle.plain_tables.specs.Holds.{Holds}
 use Rattle.fpl_rewrite.specs.Origins.{origins_of}
-use Rattle.fpl_faithful.proofs.Laws.{sound_stands, symbols_stand}
-use Rattle.fpl_faithful.proofs.HeldTables.{RowsStand, InOriginSpan, origin_vector, is_field, origins_stand, source_origin, from_sources}
+use Rattle.plain_sources.proofs.Laws.{sound_stands, symbols_stand}
+use Rattle.plain_sources.proofs.HeldTables.{RowsStand, InOriginSpan, origin_vector, is_field, origins_stand, source_origin, from_sources}
 use Rattle.fpl_check.specs.declared.fault.CheckFault.{CheckFault}
 use Rattle.fpl_check.specs.Refusal.{GivesCheck}
 use Rattle.fpl_check.specs.Premises.{IsSectionFor}

@@ -7,7 +7,7 @@ use Rattle.fpl_numbers.specs.declared.number.Num.{Num}
 use Rattle.fpl_numbers.specs.declared.number.Kind.{Kind}
 use Rattle.fpl_numbers.specs.Numbers.{IsElement}
 use Rattle.fpl_rows.proofs.Fits.{all_cons, all_head, all_tail}
-use Rattle.fpl_algebra.specs.Degrees.{exact}
+use Rattle.math_algebra.specs.Degrees.{exact}
 use Rattle.fpl_model.specs.declared.presentation.Equation.{Equation}
 use Rattle.fpl_model.specs.declared.presentation.Presentation.{Presentation}
 use Rattle.fpl_log.specs.declared.terms.Term.{Term}
@@ -17,7 +17,7 @@ use Rattle.fpl_log.specs.declared.step.Origin.TheVariants.{Relation, Jacobi, Cub
 use Rattle.fpl_log.specs.Plain.{IsTermOf}
 use Rattle.fpl_table.specs.Plain.{PlainTable}
 use Rattle.fpl_rewrite.specs.Origins.{relation_weight, is_triple, is_cube, is_three, origins_of}
-use Rattle.fpl_faithful.proofs.Listed.{is_three_kind, exactly_is, triple_is, cube_is, IsTriple, IsCube, IsListed, listed_relation, listed_triple, listed_cube, is_listed}
+use Rattle.plain_sources.proofs.Listed.{is_three_kind, exactly_is, triple_is, cube_is, IsTriple, IsCube, IsListed, listed_relation, listed_triple, listed_cube, is_listed}
 use Rattle.fpl_check.specs.declared.fault.CheckFault.{CheckFault}
 use Rattle.fpl_check.specs.declared.fault.Spot.TheVariants.{Step as AtStep}
 use Rattle.fpl_check.specs.declared.fault.Why.TheVariants.{BadCite}

@@ -4,10 +4,10 @@ use mathlib.Core.Path.{refl, sym, ap, ap₂, subst, ◌∙◌}
 use native.Mathlib.Omega.{arith}
 use Rattle.std.proofs.lemmas.Bool.Decides.{nat_tests}
 use Rattle.std.proofs.lemmas.List.{get_or-map, length-map}
-use Rattle.fpl_fields.specs.Field.{Field}
-use Rattle.fpl_linear.specs.Vector.{Vector, vzero, scale}
-use Rattle.fpl_linear.specs.Span.{Spanned}
-use Rattle.fpl_linear.specs.Span.Spanned.{span_kind, span_none, span_sum, span_multiple}
+use Rattle.math_fields.specs.Field.{Field}
+use Rattle.math_linear.specs.Vector.{Vector, vzero, scale}
+use Rattle.math_linear.specs.Span.{Spanned}
+use Rattle.math_linear.specs.Span.Spanned.{span_kind, span_none, span_sum, span_multiple}
 use Rattle.fpl_numbers.specs.declared.number.Num.{Num}
 use Rattle.fpl_numbers.specs.declared.number.Kind.{Kind}
 use Rattle.fpl_numbers.specs.declared.number.Unfit.{Unfit}
@@ -29,13 +29,13 @@ use Rattle.fpl_log.specs.declared.section.Section.{Section}
 use Rattle.fpl_log.specs.Conclusion.{cited, terms_sum}
 use Rattle.fpl_log.specs.Plain.{IsTermOf, term_row, terms_off, scaled_by, conclude_of, less_in, conclusion_in}
 use Rattle.fpl_log.proofs.TermsTaken.{conclusion_means}
-use Rattle.fpl_elimination.specs.Plain.{sweep_rows}
-use Rattle.fpl_elimination.proofs.Remainders.{sweep_means}
+use Rattle.plain_elimination.specs.Plain.{sweep_rows}
+use Rattle.plain_elimination.proofs.Remainders.{sweep_means}
 use Rattle.fpl_model.specs.declared.presentation.Presentation.{Presentation}
 use Rattle.fpl_table.specs.Plain.{PlainTable, symbols_in}
 use Rattle.fpl_rewrite.specs.Origins.{origins_of}
 use Rattle.fpl_rewrite.specs.Rows.{row_of_origin}
-use Rattle.fpl_faithful.proofs.HeldTables.{RowsStand}
+use Rattle.plain_sources.proofs.HeldTables.{RowsStand}
 use Rattle.fpl_check.specs.declared.fault.Spot.{Spot}
 use Rattle.fpl_check.specs.declared.fault.Spot.TheVariants.{Step as AtStep, Closed as AtClosed, Origin as AtOrigin}
 use Rattle.fpl_check.specs.declared.fault.Why.TheVariants.{BadOrigin, BadCite, Differs}

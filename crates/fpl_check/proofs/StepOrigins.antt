@@ -5,10 +5,10 @@ use native.Mathlib.Omega.{arith}
 use Rattle.std.proofs.lemmas.Bool.Decides.{nat_tests}
 use Rattle.std.proofs.lemmas.Option.{slice_get_within}
 use Rattle.std.proofs.lemmas.List.{append_assoc, length-append, get_or_append_left, get_or-map}
-use Rattle.fpl_fields.specs.Field.{Field}
-use Rattle.fpl_linear.specs.Vector.{Vector, vzero, vplus, scale}
-use Rattle.fpl_linear.proofs.Vectors.{vplus_assoc, vplus-vzero, minus-vplus, scale_scale, scale-unit}
-use Rattle.fpl_linear.proofs.Span.{span_vzero, span_vplus, span_scale, in_span}
+use Rattle.math_fields.specs.Field.{Field}
+use Rattle.math_linear.specs.Vector.{Vector, vzero, vplus, scale}
+use Rattle.math_linear.proofs.Vectors.{vplus_assoc, vplus-vzero, minus-vplus, scale_scale, scale-unit}
+use Rattle.math_linear.proofs.Span.{span_vzero, span_vplus, span_scale, in_span}
 use Rattle.fpl_numbers.specs.declared.number.Num.{Num}
 use Rattle.fpl_numbers.specs.declared.number.Kind.{Kind}
 use Rattle.fpl_numbers.specs.declared.number.Unfit.{Unfit}
@@ -29,15 +29,15 @@ use Rattle.fpl_log.specs.declared.section.Section.{Section}
 use Rattle.fpl_log.specs.Conclusion.{cited, terms_sum}
 use Rattle.fpl_log.specs.Plain.{IsTermOf, conclude_of, less_in, conclusion_in}
 use Rattle.fpl_log.proofs.TermsTaken.{conclusion_means, term_got}
-use Rattle.fpl_elimination.specs.Plain.{sweep_rows}
-use Rattle.fpl_elimination.proofs.Remainders.{sweep_means}
+use Rattle.plain_elimination.specs.Plain.{sweep_rows}
+use Rattle.plain_elimination.proofs.Remainders.{sweep_means}
 use Rattle.fpl_model.specs.declared.presentation.Presentation.{Presentation}
 use Rattle.fpl_table.specs.Plain.{PlainTable, symbols_in}
-use Rattle.fpl_next.specs.Holds.{Holds}
+use Rattle.plain_tables.specs.Holds.{Holds}
 use Rattle.fpl_rewrite.specs.Origins.{origins_of}
 use Rattle.fpl_rewrite.specs.Rows.{row_of_origin}
-use Rattle.fpl_faithful.proofs.Fitting.{Always, prime_always, sweep_rows_fits}
-use Rattle.fpl_faithful.proofs.HeldTables.{is_field, origin_rows}
+use Rattle.plain_sources.proofs.Fitting.{Always, prime_always, sweep_rows_fits}
+use Rattle.plain_sources.proofs.HeldTables.{is_field, origin_rows}
 use Rattle.fpl_check.specs.declared.cites.Cited.TheVariants.{Inserts, Closes}
 use Rattle.fpl_check.specs.declared.fault.Spot.TheVariants.{Step as AtStep, Origin as AtOrigin}
 use Rattle.fpl_check.specs.Refusal.{exactly}

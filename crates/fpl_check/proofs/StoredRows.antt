@@ -17,7 +17,7 @@ use Rattle.fpl_rows.proofs.Fits.{none_some, some_same, all_cons, all_head, all_t
 use Rattle.fpl_log.specs.declared.closed.Coefficient.{Coefficient}
 use Rattle.fpl_log.proofs.TermsTaken.{drop_next, past_end}
 use Rattle.fpl_table.specs.Value.{zero_row}
-use Rattle.fpl_next.proofs.Pushed.{zero_element}
+use Rattle.plain_tables.proofs.Pushed.{zero_element}
 use Rattle.fpl_check.specs.Premises.{AreCoefficientsOf}
 use Rattle.fpl_check.specs.ClosedRows.{is_formed, stored_in, stored_row}
 use Rattle.fpl_check.specs.Filled.{least_of, symbol_of, number_if}

@@ -4,7 +4,7 @@ use mathlib.Core.Path.{refl, sym, ap, ap₂, ◌∙◌}
 use native.Mathlib.Omega.{arith}
 use Rattle.std.proofs.lemmas.Bool.Decides.{nat_tests}
 use Rattle.std.proofs.lemmas.Option.{slice_get_past, slice_get_read}
-use Rattle.fpl_algebra.specs.Degrees.{weight_of_both}
+use Rattle.math_algebra.specs.Degrees.{weight_of_both}
 use Rattle.fpl_model.specs.declared.presentation.Equation.{Equation}
 use Rattle.fpl_model.specs.declared.presentation.Presentation.{Presentation}
 use Rattle.fpl_model.specs.Meaning.{tree_in, presentation_in}

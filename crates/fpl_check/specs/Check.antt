@@ -19,7 +19,7 @@ use Rattle.fpl_numbers.specs.Results.{and_then}
 use Rattle.fpl_model.specs.declared.presentation.Presentation.{Presentation}
 use Rattle.fpl_log.specs.declared.step.Origin.{Origin}
 use Rattle.fpl_log.specs.declared.section.Section.{Section}
-use Rattle.fpl_elimination.specs.Plain.{sweep_rows}
+use Rattle.plain_elimination.specs.Plain.{sweep_rows}
 use Rattle.fpl_table.specs.Plain.{PlainTable, symbols_in}
 use Rattle.fpl_rewrite.specs.Origins.{origins_of}
 use Rattle.fpl_rewrite.specs.Rows.{row_of_origin}

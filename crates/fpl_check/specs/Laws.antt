@@ -4,21 +4,21 @@
 --   AcceptedIsNext       so the table with these rows pushed is built again, whoever made the section
 --   ConclusionsAreZero   what steps that pass conclude is derivably 0, as a combination of the symbols
 use Rattle.std.specs.Prelude.{◌≡◌, ◌≤◌, ◌<◌, List, length, Ok, All}
-use Rattle.fpl_linear.specs.Span.{SpansKind}
+use Rattle.math_linear.specs.Span.{SpansKind}
 use Rattle.fpl_numbers.specs.declared.number.Num.{Num}
 use Rattle.fpl_numbers.specs.Kinds.{field_of}
 use Rattle.fpl_rows.specs.Meaning.{row_in, vector_in, IsClosedList}
-use Rattle.fpl_algebra.specs.Tree.{none}
-use Rattle.fpl_algebra.specs.Derives.{Derives}
-use Rattle.fpl_algebra.specs.SourceRows.{IsSource}
-use Rattle.fpl_algebra.specs.Standard.{IsStandard}
-use Rattle.fpl_theorems.specs.Standard.{over_symbols}
+use Rattle.math_algebra.specs.Tree.{none}
+use Rattle.math_algebra.specs.Derives.{Derives}
+use Rattle.math_algebra.specs.SourceRows.{IsSource}
+use Rattle.math_algebra.specs.Standard.{IsStandard}
+use Rattle.math_theorems.specs.Standard.{over_symbols}
 use Rattle.fpl_log.specs.declared.section.Section.{Section}
 use Rattle.fpl_model.specs.declared.presentation.Presentation.{Presentation}
 use Rattle.fpl_model.specs.Meaning.{presentation_in}
 use Rattle.fpl_table.specs.Plain.{PlainTable, table_in, symbols_in}
 use Rattle.fpl_table.specs.Push.{push_of}
-use Rattle.fpl_next.specs.Holds.{Holds}
+use Rattle.plain_tables.specs.Holds.{Holds}
 use Rattle.fpl_check.specs.Premises.{IsSectionFor}
 use Rattle.fpl_check.specs.Steps.{conclusions_of}
 use Rattle.fpl_check.specs.Check.{Accepts}

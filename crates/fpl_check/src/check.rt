@@ -1,11 +1,11 @@
 ghost use Rattle.std.specs.Prelude.{◌≡◌, ◌≤◌, length, IfOk};
-ghost use Rattle.fpl_linear.specs.Span.{SpansKind};
+ghost use Rattle.math_linear.specs.Span.{SpansKind};
 ghost use Rattle.fpl_numbers.specs.Kinds.{field_of};
 ghost use Rattle.fpl_rows.specs.Meaning.{IsClosedList, row_in};
-ghost use Rattle.fpl_algebra.specs.SourceRows.{IsSource};
+ghost use Rattle.math_algebra.specs.SourceRows.{IsSource};
 ghost use Rattle.fpl_model.specs.Meaning.{presentation_in};
 ghost use Rattle.fpl_table.specs.Plain.{symbols_in, table_in};
-ghost use Rattle.fpl_next.specs.Holds.{Holds};
+ghost use Rattle.plain_tables.specs.Holds.{Holds};
 ghost use Rattle.fpl_check.specs.Refusal.{GivesCheck};
 ghost use Rattle.fpl_check.specs.Premises.{IsSectionFor};
 ghost use Rattle.fpl_check.specs.Check.{check_of};

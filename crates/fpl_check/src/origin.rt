@@ -1,6 +1,6 @@
 ghost use Rattle.std.specs.Prelude.{◌≡◌, ◌<◌, ◌+◌, ◌^◌, length};
 ghost use Rattle.fpl_model.specs.Meaning.{plain, presentation_in, tree_in};
-ghost use Rattle.fpl_algebra.specs.Degrees.{weight_of_both};
+ghost use Rattle.math_algebra.specs.Degrees.{weight_of_both};
 ghost use Rattle.fpl_model.specs.Sound.{IsSound, IsTerm, HaveWeights, count_tree};
 ghost use Rattle.fpl_table.specs.Shape.{Agrees};
 ghost use Rattle.fpl_rewrite.specs.Origins.{is_exactly};

@@ -1,11 +1,11 @@
 ghost use Rattle.std.specs.Prelude.{◌≡◌, ◌≤◌, ◌-◌, ◌^◌, true, length, IfOk, IfSome, IfNone, Contains};
 ghost use Rattle.fpl_numbers.specs.Results.{GivesBy, and_then};
 ghost use Rattle.fpl_rows.specs.Meaning.{IsClosedList, IsRowOf};
-ghost use Rattle.fpl_elimination.specs.Plain.{sweep_rows};
+ghost use Rattle.plain_elimination.specs.Plain.{sweep_rows};
 ghost use Rattle.fpl_model.specs.Sound.{IsSound};
 ghost use Rattle.fpl_table.specs.Plain.{symbols_in};
 ghost use Rattle.fpl_table.specs.Shape.{Agrees};
-ghost use Rattle.fpl_next.specs.Holds.{Holds};
+ghost use Rattle.plain_tables.specs.Holds.{Holds};
 ghost use Rattle.fpl_rewrite.specs.Origins.{origins_of};
 ghost use Rattle.fpl_rewrite.specs.Rows.{row_of_origin};
 ghost use Rattle.fpl_check.specs.Refusal.{GivesCheck};

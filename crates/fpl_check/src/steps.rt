@@ -4,7 +4,7 @@ ghost use Rattle.fpl_numbers.specs.Results.{GivesBy, and_then};
 ghost use Rattle.fpl_rows.specs.Meaning.{AreRows, IsRowOf};
 ghost use Rattle.fpl_log.specs.Plain.{IsTermOf, conclude_of};
 ghost use Rattle.fpl_table.specs.Plain.{symbols_in};
-ghost use Rattle.fpl_next.specs.Holds.{Holds};
+ghost use Rattle.plain_tables.specs.Holds.{Holds};
 ghost use Rattle.fpl_rewrite.specs.Origins.{origins_of};
 ghost use Rattle.fpl_rewrite.specs.Rows.{row_of_origin};
 ghost use Rattle.fpl_check.specs.Refusal.{GivesCheck};

@@ -11,7 +11,7 @@ use fpl_bytes::u32_at;
 use fpl_canonical::write;
 use fpl_model::Presentation;
 use fpl_reader::{ReaderError, read};
-use fpl_sections::{BadBytes, ByteWhy, ScanError};
+use fpl_section_bytes::{BadBytes, ByteWhy, ScanError};
 use std::alloc::{AllocError, Global};
 
 // How many bytes stand before the text of a head.

@@ -4,7 +4,7 @@
 mod head;
 mod laws;
 
-pub use fpl_sections::{
+pub use fpl_section_bytes::{
     BadBytes, ByteWhy, Frame, ScanError, read_section, scan_frame, section_bytes,
 };
 pub use head::{Head, head_bytes, scan_head};

@@ -9,15 +9,15 @@ use Rattle.fpl_numbers.specs.declared.number.Fault.TheVariants.{Unfit as Unfits}
 use Rattle.fpl_numbers.specs.Results.{and_then, map_ok, IsFault}
 use Rattle.fpl_rows.proofs.Fits.{part_fits}
 use Rattle.fpl_log.specs.declared.step.Step.{Step}
-use Rattle.fpl_elimination.specs.Plain.{Elimination, Held, rows_of, close_of}
+use Rattle.plain_elimination.specs.Plain.{Elimination, Held, rows_of, close_of}
 use Rattle.fpl_echelon.specs.Outcomes.{ClosedParts, closed_as}
 use Rattle.fpl_model.specs.declared.presentation.Presentation.{Presentation}
 use Rattle.fpl_table.specs.Plain.{PlainTable}
 use Rattle.fpl_rewrite.specs.Origins.{origins_of}
-use Rattle.fpl_faithful.proofs.Fitting.{Always}
-use Rattle.fpl_completion.specs.Weight.{begun, gather, again, close_weight}
-use Rattle.fpl_completion.proofs.Gathered.{again_same}
-use Rattle.fpl_completion.proofs.Fitting.{close_weight_fits}
+use Rattle.plain_sources.proofs.Fitting.{Always}
+use Rattle.plain_weights.specs.Weight.{begun, gather, again, close_weight}
+use Rattle.plain_weights.proofs.Gathered.{again_same}
+use Rattle.plain_weights.proofs.Fitting.{close_weight_fits}
 
 abbrev pub parts : Held → ClosedParts
 parts h = closed_as (rows_of h.pivots) h.steps

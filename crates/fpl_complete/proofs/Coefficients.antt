@@ -10,7 +10,7 @@ use Rattle.fpl_rows.specs.Positions.{next_of}
 use Rattle.fpl_rows.proofs.Fits.{some_same, none_some}
 use Rattle.fpl_log.specs.declared.closed.Coefficient.{Coefficient}
 use Rattle.fpl_log.proofs.TermsTaken.{drop_next}
-use Rattle.fpl_completion.specs.Section.{coefficient, coefficients_from, closed_list}
+use Rattle.plain_weights.specs.Section.{coefficient, coefficients_from, closed_list}
 
 -- the first number that is not 0 stands at place k
 record IsFirst (s : ℕ) (xs : List Num) (k : ℕ) : Type 0 where

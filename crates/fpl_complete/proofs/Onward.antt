@@ -9,8 +9,8 @@ use Rattle.fpl_model.specs.declared.presentation.Presentation.{Presentation}
 use Rattle.fpl_table.specs.Plain.{PlainTable}
 use Rattle.fpl_table.specs.Standard.{count_through}
 use Rattle.fpl_rewrite.specs.Origins.{origins_of}
-use Rattle.fpl_next.specs.Raised.{IsRaised}
-use Rattle.fpl_completion.specs.Section.{Computes}
+use Rattle.plain_tables.specs.Raised.{IsRaised}
+use Rattle.plain_weights.specs.Section.{Computes}
 use Rattle.fpl_complete.specs.State.{section_at, AreOfWeights, sum_after, BoundsOrigins}
 use Rattle.fpl_complete.proofs.Raising.{section_old}
 

@@ -9,34 +9,34 @@ use Rattle.fpl_numbers.specs.declared.number.Num.{Num}
 use Rattle.fpl_numbers.specs.declared.number.Kind.{Kind}
 use Rattle.fpl_numbers.specs.declared.number.Kind.TheVariants.{Rational, Prime}
 use Rattle.fpl_numbers.specs.declared.number.Unfit.{Unfit}
-use Rattle.fpl_linear.specs.Span.{SpansKind}
+use Rattle.math_linear.specs.Span.{SpansKind}
 use Rattle.fpl_numbers.specs.Kinds.{field_of}
 use Rattle.fpl_numbers.specs.Results.{map_ok}
 use Rattle.fpl_rows.specs.Meaning.{row_in, IsClosedList}
-use Rattle.fpl_algebra.specs.SourceRows.{IsSource}
+use Rattle.math_algebra.specs.SourceRows.{IsSource}
 use Rattle.fpl_model.specs.Meaning.{presentation_in}
 use Rattle.fpl_log.specs.declared.section.Section.{Section}
-use Rattle.fpl_elimination.specs.Plain.{Held, rows_of}
+use Rattle.plain_elimination.specs.Plain.{Held, rows_of}
 use Rattle.fpl_model.specs.declared.presentation.Presentation.{Presentation}
-use Rattle.fpl_algebra.specs.Tree.{no_generator}
-use Rattle.fpl_algebra.specs.Table.{Symbol, of_generator, of_pair}
-use Rattle.fpl_algebra.specs.Symbols.{joined, symbols_of, is_odd}
+use Rattle.math_algebra.specs.Tree.{no_generator}
+use Rattle.math_algebra.specs.Table.{Symbol, of_generator, of_pair}
+use Rattle.math_algebra.specs.Symbols.{joined, symbols_of, is_odd}
 use Rattle.fpl_table.specs.Plain.{PlainTable, plain_basis, symbols_in, table_in}
 use Rattle.fpl_table.specs.Shape.{HasShape}
 use Rattle.fpl_table.specs.Push.{push_of}
 use Rattle.fpl_table.specs.Standard.{count_of, count_through}
-use Rattle.fpl_next.specs.Holds.{Holds}
-use Rattle.fpl_next.specs.Raised.{IsRaised}
-use Rattle.fpl_next.specs.Raised.IsRaised.{pushed}
-use Rattle.fpl_next.proofs.Holding.{push_holds}
+use Rattle.plain_tables.specs.Holds.{Holds}
+use Rattle.plain_tables.specs.Raised.{IsRaised}
+use Rattle.plain_tables.specs.Raised.IsRaised.{pushed}
+use Rattle.plain_tables.proofs.Holding.{push_holds}
 use Rattle.fpl_rewrite.proofs.SymbolCounts.{symbols_counted}
-use Rattle.fpl_faithful.proofs.Fitting.{Always, prime_always}
-use Rattle.fpl_completion.specs.Weight.{close_weight}
-use Rattle.fpl_completion.specs.Section.{slimmed, section_of}
-use Rattle.fpl_completion.proofs.Fitting.{close_weight_fits}
-use Rattle.fpl_completion.proofs.Completed.{next_holds, next_raised}
-use Rattle.fpl_completion.proofs.Counts.{counts_pushed}
-use Rattle.fpl_sections.specs.Stored.{IsWritable}
+use Rattle.plain_sources.proofs.Fitting.{Always, prime_always}
+use Rattle.plain_weights.specs.Weight.{close_weight}
+use Rattle.plain_weights.specs.Section.{slimmed, section_of}
+use Rattle.plain_weights.proofs.Fitting.{close_weight_fits}
+use Rattle.plain_weights.proofs.Completed.{next_holds, next_raised}
+use Rattle.plain_weights.proofs.Counts.{counts_pushed}
+use Rattle.fpl_section_bytes.specs.Stored.{IsWritable}
 use Rattle.fpl_check.specs.Premises.{IsSectionFor}
 use Rattle.fpl_complete.specs.State.{section_at, no_section, AreOfWeights, PlainState, IsStorable, IsState, PlainWeighed, weighed_as}
 use Rattle.fpl_complete.proofs.Weighing.{weighed}

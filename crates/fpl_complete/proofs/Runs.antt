@@ -8,11 +8,11 @@ use Rattle.fpl_numbers.specs.declared.number.Fault.TheVariants.{NoMemory}
 use Rattle.fpl_numbers.specs.declared.number.Fault.TheVariants.{Unfit as Unfits}
 use Rattle.fpl_numbers.specs.Results.{and_then, IsFault}
 use Rattle.fpl_log.specs.declared.step.Origin.{Origin}
-use Rattle.fpl_elimination.specs.Plain.{Elimination, Held, sweep_rows}
+use Rattle.plain_elimination.specs.Plain.{Elimination, Held, sweep_rows}
 use Rattle.fpl_model.specs.declared.presentation.Presentation.{Presentation}
 use Rattle.fpl_table.specs.Plain.{PlainTable}
 use Rattle.fpl_rewrite.specs.Rows.{row_of_origin}
-use Rattle.fpl_completion.specs.Weight.{put_of, gather, again}
+use Rattle.plain_weights.specs.Weight.{put_of, gather, again}
 
 module _ (T : PlainTable) (p : Presentation) where
   pub gather_next : (os rest : List Origin) (o : Origin) (e f : Elimination) (all : Result Elimination Unfit) → os ≡ o ∷ rest → put_of T p o e ≡ Ok f → gather T p os e ≡ all → gather T p rest f ≡ all

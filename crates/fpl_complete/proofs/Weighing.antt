@@ -13,16 +13,16 @@ use Rattle.fpl_log.specs.declared.step.Step.{Step}
 use Rattle.fpl_log.specs.declared.section.Section.{Section}
 use Rattle.fpl_log.specs.Slim.{AllNameEarlier, slim_steps}
 use Rattle.fpl_log.proofs.SlimLoops.{order_names}
-use Rattle.fpl_elimination.specs.Plain.{Held, rows_of}
+use Rattle.plain_elimination.specs.Plain.{Held, rows_of}
 use Rattle.fpl_echelon.specs.Outcomes.{ClosedParts, closed_as}
 use Rattle.fpl_model.specs.declared.presentation.Presentation.{Presentation}
 use Rattle.fpl_table.specs.Plain.{PlainTable}
 use Rattle.fpl_rewrite.specs.Origins.{origins_of}
-use Rattle.fpl_next.specs.Holds.{Holds}
-use Rattle.fpl_completion.specs.Weight.{close_weight}
-use Rattle.fpl_completion.specs.Section.{closed_list, section_of}
-use Rattle.fpl_completion.proofs.Completed.{weighed_in_order}
-use Rattle.fpl_completion.proofs.Recorded.{origins_counted}
+use Rattle.plain_tables.specs.Holds.{Holds}
+use Rattle.plain_weights.specs.Weight.{close_weight}
+use Rattle.plain_weights.specs.Section.{closed_list, section_of}
+use Rattle.plain_weights.proofs.Completed.{weighed_in_order}
+use Rattle.plain_weights.proofs.Recorded.{origins_counted}
 use Rattle.fpl_complete.specs.State.{PlainWeighed, weighed_as}
 use Rattle.fpl_complete.proofs.Closing.{parts, part_unfit}
 

@@ -4,7 +4,7 @@ use Rattle.std.specs.List.{find}
 use mathlib.Core.Path.{refl, sym, subst}
 use native.Mathlib.Omega.{arith}
 use Rattle.std.proofs.lemmas.List.{length-append, length-map}
-use Rattle.fpl_linear.specs.Vector.{Vector, vzero}
+use Rattle.math_linear.specs.Vector.{Vector, vzero}
 use Rattle.fpl_numbers.specs.declared.number.Num.{Num}
 use Rattle.fpl_numbers.specs.declared.number.Kind.{Kind}
 use Rattle.fpl_numbers.specs.Numbers.{IsField, IsElement, is_nought, residue, negative_of, inverse_of}
@@ -25,23 +25,23 @@ use Rattle.fpl_log.specs.declared.step.Step.{Step}
 use Rattle.fpl_log.specs.declared.step.Step.TheVariants.{Insert, Close}
 use Rattle.fpl_log.specs.declared.section.Section.{Section}
 use Rattle.fpl_log.specs.Slim.{is_left_out, new_number, next_number, next_count, slim_term, slim_terms, slim_step, slim_steps, kept_if}
-use Rattle.fpl_elimination.specs.Plain.{PivotRow, IsPivotRow, stands_at, Swept, taken_off, sweep_by, sweep_at, sweep_of, Held, Inserted, Elimination, keep_of, insert_of, close_by, close_to, close_of, rows_of}
-use Rattle.fpl_elimination.proofs.Sweeping.{sweep_reads, at_reads}
-use Rattle.fpl_elimination.proofs.Found.{found_elements, found_length, close_pivots, insert_pivots}
-use Rattle.fpl_elimination.proofs.Ascending.{AscendsFrom, close_ascends}
+use Rattle.plain_elimination.specs.Plain.{PivotRow, IsPivotRow, stands_at, Swept, taken_off, sweep_by, sweep_at, sweep_of, Held, Inserted, Elimination, keep_of, insert_of, close_by, close_to, close_of, rows_of}
+use Rattle.plain_elimination.proofs.Sweeping.{sweep_reads, at_reads}
+use Rattle.plain_elimination.proofs.Found.{found_elements, found_length, close_pivots, insert_pivots}
+use Rattle.plain_elimination.proofs.Ascending.{AscendsFrom, close_ascends}
 use Rattle.fpl_model.specs.declared.presentation.Equation.{Equation}
 use Rattle.fpl_model.specs.declared.presentation.Presentation.{Presentation}
 use Rattle.fpl_table.specs.Plain.{PlainTable, symbols_in}
 use Rattle.fpl_rewrite.specs.Origins.{joined, relation_weight, is_exactly, relations_from, relations_of, is_triple, triples_of, is_cube, is_three, cubes_of, origins_of}
-use Rattle.fpl_next.specs.Holds.{Holds}
-use Rattle.fpl_next.proofs.Pushed.{zero_element}
-use Rattle.fpl_completion.specs.Weight.{put_of, gather, close_weight}
-use Rattle.fpl_completion.specs.Section.{slimmed, coefficients_from, closed_list, section_of}
-use Rattle.fpl_completion.proofs.Gathered.{ReadsRows, first_of, rest}
-use Rattle.fpl_completion.proofs.Recorded.{put_parts, run_parts}
-use Rattle.fpl_completion.proofs.Completed.{weighed_closed, with_rows}
+use Rattle.plain_tables.specs.Holds.{Holds}
+use Rattle.plain_tables.proofs.Pushed.{zero_element}
+use Rattle.plain_weights.specs.Weight.{put_of, gather, close_weight}
+use Rattle.plain_weights.specs.Section.{slimmed, coefficients_from, closed_list, section_of}
+use Rattle.plain_weights.proofs.Gathered.{ReadsRows, first_of, rest}
+use Rattle.plain_weights.proofs.Recorded.{put_parts, run_parts}
+use Rattle.plain_weights.proofs.Completed.{weighed_closed, with_rows}
 use Rattle.std.proofs.lemmas.List.Elements.{All-nil, All-append}
-use Rattle.fpl_sections.specs.Stored.{IsWritableOrigin, AreWritableTerms, IsWritableStep, IsWritableRow, IsWritable}
+use Rattle.fpl_section_bytes.specs.Stored.{IsWritableOrigin, AreWritableTerms, IsWritableStep, IsWritableRow, IsWritable}
 use Rattle.fpl_complete.specs.State.{IsStorableStep, IsStorable}
 
 module _ (kind : Kind) where

@@ -19,13 +19,13 @@ use Rattle.fpl_numbers.specs.Numbers.{IsElement}
 use Rattle.fpl_log.specs.declared.step.Step.{Step}
 use Rattle.fpl_log.specs.declared.step.Step.TheVariants.{Insert, Close}
 use Rattle.fpl_log.specs.declared.section.Section.{Section}
-use Rattle.fpl_sections.specs.Stored.{IsWritableOrigin, AreWritableTerms, IsWritableRow, IsWritable}
+use Rattle.fpl_section_bytes.specs.Stored.{IsWritableOrigin, AreWritableTerms, IsWritableRow, IsWritable}
 use Rattle.fpl_model.specs.declared.presentation.Presentation.{Presentation}
 use Rattle.fpl_table.specs.Plain.{PlainTable}
 use Rattle.fpl_table.specs.Standard.{IsTableOf, count_through}
 use Rattle.fpl_rewrite.specs.Origins.{origins_of}
-use Rattle.fpl_next.specs.Holds.{Holds}
-use Rattle.fpl_next.specs.Raised.{IsRaised}
+use Rattle.plain_tables.specs.Holds.{Holds}
+use Rattle.plain_tables.specs.Raised.{IsRaised}
 
 pub record PlainState : Type 0 where
   pub presentation : Presentation

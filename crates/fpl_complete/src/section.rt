@@ -1,7 +1,7 @@
 ghost use Rattle.std.specs.Prelude.{◌≡◌, ◌≤◌, ◌-◌, [], length, All, IfOk, Some};
 ghost use Rattle.fpl_scalar.specs.Vectors.{AreElements};
 ghost use Rattle.fpl_log.specs.Slim.{AllNameEarlier, slim_steps};
-ghost use Rattle.fpl_completion.specs.Section.{coefficients_from, closed_list};
+ghost use Rattle.plain_weights.specs.Section.{coefficients_from, closed_list};
 
 use fpl_log::{ClosedList, ClosedRow, Coefficient, Section, StepList};
 use fpl_rows::{Row, Rows};

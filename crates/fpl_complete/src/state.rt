@@ -2,20 +2,20 @@ ghost use Rattle.std.specs.Prelude.{◌≡◌, ◌≤◌, ◌<◌, ◌+◌, ◌-
 ghost use Rattle.fpl_numbers.specs.declared.number.Num.{Num};
 ghost use Rattle.fpl_numbers.specs.declared.number.Op.{Op};
 ghost use Rattle.fpl_numbers.specs.declared.number.Kind.{Kind};
-ghost use Rattle.fpl_elimination.specs.Plain.{Held, rows_of};
+ghost use Rattle.plain_elimination.specs.Plain.{Held, rows_of};
 ghost use Rattle.fpl_model.specs.Sound.{IsSound};
 ghost use Rattle.fpl_table.specs.Push.{push_of};
 ghost use Rattle.fpl_table.specs.Standard.{start_of, count_through, IsTableOf};
 ghost use Rattle.fpl_rewrite.specs.Origins.{origins_of};
-ghost use Rattle.fpl_next.specs.Raised.{IsRaised};
-ghost use Rattle.fpl_completion.specs.Weight.{close_weight, next_of};
-ghost use Rattle.fpl_completion.specs.Section.{slimmed, section_of, Computes, OverflowsAt};
+ghost use Rattle.plain_tables.specs.Raised.{IsRaised};
+ghost use Rattle.plain_weights.specs.Weight.{close_weight, next_of};
+ghost use Rattle.plain_weights.specs.Section.{slimmed, section_of, Computes, OverflowsAt};
 ghost use Rattle.fpl_check.specs.declared.fault.Spot.{Spot};
 ghost use Rattle.fpl_check.specs.declared.fault.Why.{Why};
 ghost use Rattle.fpl_check.specs.Refusal.{bad, unfit};
 ghost use Rattle.fpl_check.specs.Premises.{IsSectionFor};
 ghost use Rattle.fpl_check.specs.Check.{check_of, Accepts};
-ghost use Rattle.fpl_sections.specs.Stored.{IsWritable};
+ghost use Rattle.fpl_section_bytes.specs.Stored.{IsWritable};
 ghost use Rattle.fpl_complete.specs.State.{AreOfWeights, BoundsOrigins, IsStorable, PassesAfter, section_at, sum_after, unfit_of};
 
 use crate::accepting::accept;

@@ -1,15 +1,15 @@
 ghost use Rattle.std.specs.Prelude.{◌≡◌, ◌≤◌, ◌<◌, ◌+◌, length, Ok, IfOk, OnOk, Contains};
 ghost use Rattle.fpl_numbers.specs.Results.{Gives, GivesBy, map_ok, and_then};
 ghost use Rattle.fpl_rows.specs.Meaning.{IsClosedList};
-ghost use Rattle.fpl_elimination.specs.Plain.{Held, rows_of, sweep_rows};
+ghost use Rattle.plain_elimination.specs.Plain.{Held, rows_of, sweep_rows};
 ghost use Rattle.fpl_rewrite.specs.Rows.{row_of_origin};
 ghost use Rattle.fpl_echelon.specs.Outcomes.{closed_as};
 ghost use Rattle.fpl_echelon.specs.Leads.{IsLeadIndex};
 ghost use Rattle.fpl_table.specs.Plain.{symbols_in};
-ghost use Rattle.fpl_next.specs.Holds.{Holds};
+ghost use Rattle.plain_tables.specs.Holds.{Holds};
 ghost use Rattle.fpl_rewrite.specs.Origins.{origins_of};
-ghost use Rattle.fpl_completion.specs.Weight.{begun, put_of, gather, again, close_weight};
-ghost use Rattle.fpl_completion.specs.Section.{section_of};
+ghost use Rattle.plain_weights.specs.Weight.{begun, put_of, gather, again, close_weight};
+ghost use Rattle.plain_weights.specs.Section.{section_of};
 ghost use Rattle.fpl_complete.specs.State.{weighed_as};
 
 use crate::section::section_of;

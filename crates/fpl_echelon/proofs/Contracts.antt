@@ -8,9 +8,9 @@ use Rattle.fpl_numbers.specs.Results.{GivesBy}
 use Rattle.fpl_log.specs.declared.step.Origin.{Origin}
 use Rattle.fpl_log.specs.declared.step.Step.{Step}
 use Rattle.fpl_scalar.specs.Vectors.{AreElements}
-use Rattle.fpl_elimination.specs.Plain.{PivotRow, IsPivotRow, Held, Elimination, inserted_as, insert_of}
-use Rattle.fpl_elimination.specs.Spans.{SpansWith}
-use Rattle.fpl_elimination.proofs.Found.{insert_means, insert_pivots}
+use Rattle.plain_elimination.specs.Plain.{PivotRow, IsPivotRow, Held, Elimination, inserted_as, insert_of}
+use Rattle.plain_elimination.specs.Spans.{SpansWith}
+use Rattle.plain_elimination.proofs.Found.{insert_means, insert_pivots}
 use Rattle.fpl_echelon.specs.declared.outcome.Outcome.{Outcome}
 use Rattle.fpl_echelon.specs.Outcomes.{lead_in}
 

@@ -7,7 +7,7 @@ use Rattle.std.proofs.lemmas.List.{length-append}
 use Rattle.std.proofs.Common.{sym, refl, ap, ◌∙◌, subst, arith}
 use native.Mathlib.Decide.{ℕ_discrete}
 use Rattle.fpl_rows.proofs.Fits.{some_same}
-use Rattle.fpl_elimination.specs.Plain.{PivotRow, stands_at}
+use Rattle.plain_elimination.specs.Plain.{PivotRow, stands_at}
 use Rattle.fpl_echelon.specs.Index.{place_at, noted_by, noted_at, IsIndex}
 
 -- no row at a new place

@@ -15,7 +15,7 @@ use Rattle.fpl_numbers.specs.declared.number.Fault.TheVariants.{Unfit as Unfits}
 use Rattle.fpl_numbers.specs.Results.{and_then, IsFault}
 use Rattle.fpl_rows.specs.Positions.{lead_below}
 use Rattle.fpl_rows.proofs.Leads.{lead_is, lead_none}
-use Rattle.fpl_elimination.specs.Plain.{PivotRow, Swept, stands_at, sweep_by, sweep_at, sweep_of}
+use Rattle.plain_elimination.specs.Plain.{PivotRow, Swept, stands_at, sweep_by, sweep_at, sweep_of}
 
 by_nought : (kind : Kind) (o : Option PivotRow) (c : Num) (x : Swept) → is_nought c ≡ true → sweep_by kind o c x ≡ Ok x
 by_nought kind None c x z = refl

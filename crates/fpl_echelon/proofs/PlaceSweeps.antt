@@ -18,8 +18,8 @@ use Rattle.fpl_rows.specs.Meaning.{IsRowOf, AreRows, IsClosedList, pivot_of}
 use Rattle.fpl_rows.specs.Positions.{lead_below, lead_of}
 use Rattle.fpl_rows.proofs.Fits.{some_same, none_some}
 use Rattle.fpl_rows.proofs.Leads.{lead_is, lead_none, lead_place}
-use Rattle.fpl_elimination.specs.Plain.{take_at, take_row, sweep_rows}
-use Rattle.fpl_elimination.proofs.RowSweeps.{got_row, got_is, sweep_next, sweep_stops}
+use Rattle.plain_elimination.specs.Plain.{take_at, take_row, sweep_rows}
+use Rattle.plain_elimination.proofs.RowSweeps.{got_row, got_is, sweep_next, sweep_stops}
 use Rattle.fpl_echelon.specs.Leads.{is_at, leads_at, take_if}
 
 -- the row that is found for a lead

@@ -6,7 +6,7 @@
 use Rattle.std.specs.Prelude.{◌≡◌, ℕ, ◌+◌, ◌<◌, List, length, Option, Some, None, slice_index_or, slice_get, slice_set}
 use Rattle.std.specs.Option.{option_and_then}
 use Rattle.std.specs.List.{find}
-use Rattle.fpl_elimination.specs.Plain.{PivotRow, stands_at}
+use Rattle.plain_elimination.specs.Plain.{PivotRow, stands_at}
 
 abbrev pub place_at : List (Option ℕ) → ℕ → Option ℕ
 place_at places s = slice_index_or places s None

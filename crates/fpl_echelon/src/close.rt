@@ -1,6 +1,6 @@
 ghost use Rattle.std.specs.Prelude.{◌≡◌, ◌<◌, ◌≤◌, ◌+◌, ◌^◌, [], length, All, OnOk};
 ghost use Rattle.fpl_numbers.specs.Results.{Gives, GivesBy};
-ghost use Rattle.fpl_elimination.specs.Plain.{IsPivotRow, close_at, close_to};
+ghost use Rattle.plain_elimination.specs.Plain.{IsPivotRow, close_at, close_to};
 
 use crate::pivots::{Pivot, Pivots};
 use crate::sweeping::sweep_below;

@@ -2,8 +2,8 @@ ghost use Rattle.std.specs.Prelude.{◌≡◌, ◌<◌, ◌≤◌, ◌+◌, [], 
 ghost use Rattle.fpl_numbers.specs.Numbers.{IsField};
 ghost use Rattle.fpl_numbers.specs.Results.{GivesBy, map_ok};
 ghost use Rattle.fpl_scalar.specs.Vectors.{AreElements};
-ghost use Rattle.fpl_elimination.specs.Plain.{inserted_as, insert_of, close_of, rows_of};
-ghost use Rattle.fpl_elimination.specs.Spans.{SpansWith, ClosesTo};
+ghost use Rattle.plain_elimination.specs.Plain.{inserted_as, insert_of, close_of, rows_of};
+ghost use Rattle.plain_elimination.specs.Spans.{SpansWith, ClosesTo};
 ghost use Rattle.fpl_echelon.specs.Outcomes.{lead_in, closed_as};
 
 use crate::close::{Closed, close_all};
@@ -30,7 +30,7 @@ pub struct Echelon<F: Field> {
 
 impl<F: Field> Model for Echelon<F> {
     ghost use Rattle.std.specs.Prelude.{All};
-    ghost use Rattle.fpl_elimination.specs.Plain.{Elimination, IsPivotRow};
+    ghost use Rattle.plain_elimination.specs.Plain.{Elimination, IsPivotRow};
 
     ghost Value = { Elimination };
 

@@ -2,7 +2,7 @@ ghost use Rattle.std.specs.Prelude.{◌≡◌, ◌<◌, ◌≤◌, ◌+◌, ◌-
 ghost use Rattle.fpl_numbers.specs.Results.{Gives, GivesBy};
 ghost use Rattle.fpl_scalar.specs.Vectors.{AreElements};
 ghost use Rattle.fpl_rows.specs.Positions.{lead_of};
-ghost use Rattle.fpl_elimination.specs.Plain.{IsPivotRow, keep_of, insert_of, inserted_as};
+ghost use Rattle.plain_elimination.specs.Plain.{IsPivotRow, keep_of, insert_of, inserted_as};
 ghost use Rattle.fpl_echelon.specs.Outcomes.{lead_in};
 
 use crate::outcome::Outcome;

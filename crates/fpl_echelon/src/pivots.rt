@@ -1,7 +1,7 @@
 ghost use Rattle.std.specs.Prelude.{◌≡◌, ◌≤◌, ◌<◌, ◌^◌, ◌++◌, ◌∷◌, [], List, OnOk, OnErr, length, IfOk};
 ghost use Rattle.std.specs.Option.{option_copied};
 ghost use Rattle.std.specs.List.{find};
-ghost use Rattle.fpl_elimination.specs.Plain.{PivotRow, stands_at, rows_of};
+ghost use Rattle.plain_elimination.specs.Plain.{PivotRow, stands_at, rows_of};
 ghost use Rattle.fpl_echelon.specs.Index.{place_at, noted_at};
 
 use fpl_rows::{Row, Rows};
@@ -18,7 +18,7 @@ pub struct Pivot<F: Field> {
 }
 
 impl<F: Field> Model for Pivot<F> {
-    ghost use Rattle.fpl_elimination.specs.Plain.{PivotRow};
+    ghost use Rattle.plain_elimination.specs.Plain.{PivotRow};
 
     ghost Value = { PivotRow };
 
@@ -61,7 +61,7 @@ pub struct Pivots<F: Field> {
 
 impl<F: Field> Model for Pivots<F> {
     ghost use Rattle.std.specs.Prelude.{List};
-    ghost use Rattle.fpl_elimination.specs.Plain.{PivotRow};
+    ghost use Rattle.plain_elimination.specs.Plain.{PivotRow};
     ghost use Rattle.fpl_echelon.specs.Index.{IsIndex};
 
     ghost Value = { List PivotRow };

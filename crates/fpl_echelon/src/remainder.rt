@@ -3,8 +3,8 @@ ghost use Rattle.std.specs.Option.{option_copied};
 ghost use Rattle.fpl_numbers.specs.Results.{GivesBy};
 ghost use Rattle.fpl_scalar.specs.Vectors.{AreElements};
 ghost use Rattle.fpl_rows.specs.Meaning.{IsRowOf, IsClosedList};
-ghost use Rattle.fpl_elimination.specs.Plain.{sweep_rows};
-ghost use Rattle.fpl_elimination.specs.Spans.{SweepsTo};
+ghost use Rattle.plain_elimination.specs.Plain.{sweep_rows};
+ghost use Rattle.plain_elimination.specs.Spans.{SweepsTo};
 ghost use Rattle.fpl_echelon.specs.Leads.{IsLeadIndex, take_if};
 
 use crate::Leads;

@@ -2,7 +2,7 @@ ghost use Rattle.std.specs.Prelude.{◌≡◌, ◌<◌, ◌≤◌, ◌+◌, ◌^
 ghost use Rattle.fpl_numbers.specs.Numbers.{is_nought, residue};
 ghost use Rattle.fpl_numbers.specs.Results.{Gives};
 ghost use Rattle.fpl_scalar.specs.Vectors.{AreElements};
-ghost use Rattle.fpl_elimination.specs.Plain.{IsPivotRow, sweep_at, sweep_of};
+ghost use Rattle.plain_elimination.specs.Plain.{IsPivotRow, sweep_at, sweep_of};
 
 use crate::pivots::Pivots;
 use fpl_log::{Term, Terms};

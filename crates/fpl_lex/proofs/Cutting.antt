@@ -4,7 +4,7 @@ use Rattle.std.specs.Prelude.{Ok, Err}
 use Rattle.std.specs.List.{list_all}
 use Rattle.std.proofs.lemmas.Bool.{eqb-true, ltb-true, ltb-false, lt-ltb, le-ltb, true≢false, false≢true}
 use Rattle.std.proofs.lemmas.List.{append-nil}
-use Rattle.fpl_text.specs.Bytes.{is_blank, is_letter, is_digit, is_word_byte, is_mark}
+use Rattle.fpl_alphabet.specs.Bytes.{is_blank, is_letter, is_digit, is_word_byte, is_mark}
 use Rattle.fpl_lex.specs.declared.token.Token.{Token}
 use Rattle.fpl_lex.specs.declared.fault.LexError.{LexError}
 use Rattle.fpl_lex.specs.declared.fault.LexError.TheVariants.{BadByte, NumberTooLarge, NameTooLong, NoMemory}

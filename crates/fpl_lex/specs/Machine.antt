@@ -19,7 +19,7 @@
 --   IsBefore      a mode begins no later than this place
 use Rattle.std.specs.Prelude.{◌≡◌, ℕ, ◌+◌, ◌-◌, ◌*◌, ◌≤◌, ◌<◌, drop, length, List, [], ◌∷◌, ◌++◌, ◌==◌, nat_lt, None, Some, Result, Ok, Err, if◌then◌else◌}
 use Rattle.std.specs.declared.option.Option.{Option}
-use Rattle.fpl_text.specs.Bytes.{is_blank, is_letter, is_digit, is_mark, most_name}
+use Rattle.fpl_alphabet.specs.Bytes.{is_blank, is_letter, is_digit, is_mark, most_name}
 use Rattle.fpl_lex.specs.declared.token.Token.{Token}
 use Rattle.fpl_lex.specs.declared.token.TokenKind.TheVariants as kinds
 use Rattle.fpl_lex.specs.declared.fault.LexError.{LexError}

@@ -3,11 +3,11 @@ use Rattle.std.specs.Prelude.{◌≡◌, ℕ, zero, suc, ◌-◌, ◌≤◌, Lis
 use mathlib.Core.Path.{sym, refl, ap, ◌∙◌, subst}
 use native.Mathlib.Omega.{arith}
 use Rattle.std.proofs.lemmas.List.{get_or-map}
-use Rattle.fpl_fields.specs.Field.{Field}
-use Rattle.fpl_linear.specs.Vector.{Vector, vzero, vplus, scale}
-use Rattle.fpl_linear.specs.Lists.{vector_of}
-use Rattle.fpl_linear.proofs.Numbers.{minus-times, unit-times}
-use Rattle.fpl_linear.proofs.Vectors.{vplus_assoc, vplus-vzero, scale-vplus, scale_scale, scale-vzero}
+use Rattle.math_fields.specs.Field.{Field}
+use Rattle.math_linear.specs.Vector.{Vector, vzero, vplus, scale}
+use Rattle.math_linear.specs.Lists.{vector_of}
+use Rattle.math_linear.proofs.Numbers.{minus-times, unit-times}
+use Rattle.math_linear.proofs.Vectors.{vplus_assoc, vplus-vzero, scale-vplus, scale_scale, scale-vzero}
 use Rattle.fpl_numbers.specs.declared.number.Num.{Num}
 use Rattle.fpl_numbers.specs.declared.number.Kind.{Kind}
 use Rattle.fpl_numbers.specs.declared.number.Unfit.{Unfit}

@@ -2,9 +2,9 @@
 use Rattle.std.specs.Prelude.{◌≡◌, ℕ, zero, suc, ◌+◌, ◌-◌, ◌<◌, ◌≤◌, List, [], ◌∷◌, ◌++◌, length, get_or, map}
 use mathlib.Core.Path.{sym, refl, ap, ap₂, ◌∙◌}
 use native.Mathlib.Omega.{arith}
-use Rattle.fpl_fields.specs.Field.{Field}
-use Rattle.fpl_linear.specs.Vector.{Vector, vzero, vplus, scale}
-use Rattle.fpl_linear.proofs.Vectors.{vplus_assoc, vplus_comm, vplus-vzero, vzero-vplus, scale-vplus, scale_scale, scale-unit, scale-vzero, minus-vplus}
+use Rattle.math_fields.specs.Field.{Field}
+use Rattle.math_linear.specs.Vector.{Vector, vzero, vplus, scale}
+use Rattle.math_linear.proofs.Vectors.{vplus_assoc, vplus_comm, vplus-vzero, vzero-vplus, scale-vplus, scale_scale, scale-unit, scale-vzero, minus-vplus}
 use Rattle.fpl_numbers.specs.declared.number.Num.{Num}
 use Rattle.fpl_log.specs.declared.terms.Term.{Term}
 use Rattle.fpl_log.specs.declared.step.Origin.{Origin}

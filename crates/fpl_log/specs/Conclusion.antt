@@ -11,8 +11,8 @@
 --   unfolded done steps          those of all steps, after those done
 --   unfolding_value source u     the value of a combination
 use Rattle.std.specs.Prelude.{ℕ, ◌-◌, List, [], ◌∷◌, ◌++◌, slice_index_or}
-use Rattle.fpl_fields.specs.Field.{Field}
-use Rattle.fpl_linear.specs.Vector.{Vector, vzero, vplus, scale}
+use Rattle.math_fields.specs.Field.{Field}
+use Rattle.math_linear.specs.Vector.{Vector, vzero, vplus, scale}
 use Rattle.fpl_numbers.specs.declared.number.Num.{Num}
 use Rattle.fpl_log.specs.declared.terms.Term.{Term}
 use Rattle.fpl_log.specs.declared.step.Origin.{Origin}

@@ -4,7 +4,7 @@
 --   HaveElements k steps    scales are canonical and fit
 --   ConclusionsStay k       where steps are left out because their scale is 0, each step that stays concludes what it concluded before
 use Rattle.std.specs.Prelude.{◌≡◌, ℕ, ◌≤◌, List, [], ◌∷◌, length, Some}
-use Rattle.fpl_linear.specs.Vector.{Vector}
+use Rattle.math_linear.specs.Vector.{Vector}
 use Rattle.fpl_numbers.specs.declared.number.Kind.{Kind}
 use Rattle.fpl_numbers.specs.Numbers.{IsField, IsElement}
 use Rattle.fpl_numbers.specs.Kinds.{field_of, number_of}

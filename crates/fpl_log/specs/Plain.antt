@@ -11,7 +11,7 @@ use Rattle.fpl_numbers.specs.declared.number.Kind.{Kind}
 use Rattle.fpl_numbers.specs.declared.number.Unfit.{Unfit}
 use Rattle.fpl_numbers.specs.Numbers.{IsElement, negative_of}
 use Rattle.fpl_numbers.specs.Kinds.{field_of, number_of}
-use Rattle.fpl_linear.specs.Vector.{Vector, scale}
+use Rattle.math_linear.specs.Vector.{Vector, scale}
 use Rattle.fpl_rows.specs.Meaning.{vector_in}
 use Rattle.fpl_log.specs.Conclusion.{less}
 use Rattle.fpl_numbers.specs.Results.{and_then}

@@ -3,8 +3,8 @@ use Rattle.std.proofs.Common.{◌≡◌, ◌<◌, ◌≤◌, ◌+◌, ◌*◌, �
 use Rattle.fpl_numbers.specs.declared.number.Num.{Num}
 use Rattle.fpl_numbers.specs.declared.number.Kind.{Kind}
 use Rattle.fpl_numbers.specs.Kinds.{Number}
-use Rattle.fpl_algebra.specs.Tree.{Tree, Trees, gen, none, sum_of, multiple, bracket_of, end, more, Presentation, generator, no_generator}
-use Rattle.fpl_algebra.specs.Degrees.{Degree, any, exact, mixed, of_both, of_bracket, weight_of, weights_of}
+use Rattle.math_algebra.specs.Tree.{Tree, Trees, gen, none, sum_of, multiple, bracket_of, end, more, Presentation, generator, no_generator}
+use Rattle.math_algebra.specs.Degrees.{Degree, any, exact, mixed, of_both, of_bracket, weight_of, weights_of}
 use Rattle.fpl_model.specs.declared.degree.Degree as code
 use Rattle.fpl_model.specs.declared.presentation.Generator as declared
 use Rattle.fpl_model.specs.Degrees.{weight_degree, IsUpTo}

@@ -1,7 +1,7 @@
 -- The plain tree of an expression, form by form.
 use Rattle.std.proofs.Common.{◌≡◌, List, map, ap, sym, ◌∙◌}
 use Rattle.fpl_numbers.specs.declared.number.Num.{Num}
-use Rattle.fpl_algebra.specs.Tree.{Tree, gen, none, sum_of, multiple, bracket_of, trees}
+use Rattle.math_algebra.specs.Tree.{Tree, gen, none, sum_of, multiple, bracket_of, trees}
 use Rattle.fpl_model.specs.declared.expr.Expr.{Expr, Expr-F, fold-roll-Expr}
 use Rattle.fpl_model.specs.declared.expr.Expr.TheVariants.{Gen, Zero, Sum, Times, Br, rolls-Gen, rolls-Zero, rolls-Sum, rolls-Times, rolls-Br}
 use Rattle.fpl_model.specs.Meaning.{plain, plain_layer}

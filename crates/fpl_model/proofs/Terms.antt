@@ -2,7 +2,7 @@
 use Rattle.fpl_numbers.specs.declared.number.Num.{Num}
 use Rattle.fpl_numbers.specs.declared.number.Kind.{Kind}
 use Rattle.std.proofs.Common.{ℕ}
-use Rattle.fpl_algebra.specs.Tree.{Tree, Trees, gen, none, sum_of, multiple, bracket_of, end, more}
+use Rattle.math_algebra.specs.Tree.{Tree, Trees, gen, none, sum_of, multiple, bracket_of, end, more}
 use Rattle.fpl_model.specs.Sound.{IsTerm, AreTerms, IsWithin, AreWithin}
 
 mutual

@@ -4,8 +4,8 @@
 --   parity_degree d   the parity, or none, or two that differ
 --   IsUpTo n d        where d is one weight, it is at most n
 use Rattle.std.specs.Prelude.{ℕ, ◌≤◌}
-use Rattle.fpl_algebra.specs.Tree as algebra
-use Rattle.fpl_algebra.specs.Degrees as algebra_degrees
+use Rattle.math_algebra.specs.Tree as algebra
+use Rattle.math_algebra.specs.Degrees as algebra_degrees
 use Rattle.fpl_model.specs.declared.degree.Degree as weight
 use Rattle.fpl_model.specs.declared.degree.ParityOf as parity
 use Rattle.fpl_model.specs.Meaning.{parity_in}

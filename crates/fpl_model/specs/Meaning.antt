@@ -14,8 +14,8 @@ use Rattle.std.specs.Prelude.{◌-◌, List, map}
 use Rattle.fpl_numbers.specs.declared.number.Num.{Num}
 use Rattle.fpl_numbers.specs.declared.number.Kind.{Kind}
 use Rattle.fpl_numbers.specs.Kinds.{Number, number_of}
-use Rattle.fpl_algebra.specs.Tree.{Tree, Trees, gen, none, sum_of, multiple, bracket_of, end, more, trees}
-use Rattle.fpl_algebra.specs.Tree as algebra
+use Rattle.math_algebra.specs.Tree.{Tree, Trees, gen, none, sum_of, multiple, bracket_of, end, more, trees}
+use Rattle.math_algebra.specs.Tree as algebra
 use Rattle.fpl_model.specs.declared.expr.Expr.{Expr, Expr-F, fold-Expr}
 use Rattle.fpl_model.specs.declared.expr.Expr.TheOpen as layer
 use Rattle.fpl_model.specs.declared.presentation.Parity.{Parity}

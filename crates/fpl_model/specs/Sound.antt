@@ -14,9 +14,9 @@ use Rattle.fpl_numbers.specs.declared.number.Num.{Num}
 use Rattle.fpl_numbers.specs.declared.number.Kind.{Kind}
 use Rattle.fpl_numbers.specs.Numbers.{IsElement, IsField}
 use Rattle.fpl_numbers.specs.Kinds.{Number}
-use Rattle.fpl_text.specs.Bytes.{IsName}
-use Rattle.fpl_algebra.specs.Tree.{Tree, Trees, gen, none, sum_of, multiple, bracket_of, end, more}
-use Rattle.fpl_algebra.specs.Degrees.{mixed, weight_of_both, parity_of_both}
+use Rattle.fpl_alphabet.specs.Bytes.{IsName}
+use Rattle.math_algebra.specs.Tree.{Tree, Trees, gen, none, sum_of, multiple, bracket_of, end, more}
+use Rattle.math_algebra.specs.Degrees.{mixed, weight_of_both, parity_of_both}
 use Rattle.fpl_model.specs.Meaning.{plain, tree_in, presentation_in}
 use Rattle.fpl_model.specs.declared.expr.Expr.{Expr}
 use Rattle.fpl_model.specs.declared.presentation.Generator.{Generator}

@@ -1,6 +1,6 @@
 ghost use Rattle.std.specs.Prelude.{◌≡◌, ◌<◌, ◌+◌, ◌*◌, ◌-◌, ◌^◌, ◌≤◌, nat_eq, length, map};
-ghost use Rattle.fpl_algebra.specs.Tree.{parity_sum, trees};
-ghost use Rattle.fpl_algebra.specs.Degrees.{of_both, of_bracket, same_parity, weight_of, weights_of, parity_of, parities_of, weight_of_both};
+ghost use Rattle.math_algebra.specs.Tree.{parity_sum, trees};
+ghost use Rattle.math_algebra.specs.Degrees.{of_both, of_bracket, same_parity, weight_of, weights_of, parity_of, parities_of, weight_of_both};
 ghost use Rattle.fpl_model.specs.Meaning.{plain, tree_in, trees_in, parity_in, presentation_in};
 ghost use Rattle.fpl_model.specs.Sound.{IsTerm, AreTerms, HaveWeights, count_tree, count_trees};
 ghost use Rattle.fpl_model.specs.Degrees.{weight_degree, parity_degree, IsUpTo};
@@ -92,7 +92,7 @@ impl ParityOf {
 impl Presentation {
     /// The weight of an expression over the generators, as written: also where a number in it is 0.
     #[cycle(weighing)]
-    #[tactic(auto, using(crate::proofs::Plain::plain_forms), unfolding(fpl_algebra::specs::Degrees::weight_of))]
+    #[tactic(auto, using(crate::proofs::Plain::plain_forms), unfolding(math_algebra::specs::Degrees::weight_of))]
     pub fn weight_of(&self, e: &Expr) -> Degree
         requires weights { HaveWeights self.now.generators }
         requires term { IsTerm self.now.field (length self.now.generators) (plain e.now) }
@@ -116,7 +116,7 @@ impl Presentation {
     }
 
     #[cycle(weighing)]
-    #[tactic(auto, using(crate::proofs::Plain::plain_forms), unfolding(fpl_algebra::specs::Degrees::weight_of))]
+    #[tactic(auto, using(crate::proofs::Plain::plain_forms), unfolding(math_algebra::specs::Degrees::weight_of))]
     fn weight_of_all(&self, members: &Exprs) -> Degree
         requires weights { HaveWeights self.now.generators }
         requires terms { AreTerms self.now.field (length self.now.generators) (trees (map plain members.now)) }
@@ -132,7 +132,7 @@ impl Presentation {
 
     /// The parity of an expression over the generators, as written.
     #[cycle(pairing)]
-    #[tactic(auto, using(crate::proofs::Plain::plain_forms), unfolding(fpl_algebra::specs::Degrees::parity_of))]
+    #[tactic(auto, using(crate::proofs::Plain::plain_forms), unfolding(math_algebra::specs::Degrees::parity_of))]
     pub fn parity_of(&self, e: &Expr) -> ParityOf
         requires { IsTerm self.now.field (length self.now.generators) (plain e.now) }
         ensures { parity_degree result ≡ parity_of (presentation_in self.now) (tree_in self.now.field e.now) }
@@ -154,7 +154,7 @@ impl Presentation {
     }
 
     #[cycle(pairing)]
-    #[tactic(auto, using(crate::proofs::Plain::plain_forms), unfolding(fpl_algebra::specs::Degrees::parity_of))]
+    #[tactic(auto, using(crate::proofs::Plain::plain_forms), unfolding(math_algebra::specs::Degrees::parity_of))]
     fn parity_of_all(&self, members: &Exprs) -> ParityOf
         requires { AreTerms self.now.field (length self.now.generators) (trees (map plain members.now)) }
         ensures { parity_degree result ≡ parities_of (presentation_in self.now) (trees_in self.now.field members.now) }

@@ -7,7 +7,7 @@ use native.Mathlib.Omega.{arith}
 use native.Mathlib.Nat.{div-mul_cancel, dvd-mul_right, eq_of_mul-eq-mul_right, eq_of_mul-eq-mul_left, mul-pos, pos_of_dvd_of_pos}
 use Prim.Native.Nat.{◌∣◌}
 use Rattle.std.proofs.lemmas.Nat.Gcd.{IsGcd-swap}
-use Rattle.fpl_fields.proofs.Divisors.{divisor_apart, apart-mul, quotients_apart, quotient_positive, lowest_equal}
+use Rattle.math_fields.proofs.Divisors.{divisor_apart, apart-mul, quotients_apart, quotient_positive, lowest_equal}
 use Rattle.fpl_numbers.specs.declared.number.Num.{Num}
 use Rattle.fpl_numbers.specs.Numbers.{IsLowest, gcd, divided, fraction_product}
 use Rattle.fpl_numbers.specs.Kinds.{up_part, down_part}

@@ -6,9 +6,9 @@ use mathlib.Core.Logic.{inl, inr}
 use native.Mathlib.Omega.{arith}
 use native.Mathlib.Nat.{div-mul_cancel, mul-pos, pos_of_dvd_of_pos, eq_of_mul-eq-mul_right}
 use Rattle.std.proofs.lemmas.Nat.Gcd.{IsGcd-swap}
-use Rattle.fpl_fields.proofs.Divisors.{quotients_apart, quotient_positive, lowest_equal}
-use Rattle.fpl_fields.proofs.Fractions.{Alike, alike_by, alike_of_lowest, by_product, fraction_normal, lowest, lowest_same_of, ratio_plus, ratio_times, ratio_minus}
-use Rattle.fpl_fields.proofs.FromNormal.{field_of_normal, number_same, right-plus, right-times}
+use Rattle.math_fields.proofs.Divisors.{quotients_apart, quotient_positive, lowest_equal}
+use Rattle.math_fields.proofs.Fractions.{Alike, alike_by, alike_of_lowest, by_product, fraction_normal, lowest, lowest_same_of, ratio_plus, ratio_times, ratio_minus}
+use Rattle.math_fields.proofs.FromNormal.{field_of_normal, number_same, right-plus, right-times}
 use Rattle.fpl_numbers.specs.declared.number.Num.{Num}
 use Rattle.fpl_numbers.specs.declared.number.Kind.TheVariants.{Rational}
 use Rattle.fpl_numbers.specs.Numbers.{IsLowest, common, left_part, right_part, both_parts, shared, sum_below, fraction_sum, fraction_product, negative_of, inverse_of, inverted, gcd, is_nought, is_zero_int}

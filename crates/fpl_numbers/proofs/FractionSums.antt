@@ -6,7 +6,7 @@ use Prim.Native.Nat.{◌∣◌}
 use native.Mathlib.Omega.{arith}
 use native.Mathlib.Nat.{dvd_trans, dvd-mul_right, dvd-mul_left_of_dvd, div-mul_cancel, div-eq_of_eq-mul_left, pos_of_dvd_of_pos, mul_comm, mul-pos, one-dvd}
 use Rattle.std.proofs.lemmas.Nat.Gcd.{IsGcd-swap}
-use Rattle.fpl_fields.proofs.Divisors.{gauss, divisor_apart, apart-mul, quotients_apart, quotient_positive}
+use Rattle.math_fields.proofs.Divisors.{gauss, divisor_apart, apart-mul, quotients_apart, quotient_positive}
 use Rattle.fpl_numbers.specs.declared.number.Num.{Num}
 use Rattle.fpl_numbers.specs.Numbers.{IsLowest, common, left_part, right_part, both_parts, shared, sum_below, fraction_sum}
 use Rattle.fpl_numbers.proofs.Gcd.{gcd_is}

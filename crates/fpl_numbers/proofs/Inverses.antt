@@ -1,7 +1,7 @@
 -- A number of a field has one inverse.
 use Rattle.std.specs.Prelude.{◌≡◌, ◌≢◌}
 use mathlib.Core.Path.{sym, ap, ◌∙◌}
-use Rattle.fpl_fields.specs.Field.{Field}
+use Rattle.math_fields.specs.Field.{Field}
 
 module _ (K : Field) where
   pub inverse_same : (x y : K.Carrier) → y ≢ K.nought → K.times x y ≡ K.unit → x ≡ K.inverse y

@@ -3,8 +3,8 @@ use Rattle.std.specs.Prelude.{ℕ, ◌≡◌, ◌<◌, Bool, true, false}
 use mathlib.Core.Path.{refl, sym, ap, ◌∙◌, subst}
 use native.Mathlib.Decide.{ℕ_discrete}
 use Rattle.std.proofs.lemmas.List.Elements.{All-contains, All-from_recursion}
-use Rattle.fpl_fields.specs.Field.{Field}
-use Rattle.fpl_fields.specs.Residue.{IsPrime}
+use Rattle.math_fields.specs.Field.{Field}
+use Rattle.math_fields.specs.Residue.{IsPrime}
 use Rattle.fpl_numbers.specs.declared.number.TheConstants.{PRIMES}
 use Rattle.fpl_numbers.specs.declared.number.Num.{Num}
 use Rattle.fpl_numbers.specs.declared.number.Kind.{Kind}

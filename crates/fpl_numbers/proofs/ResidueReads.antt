@@ -4,9 +4,9 @@ use mathlib.Core.Path.{sym, refl, ap, ◌∙◌, subst}
 use native.Mathlib.Omega.{arith}
 use native.Mathlib.Nat.{mod-mod, add-mod, mod-lt, mod-eq_of_lt, mul_comm, zero-mod}
 use Rattle.std.proofs.lemmas.Nat.{mul-mod, mul-mod_first}
-use Rattle.fpl_fields.specs.Residue.{IsPrime}
-use Rattle.fpl_fields.proofs.FromNormal.{field_of_normal, number_same}
-use Rattle.fpl_fields.proofs.Residues.{residue_normal, inverse_exists}
+use Rattle.math_fields.specs.Residue.{IsPrime}
+use Rattle.math_fields.proofs.FromNormal.{field_of_normal, number_same}
+use Rattle.math_fields.proofs.Residues.{residue_normal, inverse_exists}
 use Rattle.fpl_numbers.specs.declared.number.Num.{Num}
 use Rattle.fpl_numbers.specs.declared.number.Kind.TheVariants.{Prime}
 use Rattle.fpl_numbers.specs.Numbers.{IsNumber, residue, residue_of, is_nought, inverse_below, inverse_of}

@@ -3,9 +3,9 @@ use Rattle.std.specs.Prelude.{ℕ, zero, suc, ◌≡◌, ◌<◌, ◌≤◌, ◌
 use mathlib.Core.Path.{refl, sym, ap, ap₂, ◌∙◌, subst}
 use native.Mathlib.Omega.{arith}
 use native.Mathlib.Nat.{one-dvd, dvd_refl, mod-lt, mod-mod, mod-add-mod, add-mod, add-mul-mod_self_left, div-add-mod}
-use Rattle.fpl_fields.proofs.Fractions.{fraction_normal, lowest, lowest_same_of, ratio_plus}
-use Rattle.fpl_fields.proofs.FromNormal.{field_of_normal, number_same, right-plus}
-use Rattle.fpl_fields.proofs.Residues.{residue_normal}
+use Rattle.math_fields.proofs.Fractions.{fraction_normal, lowest, lowest_same_of, ratio_plus}
+use Rattle.math_fields.proofs.FromNormal.{field_of_normal, number_same, right-plus}
+use Rattle.math_fields.proofs.Residues.{residue_normal}
 use Rattle.fpl_numbers.specs.declared.number.Num.{Num}
 use Rattle.fpl_numbers.specs.declared.number.Kind.{Kind}
 use Rattle.fpl_numbers.specs.declared.number.Kind.TheVariants.{Rational, Prime}

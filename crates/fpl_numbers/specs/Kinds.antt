@@ -9,12 +9,12 @@
 use Rattle.std.specs.Prelude.{ℕ, ℤ, pos, negsuc, suc, pred, ◌<◌, unsigned_abs}
 use mathlib.Core.Path.{subst}
 use native.Mathlib.Decide.{ℕ_discrete}
-use Rattle.fpl_fields.specs.Field.{Field}
-use Rattle.fpl_fields.specs.Residue.{IsPrime}
-use Rattle.fpl_fields.proofs.FromNormal.{field_of_normal, of_raw}
-use Rattle.fpl_fields.proofs.Residues.{residue_normal}
-use Rattle.fpl_fields.proofs.Fractions.{fraction_normal}
-use Rattle.fpl_fields.proofs.Primes.{prime_3, above_3, prime_5, above_5, prime_7, above_7, prime_11, above_11, prime_13, above_13, prime_17, above_17, prime_19, above_19, prime_23, above_23, prime_29, above_29, prime_31, above_31, prime_101, above_101, prime_251, above_251, prime_10007, above_10007, prime_32003, above_32003, prime_65521, above_65521}
+use Rattle.math_fields.specs.Field.{Field}
+use Rattle.math_fields.specs.Residue.{IsPrime}
+use Rattle.math_fields.proofs.FromNormal.{field_of_normal, of_raw}
+use Rattle.math_fields.proofs.Residues.{residue_normal}
+use Rattle.math_fields.proofs.Fractions.{fraction_normal}
+use Rattle.math_fields.proofs.Primes.{prime_3, above_3, prime_5, above_5, prime_7, above_7, prime_11, above_11, prime_13, above_13, prime_17, above_17, prime_19, above_19, prime_23, above_23, prime_29, above_29, prime_31, above_31, prime_101, above_101, prime_251, above_251, prime_10007, above_10007, prime_32003, above_32003, prime_65521, above_65521}
 use Rattle.fpl_numbers.specs.declared.number.Num.{Num}
 use Rattle.fpl_numbers.specs.declared.number.Kind.{Kind}
 use Rattle.fpl_numbers.specs.declared.number.Kind.TheVariants.{Rational, Prime}

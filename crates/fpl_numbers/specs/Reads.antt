@@ -3,7 +3,7 @@
 --   ReadsExactly kind K value   value carries the canonical numbers of the kind, of any size, and their exact operations into K
 --   Reads kind K value          the same of the elements, which are canonical and fit, and of operations that fit
 use Rattle.std.specs.Prelude.{◌≡◌, ◌≢◌, Ok, true, false}
-use Rattle.fpl_fields.specs.Field.{Field}
+use Rattle.math_fields.specs.Field.{Field}
 use Rattle.fpl_numbers.specs.declared.number.Num.{Num}
 use Rattle.fpl_numbers.specs.declared.number.Kind.{Kind}
 use Rattle.fpl_numbers.specs.declared.number.Op.TheVariants.{Add, Mul}

@@ -2,7 +2,7 @@
 
 ghost use Rattle.std.specs.Prelude.{◌≡◌, ◌<◌, ◌+ℤ◌, ◌↔◌, ℕ, ℤ, pos, true, Ok, None, IfSome};
 ghost use Rattle.std.specs.Int.{IsGcd};
-ghost use Rattle.fpl_fields.specs.Residue.{IsPrime};
+ghost use Rattle.math_fields.specs.Residue.{IsPrime};
 ghost use Rattle.fpl_numbers.specs.declared.number.Kind.{Kind};
 ghost use Rattle.fpl_numbers.specs.declared.number.Kind.TheVariants.{Prime};
 ghost use Rattle.fpl_numbers.specs.declared.number.Num.{Num};

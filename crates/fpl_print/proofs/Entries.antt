@@ -6,9 +6,9 @@ use Rattle.std.proofs.Math.ListN.{get_or-map, length-map}
 use Rattle.std.proofs.lemmas.List.Elements.{All-append}
 use native.Mathlib.Decide.{dec_lt, ℕ_discrete}
 use Rattle.fpl_scalar.specs.Vectors.{AreElements}
-use Rattle.fpl_algebra.specs.Tree.{Parity, even, odd}
-use Rattle.fpl_algebra.specs.Table.{Symbol, of_generator, of_pair}
-use Rattle.fpl_algebra.specs.Symbols.{joined, symbols_of, is_odd}
+use Rattle.math_algebra.specs.Tree.{Parity, even, odd}
+use Rattle.math_algebra.specs.Table.{Symbol, of_generator, of_pair}
+use Rattle.math_algebra.specs.Symbols.{joined, symbols_of, is_odd}
 use Rattle.fpl_table.specs.declared.symbol.Symbol as code
 use Rattle.fpl_table.specs.declared.symbol.Symbol.TheVariants.{Gen, Pair}
 use Rattle.fpl_table.specs.Plain.{PlainTable, plain_basis, first_partner, generator_at, image_row, entry_row, symbol_in, table_in, shell_in}

@@ -7,8 +7,8 @@ use Rattle.std.proofs.lemmas.List.Elements.{All-append, All-filter}
 use Rattle.fpl_numbers.specs.declared.number.Num.{Num}
 use Rattle.fpl_numbers.specs.Numbers.{is_nought, residue}
 use Rattle.fpl_rows.specs.Positions.{lead_of, lead_below}
-use Rattle.fpl_algebra.specs.Table.{Symbol, of_generator, of_pair}
-use Rattle.fpl_algebra.specs.Symbols.{symbols_of}
+use Rattle.math_algebra.specs.Table.{Symbol, of_generator, of_pair}
+use Rattle.math_algebra.specs.Symbols.{symbols_of}
 use Rattle.fpl_table.specs.Plain.{PlainTable, plain_basis, first_partner, image_row, entry_row, table_in, shell_in}
 use Rattle.fpl_print.specs.Combinations.{terms_text, term_or_nothing, none_after}
 use Rattle.fpl_print.specs.TableText.{text_of, basis_name, basis_line, image_line, is_within, symbols_through, has_value, brackets_of, bracket_line, bracket_lines, head_text, count_line, table_text}

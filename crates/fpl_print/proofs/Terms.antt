@@ -2,7 +2,7 @@
 use Rattle.std.proofs.Common.{◌≡◌, ℕ, ◌+◌, ◌<◌, List, [], ◌∷◌, ◌++◌, Bool, length, drop, get_or, map, sym, ◌∙◌, append_assoc, add-one, drop-cons}
 use Rattle.std.specs.Prelude.{filter}
 use Rattle.std.proofs.lemmas.List.Elements.{filter-append}
-use Rattle.fpl_algebra.specs.Table.{Symbol}
+use Rattle.math_algebra.specs.Table.{Symbol}
 use Rattle.fpl_table.specs.declared.symbol.Symbol as code
 use Rattle.fpl_table.specs.Plain.{symbol_in}
 use Rattle.fpl_numbers.specs.declared.number.Num.{Num}

@@ -16,9 +16,9 @@
 use Rattle.std.specs.Prelude.{ℕ, zero, suc, ◌+◌, ◌-◌, ◌≤◌, All, List, [], ◌∷◌, ◌++◌, length, get_or, filter, count_by, Bool, false, nat_le, is_some, if◌then◌else◌, codes, decimal}
 use Rattle.fpl_numbers.specs.declared.number.Num.{Num}
 use Rattle.fpl_rows.specs.Positions.{lead_of}
-use Rattle.fpl_algebra.specs.Tree.{Tree, gen, none, sum_of, multiple, bracket_of, Generator}
-use Rattle.fpl_algebra.specs.Table.{Symbol, of_generator, of_pair}
-use Rattle.fpl_algebra.specs.Symbols.{symbols_of}
+use Rattle.math_algebra.specs.Tree.{Tree, gen, none, sum_of, multiple, bracket_of, Generator}
+use Rattle.math_algebra.specs.Table.{Symbol, of_generator, of_pair}
+use Rattle.math_algebra.specs.Symbols.{symbols_of}
 use Rattle.fpl_table.specs.declared.symbol.Symbol as code
 use Rattle.fpl_table.specs.declared.symbol.Symbol.TheVariants.{Gen, Pair}
 use Rattle.fpl_scalar.specs.Vectors.{AreElements}

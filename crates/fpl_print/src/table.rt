@@ -1,12 +1,12 @@
 //! The text of a table.
 ghost use Rattle.std.specs.Prelude.{◌≡◌, ◌≤◌, ◌<◌, ◌+◌, ◌-◌, ◌++◌, [], ◌∷◌, length, map, codes, filter, count_by, nat_le, All, IfOk, OnOk};
-ghost use Rattle.fpl_algebra.specs.Tree.{none};
+ghost use Rattle.math_algebra.specs.Tree.{none};
 ghost use Rattle.fpl_numbers.specs.Numbers.{IsElement};
 ghost use Rattle.fpl_scalar.specs.Vectors.{AreElements};
 ghost use Rattle.fpl_model.specs.Meaning.{plain, generators_in};
 ghost use Rattle.fpl_model.specs.Mono.{expr_of};
-ghost use Rattle.fpl_algebra.specs.Table.{of_pair};
-ghost use Rattle.fpl_algebra.specs.Symbols.{symbols_of};
+ghost use Rattle.math_algebra.specs.Table.{of_pair};
+ghost use Rattle.math_algebra.specs.Symbols.{symbols_of};
 ghost use Rattle.fpl_table.specs.declared.symbol.Symbol.{Symbol};
 ghost use Rattle.fpl_table.specs.Plain.{symbol_in, table_in, shell_in};
 ghost use Rattle.fpl_spelling.specs.Spelling.{names_of};

@@ -7,7 +7,7 @@ use Rattle.std.specs.Str.{IsUtf8, IsAscii}
 use Rattle.std.specs.declared.option.Option.{Option}
 use Rattle.std.proofs.lemmas.Bool.{leb-true}
 use Rattle.std.proofs.lemmas.Str.{IsUtf8-from_ascii}
-use Rattle.fpl_text.specs.Bytes.{is_letter, is_word_byte, is_word}
+use Rattle.fpl_alphabet.specs.Bytes.{is_letter, is_word_byte, is_word}
 use Rattle.fpl_model.specs.Sound.{HaveWeights}
 use Rattle.fpl_syntax.specs.declared.symbol.Numeral.{Numeral}
 use Rattle.fpl_syntax.specs.Kinds.{is_listed, is_field}

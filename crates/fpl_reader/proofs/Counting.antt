@@ -2,7 +2,7 @@
 use Rattle.std.proofs.Common.{◌≡◌, ℕ, ◌+◌, ◌≤◌, List, [], ◌∷◌, ◌++◌, length, Bool, true, false, nat_lt, if◌then◌else◌, Result, ap, subst, arith, length-append}
 use Rattle.std.specs.Prelude.{None, Some, Ok, Err}
 use Rattle.std.specs.declared.option.Option.{Option}
-use Rattle.fpl_text.specs.Bytes.{most_name}
+use Rattle.fpl_alphabet.specs.Bytes.{most_name}
 use Rattle.fpl_lex.specs.declared.token.Token.{Token}
 use Rattle.fpl_lex.specs.declared.fault.LexError.{LexError}
 use Rattle.fpl_lex.specs.Cut.{W, Form, blank, comment, word, number, mark, other, Piece, IsPiece, IsCut, value_of, mark_tokens, piece_tokens, joined, reading_from, Reads}

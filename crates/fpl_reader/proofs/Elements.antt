@@ -5,7 +5,7 @@ use Rattle.std.specs.Int.{IsGcd}
 use Rattle.std.proofs.lemmas.Int.{ints}
 use Rattle.std.proofs.lemmas.Bool.{leb-true}
 use native.Mathlib.Nat.{div-le_self, pos_of_dvd_of_pos}
-use Rattle.fpl_fields.proofs.Divisors.{quotients_apart, quotient_positive}
+use Rattle.math_fields.proofs.Divisors.{quotients_apart, quotient_positive}
 use Rattle.fpl_numbers.specs.declared.number.Kind.{Kind}
 use Rattle.fpl_numbers.specs.declared.number.Kind.TheVariants.{Rational, Prime}
 use Rattle.fpl_numbers.specs.Numbers.{IsElement, residue, bound, gcd, gcd_within, reduced, is_nought, product_of, inverse_of}

@@ -7,7 +7,7 @@ use Rattle.std.specs.Str.{bytes_eq}
 use Rattle.fpl_syntax.specs.Sight.{word_of}
 use Rattle.std.proofs.lemmas.Bool.{ltb-false, eqb-true}
 use Rattle.fpl_numbers.specs.declared.number.Num.{Num}
-use Rattle.fpl_algebra.specs.Tree.{Tree, gen, none, sum_of, multiple, bracket_of, trees}
+use Rattle.math_algebra.specs.Tree.{Tree, gen, none, sum_of, multiple, bracket_of, trees}
 use Rattle.fpl_model.specs.declared.expr.Expr.{Expr}
 use Rattle.fpl_model.specs.Meaning.{plain}
 use Rattle.fpl_model.specs.Sound.{deep, deep_factor, deep_member, deep_members}

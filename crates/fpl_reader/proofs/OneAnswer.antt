@@ -6,7 +6,7 @@ use Rattle.fpl_model.specs.declared.presentation.Presentation.{Presentation}
 use Rattle.fpl_lex.specs.declared.token.Token.{Token}
 use Rattle.fpl_lex.specs.declared.fault.LexError.{LexError}
 use Rattle.fpl_lex.specs.declared.fault.LexError.TheVariants as lexical
-use Rattle.fpl_text.specs.Bytes.{most_name}
+use Rattle.fpl_alphabet.specs.Bytes.{most_name}
 use Rattle.fpl_lex.specs.Cut.{Reads, W, Form, blank, comment, word, number, mark, other, Piece, value_of, piece_tokens, joined, reading_from}
 use Rattle.fpl_lex.specs.Machine.{lex_of}
 use Rattle.fpl_lex.proofs.Cutting.{lex_reads, reads_lexed}

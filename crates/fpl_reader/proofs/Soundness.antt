@@ -8,11 +8,11 @@ use Rattle.std.specs.Str.{bytes_eq}
 use Rattle.std.specs.declared.option.Option.{Option}
 use Rattle.std.proofs.lemmas.List.{length-map}
 use Rattle.std.proofs.lemmas.Slice.Eq.{bytes_eq-Decides}
-use Rattle.fpl_text.specs.Bytes.{IsName}
+use Rattle.fpl_alphabet.specs.Bytes.{IsName}
 use Rattle.fpl_numbers.specs.declared.number.Kind.{Kind}
-use Rattle.fpl_algebra.specs.Tree.{Tree, Trees, gen, none, sum_of, multiple, bracket_of, end as last, more}
-use Rattle.fpl_algebra.specs.Tree as algebra
-use Rattle.fpl_algebra.specs.Degrees.{Degree, any, exact, mixed, of_both, of_bracket, same_parity, weight_of, weights_of, parity_of, parities_of, weight_of_both, parity_of_both}
+use Rattle.math_algebra.specs.Tree.{Tree, Trees, gen, none, sum_of, multiple, bracket_of, end as last, more}
+use Rattle.math_algebra.specs.Tree as algebra
+use Rattle.math_algebra.specs.Degrees.{Degree, any, exact, mixed, of_both, of_bracket, same_parity, weight_of, weights_of, parity_of, parities_of, weight_of_both, parity_of_both}
 use Rattle.fpl_model.specs.declared.expr.Expr.{Expr}
 use Rattle.fpl_model.specs.declared.expr.Expr as expr
 use Rattle.fpl_model.specs.declared.presentation.Generator.{Generator}

@@ -23,7 +23,7 @@ use Rattle.fpl_numbers.specs.declared.number.Kind.{Kind}
 use Rattle.fpl_numbers.specs.declared.number.Kind.TheVariants.{Rational, Prime}
 use Rattle.fpl_numbers.specs.Numbers.{is_nought}
 use Rattle.fpl_numbers.specs.Quotients.{whole}
-use Rattle.fpl_algebra.specs.Degrees.{Degree, any, exact, mixed, weight_of_both, parity_of_both}
+use Rattle.math_algebra.specs.Degrees.{Degree, any, exact, mixed, weight_of_both, parity_of_both}
 use Rattle.fpl_model.specs.Meaning.{tree_in, presentation_in}
 use Rattle.fpl_model.specs.declared.expr.Expr.{Expr}
 use Rattle.fpl_model.specs.declared.presentation.Generator.{Generator}

@@ -1,5 +1,5 @@
 ghost use Rattle.std.specs.Prelude.{◌≡◌, ◌++◌, ◌∷◌, [], All, IfOk, OnOk, length};
-ghost use Rattle.fpl_algebra.specs.Degrees.{of_both, same_parity};
+ghost use Rattle.math_algebra.specs.Degrees.{of_both, same_parity};
 ghost use Rattle.fpl_model.specs.Sound.{HaveWeights};
 ghost use Rattle.fpl_model.specs.Degrees.{weight_degree, parity_degree};
 ghost use Rattle.fpl_reader.specs.Reading.{is_mixed, first_place, mixed_weight_of, mixed_parity_of, with_claim, with_claims};

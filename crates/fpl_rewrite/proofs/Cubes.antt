@@ -1,7 +1,7 @@
 -- The cubes, ascending.
 use Rattle.std.proofs.Common.{◌≡◌, ◌≢◌, ◌<◌, ◌≤◌, ◌+◌, ◌-◌, ◌*◌, ◌%◌, ℕ, suc, List, [], ◌∷◌, ◌++◌, length, max, Bool, true, false, cond, refl, ap, ◌∙◌, arith}
 use Rattle.std.proofs.lemmas.Bool.Decides.{nat_tests}
-use Rattle.fpl_algebra.specs.Symbols.{is_odd}
+use Rattle.math_algebra.specs.Symbols.{is_odd}
 use Rattle.fpl_log.specs.declared.step.Origin.{Origin}
 use Rattle.fpl_log.specs.declared.step.Origin.TheVariants.{Cube}
 use Rattle.fpl_table.specs.Plain.{PlainTable, plain_basis, through}

@@ -6,8 +6,8 @@ use Rattle.std.specs.Prelude.{nat_eq, sum, sum_by}
 use Rattle.fpl_numbers.specs.declared.number.Num.{Num}
 use Rattle.fpl_numbers.specs.declared.number.Kind.{Kind}
 use Rattle.fpl_numbers.specs.Kinds.{Number}
-use Rattle.fpl_algebra.specs.Tree.{Tree, Trees, gen, none, sum_of, multiple, bracket_of, end, more, Presentation}
-use Rattle.fpl_algebra.specs.Degrees.{weight_of, weights_of, weight_of_both, of_both, of_bracket}
+use Rattle.math_algebra.specs.Tree.{Tree, Trees, gen, none, sum_of, multiple, bracket_of, end, more, Presentation}
+use Rattle.math_algebra.specs.Degrees.{weight_of, weights_of, weight_of_both, of_both, of_bracket}
 use Rattle.fpl_model.specs.declared.presentation.Equation.{Equation}
 use Rattle.fpl_model.specs.declared.presentation.Presentation as model
 use Rattle.fpl_model.specs.Meaning.{plain, in_field, all_in_field, tree_in, presentation_in}

@@ -11,8 +11,8 @@
 use Rattle.std.specs.Prelude.{ℕ, zero, suc, ◌+◌, ◌*◌, List, [], ◌∷◌, ◌++◌, length, cond, Bool, false, nat_eq, nat_le, ◌&&◌}
 use Rattle.fpl_numbers.specs.declared.number.Kind.{Kind}
 use Rattle.fpl_numbers.specs.declared.number.Kind.TheVariants.{Rational, Prime}
-use Rattle.fpl_algebra.specs.Degrees.{Degree, any, exact, mixed, weight_of_both}
-use Rattle.fpl_algebra.specs.Symbols.{is_odd}
+use Rattle.math_algebra.specs.Degrees.{Degree, any, exact, mixed, weight_of_both}
+use Rattle.math_algebra.specs.Symbols.{is_odd}
 use Rattle.fpl_model.specs.declared.presentation.Equation.{Equation}
 use Rattle.fpl_model.specs.declared.presentation.Presentation.{Presentation}
 use Rattle.fpl_model.specs.Meaning.{tree_in}

@@ -19,10 +19,10 @@ use Rattle.fpl_numbers.specs.declared.number.Unfit.{Unfit}
 use Rattle.fpl_numbers.specs.Numbers.{operate, is_nought, residue, negative_of}
 use Rattle.fpl_numbers.specs.Results.{and_then}
 use Rattle.fpl_scalar.specs.Vectors.{scale_of}
-use Rattle.fpl_algebra.specs.Tree.{Tree, Trees, gen, none, sum_of, multiple, bracket_of as bracket, end, more, Parity, even, odd}
-use Rattle.fpl_algebra.specs.Table.{of_generator, of_pair}
-use Rattle.fpl_algebra.specs.Degrees.{Degree, any, exact, mixed, weight_of}
-use Rattle.fpl_algebra.specs.Symbols.{place_of}
+use Rattle.math_algebra.specs.Tree.{Tree, Trees, gen, none, sum_of, multiple, bracket_of as bracket, end, more, Parity, even, odd}
+use Rattle.math_algebra.specs.Table.{of_generator, of_pair}
+use Rattle.math_algebra.specs.Degrees.{Degree, any, exact, mixed, weight_of}
+use Rattle.math_algebra.specs.Symbols.{place_of}
 use Rattle.fpl_model.specs.declared.presentation.Equation.{Equation}
 use Rattle.fpl_model.specs.declared.presentation.Presentation.{Presentation}
 use Rattle.fpl_model.specs.Meaning.{plain, in_field}

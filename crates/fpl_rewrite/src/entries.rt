@@ -2,7 +2,7 @@ ghost use Rattle.std.specs.Prelude.{◌≡◌, ◌≤◌, ◌<◌, ◌+◌, ◌-
 ghost use Rattle.fpl_numbers.specs.Numbers.{IsElement};
 ghost use Rattle.fpl_numbers.specs.Results.{Gives};
 ghost use Rattle.fpl_scalar.specs.Vectors.{AreElements};
-ghost use Rattle.fpl_algebra.specs.Symbols.{place_of};
+ghost use Rattle.math_algebra.specs.Symbols.{place_of};
 ghost use Rattle.fpl_table.specs.Plain.{plain_basis, symbols_in, symbol_in, pairing};
 ghost use Rattle.fpl_table.specs.Shape.{IsNumbered, IsRowUpTo};
 ghost use Rattle.fpl_table.specs.Value.{add_at};

@@ -2,8 +2,8 @@ ghost use Rattle.std.specs.Prelude.{◌≡◌, ◌≤◌, ◌<◌, ◌+◌, ◌-
 ghost use Rattle.fpl_numbers.specs.Numbers.{IsElement, negative_of};
 ghost use Rattle.fpl_numbers.specs.Results.{Gives, GivesBy};
 ghost use Rattle.fpl_scalar.specs.Vectors.{AreElements, scale_of};
-ghost use Rattle.fpl_algebra.specs.Tree.{trees};
-ghost use Rattle.fpl_algebra.specs.Symbols.{place_of};
+ghost use Rattle.math_algebra.specs.Tree.{trees};
+ghost use Rattle.math_algebra.specs.Symbols.{place_of};
 ghost use Rattle.fpl_model.specs.Meaning.{plain};
 ghost use Rattle.fpl_model.specs.Sound.{IsSound, IsTerm, AreTerms, HaveWeights, count_tree, count_trees};
 ghost use Rattle.fpl_table.specs.Plain.{symbols_in, pairing};

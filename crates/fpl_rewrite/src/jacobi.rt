@@ -1,7 +1,7 @@
 ghost use Rattle.std.specs.Prelude.{◌≡◌, ◌≤◌, ◌+◌, ◌-◌, ◌*◌, length, IfOk, OnOk};
 ghost use Rattle.fpl_numbers.specs.Results.{Gives, GivesBy};
 ghost use Rattle.fpl_scalar.specs.Vectors.{AreElements};
-ghost use Rattle.fpl_algebra.specs.Tree.{odd};
+ghost use Rattle.math_algebra.specs.Tree.{odd};
 ghost use Rattle.fpl_table.specs.Plain.{plain_basis, symbols_in};
 ghost use Rattle.fpl_table.specs.Shape.{HasShape};
 ghost use Rattle.fpl_table.specs.Value.{zero_row};

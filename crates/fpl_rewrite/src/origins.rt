@@ -1,11 +1,11 @@
 ghost use Rattle.std.specs.Prelude.{◌≡◌, ◌≤◌, ◌<◌, ◌+◌, ◌^◌, ◌++◌, ◌∷◌, [], drop, length, IfSome, MatchOption};
-ghost use Rattle.fpl_algebra.specs.Degrees.{weight_of_both};
+ghost use Rattle.math_algebra.specs.Degrees.{weight_of_both};
 ghost use Rattle.fpl_model.specs.Meaning.{plain, tree_in, presentation_in};
 ghost use Rattle.fpl_model.specs.Sound.{IsSound, IsTerm, HaveWeights, count_tree};
 ghost use Rattle.fpl_log.specs.declared.step.Origin.TheVariants.{Relation, Cube};
 ghost use Rattle.fpl_table.specs.Plain.{plain_basis};
 ghost use Rattle.fpl_table.specs.Shape.{Agrees, HasShape};
-ghost use Rattle.fpl_algebra.specs.Symbols.{is_odd};
+ghost use Rattle.math_algebra.specs.Symbols.{is_odd};
 ghost use Rattle.fpl_rewrite.specs.Origins.{origins_of, relations_from, triples_of, cubes_of, is_exactly, is_three};
 ghost use Rattle.fpl_rewrite.specs.Triples.{firsts_from};
 ghost use Rattle.fpl_rewrite.specs.Cursor.{cubes_from, to_come, IsNext};

@@ -1,8 +1,8 @@
 -- What holds of each accepted prime.
 use Rattle.std.specs.Prelude.{ℕ, zero, suc, ◌≡◌, true, List, [], ◌∷◌, All}
 use Rattle.std.proofs.Common.{subst, arith}
-use Rattle.fpl_fields.specs.Residue.{IsPrime}
-use Rattle.fpl_fields.proofs.Primes.{prime_3, prime_5, prime_7, prime_11, prime_13, prime_17, prime_19, prime_23, prime_29, prime_31, prime_101, prime_251, prime_10007, prime_32003, prime_65521}
+use Rattle.math_fields.specs.Residue.{IsPrime}
+use Rattle.math_fields.proofs.Primes.{prime_3, prime_5, prime_7, prime_11, prime_13, prime_17, prime_19, prime_23, prime_29, prime_31, prime_101, prime_251, prime_10007, prime_32003, prime_65521}
 use Rattle.fpl_numbers.specs.declared.number.TheConstants.{PRIMES}
 use Rattle.fpl_scalar.specs.Listed.{is_listed, listed_is}
 

@@ -6,7 +6,7 @@ use Rattle.std.proofs.lemmas.Int.{to_z_pos}
 use mathlib.Core.Path.{sym, ap, ap₂, ◌∙◌, subst}
 use native.Mathlib.Omega.{arith}
 use native.Mathlib.Nat.{div-le_self, pos_of_dvd_of_pos}
-use Rattle.fpl_fields.proofs.Divisors.{quotients_apart, quotient_positive}
+use Rattle.math_fields.proofs.Divisors.{quotients_apart, quotient_positive}
 use Rattle.fpl_numbers.specs.declared.number.Kind.TheVariants.{Rational}
 use Rattle.fpl_numbers.specs.Numbers.{IsElement, bound, divided, gcd}
 use Rattle.fpl_numbers.proofs.Gcd.{gcd_is}

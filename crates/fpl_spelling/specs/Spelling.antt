@@ -14,7 +14,7 @@ use Rattle.std.specs.Prelude.{ℕ, ◌-◌, ℤ, pos, negsuc, unsigned_abs, List
 use Rattle.fpl_numbers.specs.declared.number.Num.{Num}
 use Rattle.fpl_numbers.specs.declared.number.Kind.{Kind}
 use Rattle.fpl_numbers.specs.declared.number.Kind.TheVariants.{Rational, Prime}
-use Rattle.fpl_algebra.specs.Tree.{Parity, even, odd}
+use Rattle.math_algebra.specs.Tree.{Parity, even, odd}
 use Rattle.fpl_model.specs.declared.presentation.Presentation.{Presentation}
 
 abbrev pub field_text : Kind → List ℕ

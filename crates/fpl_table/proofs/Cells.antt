@@ -1,9 +1,9 @@
 -- The symbols of a weight, cell by cell.
 use Rattle.std.proofs.Common.{◌≡◌, ◌≢◌, ◌≤◌, ◌<◌, ◌+◌, ◌-◌, ◌++◌, ◌⊎◌, inl, inr, ℕ, zero, suc, List, [], ◌∷◌, length, map, get_or, cond, Bool, true, false, refl, ap, sym, ◌∙◌, arith, append-nil, length-append, add-suc, add-one}
 use Rattle.std.proofs.lemmas.Bool.Decides.{nat_tests}
-use Rattle.fpl_algebra.specs.Table.{Symbol, of_generator, of_pair}
-use Rattle.fpl_algebra.specs.Symbols.{joined, is_odd, symbols_of}
-use Rattle.fpl_algebra.specs.Tree.{no_generator}
+use Rattle.math_algebra.specs.Table.{Symbol, of_generator, of_pair}
+use Rattle.math_algebra.specs.Symbols.{joined, is_odd, symbols_of}
+use Rattle.math_algebra.specs.Tree.{no_generator}
 use Rattle.fpl_table.specs.declared.shape.Shape.{Shape}
 use Rattle.fpl_table.specs.Whole.{shape_in}
 use Rattle.fpl_table.proofs.Lists.{map_at, nat_split}

@@ -4,8 +4,8 @@ use Rattle.std.proofs.lemmas.Bool.Decides.{nat_tests}
 use Rattle.fpl_numbers.specs.declared.number.Num.{Num}
 use Rattle.fpl_numbers.specs.declared.number.Kind.{Kind}
 use Rattle.fpl_numbers.specs.Kinds.{Number}
-use Rattle.fpl_algebra.specs.Tree.{Tree, Trees, gen, none, sum_of, multiple, bracket_of, end, more, Generator, no_generator, Presentation}
-use Rattle.fpl_algebra.specs.Degrees.{Degree, any, exact, of_both, of_bracket, weight_of, weights_of}
+use Rattle.math_algebra.specs.Tree.{Tree, Trees, gen, none, sum_of, multiple, bracket_of, end, more, Generator, no_generator, Presentation}
+use Rattle.math_algebra.specs.Degrees.{Degree, any, exact, of_both, of_bracket, weight_of, weights_of}
 use Rattle.fpl_model.specs.declared.presentation.Presentation as declared
 use Rattle.fpl_model.specs.Meaning.{in_field, all_in_field, presentation_in}
 use Rattle.fpl_table.specs.Plain.{PlainTable, generator_at, shell_in}

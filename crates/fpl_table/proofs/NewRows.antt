@@ -3,8 +3,8 @@ use Rattle.std.proofs.Common.{◌≡◌, ◌≤◌, ◌<◌, ◌+◌, ◌-◌, �
 use Rattle.std.proofs.Math.Seq.{drop-cons}
 use Rattle.std.proofs.lemmas.Bool.Decides.{nat_tests}
 use Rattle.fpl_numbers.specs.declared.number.Num.{Num}
-use Rattle.fpl_algebra.specs.Tree.{no_generator}
-use Rattle.fpl_algebra.specs.Table.{of_generator, of_pair, no_basis}
+use Rattle.math_algebra.specs.Tree.{no_generator}
+use Rattle.math_algebra.specs.Table.{of_generator, of_pair, no_basis}
 use Rattle.fpl_table.specs.Plain.{PlainTable, plain_basis, generator_at, through, first_partner, partner_from}
 use Rattle.fpl_table.specs.Shape.{HasShape}
 use Rattle.fpl_table.specs.Push.{row_of_symbol, new_images, new_partners, new_entries}

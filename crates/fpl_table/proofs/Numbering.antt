@@ -1,8 +1,8 @@
 -- The number of a symbol among those of a weight.
 use Rattle.std.proofs.Common.{◌≡◌, ◌≤◌, ◌<◌, ◌+◌, ◌-◌, ℕ, zero, suc, List, [], ◌∷◌, length, map, get_or, drop, cond, nat_eq, Bool, true, false, Option, Some, None, All, ◌&&◌, refl, sym, ap, ap₂, ◌∙◌, arith}
 use Rattle.std.proofs.lemmas.Bool.Decides.{nat_tests}
-use Rattle.fpl_algebra.specs.Table.{Symbol}
-use Rattle.fpl_algebra.specs.Symbols.{same_symbol, place_of, symbols, symbols_of}
+use Rattle.math_algebra.specs.Table.{Symbol}
+use Rattle.math_algebra.specs.Symbols.{same_symbol, place_of, symbols, symbols_of}
 use Rattle.fpl_table.specs.declared.symbol.Symbol as code
 use Rattle.fpl_table.specs.declared.symbol.Symbol.TheVariants.{Gen, Pair}
 use Rattle.fpl_table.specs.contracts.symbol.SymbolPartialEq.TheImpl.{eq-value}

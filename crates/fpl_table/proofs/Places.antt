@@ -1,9 +1,9 @@
 -- The places of the symbols of the next weight.
 use Rattle.std.proofs.Common.{◌≡◌, ◌≤◌, ◌<◌, ◌+◌, ◌-◌, ◌++◌, inl, inr, ℕ, zero, suc, List, [], ◌∷◌, length, get_or, ap, sym, ◌∙◌, arith, append_assoc, append-nil, length-append}
 use Rattle.fpl_numbers.specs.Kinds.{field_of}
-use Rattle.fpl_algebra.specs.Table.{Symbol, of_generator, of_pair}
-use Rattle.fpl_algebra.specs.Symbols.{joined, symbols, pairs_of, place_of, no_symbol, IsSymbol, is_generator, is_pair}
-use Rattle.fpl_tables.proofs.SymbolLists.{place_number, place_symbol}
+use Rattle.math_algebra.specs.Table.{Symbol, of_generator, of_pair}
+use Rattle.math_algebra.specs.Symbols.{joined, symbols, pairs_of, place_of, no_symbol, IsSymbol, is_generator, is_pair}
+use Rattle.math_values.proofs.SymbolLists.{place_number, place_symbol}
 use Rattle.fpl_table.specs.Plain.{PlainTable, plain_basis, generator_at, through, partner_from, table_in, shell_in, symbols_in}
 use Rattle.fpl_table.specs.Shape.{HasShape, IsOfTable}
 use Rattle.fpl_table.specs.Cells.{generator_cell, generator_cells, pair_cell, pair_cells, pairs_to}

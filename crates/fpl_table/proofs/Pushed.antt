@@ -5,9 +5,9 @@ use Rattle.std.proofs.lemmas.List.{length-map, map-append}
 use Rattle.std.proofs.lemmas.Bool.Decides.{nat_tests}
 use Rattle.fpl_numbers.specs.declared.number.Num.{Num}
 use Rattle.fpl_numbers.specs.declared.number.Kind.{Kind}
-use Rattle.fpl_algebra.specs.Tree.{Generator, Tree, none, bracket_of}
-use Rattle.fpl_algebra.specs.Table.{Symbol, of_generator, of_pair, Basis, no_basis}
-use Rattle.fpl_algebra.specs.Symbols.{no_symbol, is_odd, symbols, symbols_of}
+use Rattle.math_algebra.specs.Tree.{Generator, Tree, none, bracket_of}
+use Rattle.math_algebra.specs.Table.{Symbol, of_generator, of_pair, Basis, no_basis}
+use Rattle.math_algebra.specs.Symbols.{no_symbol, is_odd, symbols, symbols_of}
 use Rattle.fpl_table.specs.Plain.{PlainTable, leading, through, plain_basis, first_partner, symbols_in, shell_in, table_in}
 use Rattle.fpl_table.specs.Shape.{HasShape, IsRowUpTo, IsOfTable, IsBefore, partners, images_at, entries_at, IsNumbered, grown, basis_trees, symbol_tree_in}
 use Rattle.fpl_table.specs.Push.{free_of, new_basis, new_images, new_entries, new_partners, push_of}

@@ -3,7 +3,7 @@ use Rattle.std.proofs.Common.{◌≤◌, ◌<◌, ℕ, zero, suc, List, [], ◌�
 use Rattle.std.proofs.lemmas.List.{length-map}
 use Rattle.fpl_numbers.specs.declared.number.Kind.{Kind}
 use Rattle.fpl_numbers.specs.Numbers.{IsField}
-use Rattle.fpl_algebra.specs.Tree.{no_generator}
+use Rattle.math_algebra.specs.Tree.{no_generator}
 use Rattle.fpl_model.specs.declared.presentation.Generator as declared
 use Rattle.fpl_model.specs.Meaning.{generator_in}
 use Rattle.fpl_model.specs.Sound.{HaveWeights}

@@ -4,9 +4,9 @@ use Rattle.std.proofs.lemmas.List.{length-take-le, get_or-take, take_at, take-ap
 use native.Mathlib.Decide.{dec_le}
 use Rattle.fpl_numbers.specs.declared.number.Num.{Num}
 use Rattle.fpl_numbers.specs.declared.number.Kind.{Kind}
-use Rattle.fpl_algebra.specs.Tree.{Tree, Generator}
-use Rattle.fpl_algebra.specs.Table.{Symbol, of_generator, of_pair, Basis, no_basis}
-use Rattle.fpl_algebra.specs.Symbols.{is_odd}
+use Rattle.math_algebra.specs.Tree.{Tree, Generator}
+use Rattle.math_algebra.specs.Table.{Symbol, of_generator, of_pair, Basis, no_basis}
+use Rattle.math_algebra.specs.Symbols.{is_odd}
 use Rattle.fpl_table.specs.Plain.{PlainTable, plain_basis, leading, through, first_partner, partner_from}
 use Rattle.fpl_table.specs.Shape.{HasShape, IsRowUpTo, IsOfTable, IsBefore, partners, images_at, entries_at, IsNumbered, grown, symbol_tree_in}
 use Rattle.fpl_table.specs.Truncate.{truncate_of}

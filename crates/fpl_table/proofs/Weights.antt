@@ -1,7 +1,7 @@
 -- How many basis elements weigh at most a weight.
 use Rattle.std.proofs.Common.{◌≡◌, ◌≤◌, ◌<◌, ℕ, zero, suc, List, [], ◌∷◌, length, get_or, arith}
 use Rattle.std.proofs.lemmas.Bool.Decides.{nat_tests}
-use Rattle.fpl_algebra.specs.Table.{Basis, no_basis}
+use Rattle.math_algebra.specs.Table.{Basis, no_basis}
 use Rattle.fpl_table.specs.Plain.{PlainTable, leading, through, plain_basis}
 use Rattle.fpl_table.specs.Shape.{HasShape}
 

@@ -4,8 +4,8 @@
 --   pairs_to T w i        the regular pairs of weight w whose first basis element stands before place i
 --   pair_cells T w i      the regular pairs (i, j) of weight w, by ascending j
 use Rattle.std.specs.Prelude.{ℕ, List, [], ◌∷◌, ◌+◌, length, cond, true, false, nat_eq, nat_lt}
-use Rattle.fpl_algebra.specs.Table.{Symbol, of_generator, of_pair}
-use Rattle.fpl_algebra.specs.Symbols.{joined, is_odd}
+use Rattle.math_algebra.specs.Table.{Symbol, of_generator, of_pair}
+use Rattle.math_algebra.specs.Symbols.{joined, is_odd}
 use Rattle.fpl_table.specs.Plain.{PlainTable, plain_basis, generator_at}
 
 abbrev pub generator_cell : PlainTable → ℕ → ℕ → List Symbol

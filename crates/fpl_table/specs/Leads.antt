@@ -10,9 +10,9 @@
 --   trees_of T free            the bracket trees of the symbols at some places
 use Rattle.std.specs.Prelude.{ℕ, zero, suc, ◌≡◌, ◌<◌, ◌≤◌, List, [], length, map, get_or, All, ◌+◌, Option, Some, None}
 use Rattle.fpl_numbers.specs.declared.number.Num.{Num}
-use Rattle.fpl_algebra.specs.Tree.{Tree}
-use Rattle.fpl_algebra.specs.Symbols.{no_symbol, symbol_parity}
-use Rattle.fpl_algebra.specs.Table.{Symbol, Basis}
+use Rattle.math_algebra.specs.Tree.{Tree}
+use Rattle.math_algebra.specs.Symbols.{no_symbol, symbol_parity}
+use Rattle.math_algebra.specs.Table.{Symbol, Basis}
 use Rattle.fpl_rows.specs.Meaning.{AreRows}
 use Rattle.fpl_table.specs.Plain.{PlainTable, symbols_in, table_in, shell_in}
 use Rattle.fpl_table.specs.Shape.{IsRowUpTo, IsNumbered, basis_trees, symbol_tree_in}

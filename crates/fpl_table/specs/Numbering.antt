@@ -5,8 +5,8 @@
 --   IsNumberOf xs x r      r is the number of x among xs, counted from 1; or there is none, and x is none of them
 --   IsNumbering            what the fields of Symbols keep
 use Rattle.std.specs.Prelude.{ℕ, ◌≡◌, ◌≤◌, ◌<◌, ◌+◌, ◌-◌, ◌^◌, List, [], ◌∷◌, length, Bool, cond, Option, Some, None, All}
-use Rattle.fpl_algebra.specs.Table.{Symbol}
-use Rattle.fpl_algebra.specs.Symbols.{place_of}
+use Rattle.math_algebra.specs.Table.{Symbol}
+use Rattle.math_algebra.specs.Symbols.{place_of}
 use Rattle.fpl_table.specs.declared.symbol.Symbol as code
 use Rattle.fpl_table.specs.Shape.{IsNumbered}
 

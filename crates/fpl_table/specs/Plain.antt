@@ -20,14 +20,14 @@
 -- Numbers of generators, basis elements, symbols and positions count from 0 here, and from 1 in code and texts.
 -- A row is a list of numbers; positions past its length count as 0.
 use Rattle.std.specs.Prelude.{ℕ, suc, ◌-◌, ◌+◌, List, [], ◌∷◌, get_or, max, cond, nat_lt, nat_le}
-use Rattle.fpl_linear.specs.Vector.{Vector}
-use Rattle.fpl_linear.specs.Lists.{vector_of}
+use Rattle.math_linear.specs.Vector.{Vector}
+use Rattle.math_linear.specs.Lists.{vector_of}
 use Rattle.fpl_numbers.specs.declared.number.Num.{Num}
 use Rattle.fpl_numbers.specs.declared.number.Kind.{Kind}
 use Rattle.fpl_numbers.specs.Kinds.{Number, field_of, number_of}
-use Rattle.fpl_algebra.specs.Tree.{Parity, even, odd, Generator, no_generator, Presentation}
-use Rattle.fpl_algebra.specs.Table.{Symbol, of_generator, of_pair, Basis, no_basis, Table}
-use Rattle.fpl_algebra.specs.Symbols.{symbols, is_odd}
+use Rattle.math_algebra.specs.Tree.{Parity, even, odd, Generator, no_generator, Presentation}
+use Rattle.math_algebra.specs.Table.{Symbol, of_generator, of_pair, Basis, no_basis, Table}
+use Rattle.math_algebra.specs.Symbols.{symbols, is_odd}
 use Rattle.fpl_model.specs.Meaning.{parity_in}
 use Rattle.fpl_table.specs.declared.symbol.Symbol as code
 use Rattle.fpl_table.specs.declared.symbol.Symbol.TheVariants.{Gen, Pair}

@@ -10,9 +10,9 @@ use Rattle.std.specs.Prelude.{ℕ, zero, suc, ◌+◌, List, [], ◌∷◌, ◌+
 use Rattle.fpl_numbers.specs.declared.number.Num.{Num}
 use Rattle.fpl_numbers.specs.declared.number.Kind.{Kind}
 use Rattle.fpl_numbers.specs.Numbers.{is_nought, residue, negative_of}
-use Rattle.fpl_algebra.specs.Tree.{Generator}
-use Rattle.fpl_algebra.specs.Table.{Symbol, of_generator, of_pair, Basis}
-use Rattle.fpl_algebra.specs.Symbols.{place_of, no_symbol, symbol_parity}
+use Rattle.math_algebra.specs.Tree.{Generator}
+use Rattle.math_algebra.specs.Table.{Symbol, of_generator, of_pair, Basis}
+use Rattle.math_algebra.specs.Symbols.{place_of, no_symbol, symbol_parity}
 use Rattle.fpl_table.specs.Plain.{PlainTable, plain_basis, first_partner, table_in, shell_in, symbols_in}
 use Rattle.fpl_table.specs.Value.{zero_row}
 

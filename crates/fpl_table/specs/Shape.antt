@@ -13,8 +13,8 @@ use Rattle.fpl_numbers.specs.declared.number.Num.{Num}
 use Rattle.fpl_numbers.specs.declared.number.Kind.{Kind}
 use Rattle.fpl_numbers.specs.Numbers.{IsField}
 use Rattle.fpl_scalar.specs.Vectors.{AreElements}
-use Rattle.fpl_algebra.specs.Tree.{Tree, gen, none, bracket_of}
-use Rattle.fpl_algebra.specs.Table.{Symbol, of_generator, of_pair, Basis}
+use Rattle.math_algebra.specs.Tree.{Tree, gen, none, bracket_of}
+use Rattle.math_algebra.specs.Table.{Symbol, of_generator, of_pair, Basis}
 use Rattle.fpl_model.specs.declared.presentation.Presentation.{Presentation}
 use Rattle.fpl_model.specs.Meaning.{generators_in}
 use Rattle.fpl_table.specs.declared.symbol.Symbol as code

@@ -8,12 +8,12 @@
 use Rattle.std.specs.Prelude.{ℕ, zero, suc, ◌≡◌, ◌≤◌, ◌<◌, ◌+◌, ◌-◌, ◌↔◌, [], length, All}
 use Rattle.fpl_numbers.specs.Kinds.{Number, field_of}
 use Rattle.fpl_scalar.specs.Vectors.{AreElements}
-use Rattle.fpl_algebra.specs.Tree.{Tree, IsOver}
-use Rattle.fpl_algebra.specs.Degrees.{top}
-use Rattle.fpl_algebra.specs.Derives.{Derives}
-use Rattle.fpl_algebra.specs.Table.{val}
-use Rattle.fpl_algebra.specs.Symbols.{symbols_of}
-use Rattle.fpl_algebra.specs.Standard.{IsStandard}
+use Rattle.math_algebra.specs.Tree.{Tree, IsOver}
+use Rattle.math_algebra.specs.Degrees.{top}
+use Rattle.math_algebra.specs.Derives.{Derives}
+use Rattle.math_algebra.specs.Table.{val}
+use Rattle.math_algebra.specs.Symbols.{symbols_of}
+use Rattle.math_algebra.specs.Standard.{IsStandard}
 use Rattle.fpl_model.specs.declared.presentation.Presentation.{Presentation}
 use Rattle.fpl_model.specs.Meaning.{generators_in, presentation_in}
 use Rattle.fpl_table.specs.Plain.{PlainTable, table_in, shell_in}

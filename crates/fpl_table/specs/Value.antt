@@ -17,8 +17,8 @@ use Rattle.fpl_numbers.specs.declared.number.Unfit.{Unfit}
 use Rattle.fpl_numbers.specs.Numbers.{operate, is_nought, residue, negative_of}
 use Rattle.fpl_numbers.specs.Results.{map_ok, and_then}
 use Rattle.fpl_scalar.specs.Vectors.{axpy_of, scale_of}
-use Rattle.fpl_algebra.specs.Tree.{Tree, Trees, gen, none, sum_of, multiple, bracket_of as bracket, end, more}
-use Rattle.fpl_algebra.specs.Degrees.{Degree, any, exact, mixed, weight_of}
+use Rattle.math_algebra.specs.Tree.{Tree, Trees, gen, none, sum_of, multiple, bracket_of as bracket, end, more}
+use Rattle.math_algebra.specs.Degrees.{Degree, any, exact, mixed, weight_of}
 use Rattle.fpl_model.specs.Meaning.{in_field}
 use Rattle.fpl_table.specs.Plain.{PlainTable, plain_basis, image_row, entry_row, shell_in, Pairing, nothing, plus, minus, pairing}
 

@@ -7,7 +7,7 @@
 --                                 bracket trees and the symbols of its basis elements
 use Rattle.std.specs.Prelude.{ℕ, suc, ◌≡◌, ◌≤◌, ◌<◌, ◌-◌, List, get_or, All}
 use Rattle.fpl_numbers.specs.declared.number.Num.{Num}
-use Rattle.fpl_algebra.specs.Tree.{Tree, Generator}
+use Rattle.math_algebra.specs.Tree.{Tree, Generator}
 use Rattle.fpl_model.specs.Meaning.{parity_in}
 use Rattle.fpl_table.specs.declared.symbol.Symbol as code
 use Rattle.fpl_table.specs.declared.symbol.PairSign.{PairSign}

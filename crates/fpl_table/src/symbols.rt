@@ -1,6 +1,6 @@
 ghost use Rattle.std.specs.Prelude.{◌≡◌, ◌≤◌, ◌<◌, ◌+◌, ◌-◌, ◌^◌, length, map, slice_index_or, IfOk, All};
 ghost use Rattle.indexmap.specs.IndexMap.{get};
-ghost use Rattle.fpl_algebra.specs.Symbols.{symbols_of, no_symbol};
+ghost use Rattle.math_algebra.specs.Symbols.{symbols_of, no_symbol};
 ghost use Rattle.fpl_table.specs.Plain.{symbol_in, symbols_in, shell_in, table_in};
 ghost use Rattle.fpl_table.specs.Shape.{IsNumbered};
 ghost use Rattle.fpl_table.specs.Numbering.{IsNumberOf, number_from};

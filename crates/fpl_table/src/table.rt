@@ -1,5 +1,5 @@
 ghost use Rattle.std.specs.Prelude.{◌≡◌, ◌≤◌, ◌<◌, ◌+◌, ◌-◌, ◌*◌, ◌^◌, ◌⊎◌, List, length, map, get_or, IfOk};
-ghost use Rattle.fpl_algebra.specs.Tree.{none, odd};
+ghost use Rattle.math_algebra.specs.Tree.{none, odd};
 ghost use Rattle.fpl_model.specs.Meaning.{plain, generator_in};
 ghost use Rattle.fpl_model.specs.Mono.{expr_of};
 ghost use Rattle.fpl_model.specs.Sound.{HaveWeights};

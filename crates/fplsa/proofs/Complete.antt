@@ -7,7 +7,7 @@ use Rattle.fpl_numbers.specs.declared.number.Unfit.{Unfit}
 use Rattle.fpl_numbers.specs.declared.number.Kind.{Kind}
 use Rattle.fpl_numbers.specs.declared.number.Kind.TheVariants.{Rational, Prime}
 use Rattle.fpl_numbers.specs.Results.{map_ok}
-use Rattle.fpl_elimination.specs.Plain.{Held, rows_of}
+use Rattle.plain_elimination.specs.Plain.{Held, rows_of}
 use Rattle.fpl_model.specs.declared.presentation.Presentation.{Presentation}
 use Rattle.fpl_model.specs.Sound.{IsSound}
 use Rattle.fpl_reader.proofs.OneAnswer.{one_presentation, not_both}
@@ -15,15 +15,15 @@ use Rattle.fpl_reader.proofs.Soundness.{presentation_sound}
 use Rattle.fpl_table.specs.Plain.{PlainTable, symbols_in}
 use Rattle.fpl_table.specs.Standard.{count_of, count_through}
 use Rattle.fpl_rewrite.proofs.SymbolCounts.{symbols_counted}
-use Rattle.fpl_next.specs.Holds.{Holds}
-use Rattle.fpl_next.specs.Raised.{IsRaised}
-use Rattle.fpl_next.specs.Raised.IsRaised.{started}
-use Rattle.fpl_next.proofs.Holding.{held_is_table, start_holds}
-use Rattle.fpl_completion.specs.Weight.{close_weight}
-use Rattle.fpl_completion.specs.Section.{section_of, FitsAt, OverflowsAt}
-use Rattle.fpl_completion.proofs.Computed.{computes_one, computes_over_primes}
-use Rattle.fpl_completion.proofs.Completed.{next_holds, next_raised}
-use Rattle.fpl_resume.specs.Walk.{Stored, Stage, Stop, failed, Walked, next_weight, raised, computed_as, step_of, walk_on, walk_of}
+use Rattle.plain_tables.specs.Holds.{Holds}
+use Rattle.plain_tables.specs.Raised.{IsRaised}
+use Rattle.plain_tables.specs.Raised.IsRaised.{started}
+use Rattle.plain_tables.proofs.Holding.{held_is_table, start_holds}
+use Rattle.plain_weights.specs.Weight.{close_weight}
+use Rattle.plain_weights.specs.Section.{section_of, FitsAt, OverflowsAt}
+use Rattle.plain_weights.proofs.Computed.{computes_one, computes_over_primes}
+use Rattle.plain_weights.proofs.Completed.{next_holds, next_raised}
+use Rattle.fpl_walk.specs.Walk.{Stored, Stage, Stop, failed, Walked, next_weight, raised, computed_as, step_of, walk_on, walk_of}
 use Rattle.fplsa.specs.declared.status.Status.{Status}
 use Rattle.fplsa.specs.declared.status.Status.TheVariants.{Done, Usage, Refused, BadCheckpoint, Limit, Overflow, NoMemory, ReadFault, WriteFault, NotBuilt}
 use Rattle.fplsa.specs.declared.words.View.{View}

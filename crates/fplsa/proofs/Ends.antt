@@ -7,10 +7,10 @@ use Rattle.fpl_outside.proofs.Pieces.{takes_nothing}
 use Rattle.fpl_table.specs.Standard.{IsTableOf}
 use Rattle.fpl_spelling.specs.Spelling.{names_of}
 use Rattle.fpl_print.specs.TableText.{table_text}
-use Rattle.fpl_resume.specs.declared.stop.Stop as code
-use Rattle.fpl_resume.specs.declared.stop.Stop.TheVariants as told
-use Rattle.fpl_resume.specs.Stops.{PlainRun, stored_in, IsStop}
-use Rattle.fpl_resume.specs.Walk.{Stage, Fault, too_many, bad_bytes, bad_section, overflow, Stop, ended, failed, Walked, begun, walk_of, cost_of, stopped as ends}
+use Rattle.fpl_walk.specs.declared.stop.Stop as code
+use Rattle.fpl_walk.specs.declared.stop.Stop.TheVariants as told
+use Rattle.fpl_walk.specs.Stops.{PlainRun, stored_in, IsStop}
+use Rattle.fpl_walk.specs.Walk.{Stage, Fault, too_many, bad_bytes, bad_section, overflow, Stop, ended, failed, Walked, begun, walk_of, cost_of, stopped as ends}
 use Rattle.fplsa.specs.declared.words.View.{View}
 use Rattle.fplsa.specs.declared.words.View.TheVariants.{Table, Check}
 use Rattle.fplsa.specs.declared.words.Command.{Command}

@@ -1,7 +1,7 @@
 -- A text that begins with the mark of a checkpoint has no presentation, since no piece of a text begins so.
 use Rattle.std.proofs.Common.{◌≡◌, ℕ, ◌++◌, List, [], ◌∷◌, length, Ok, IsTrue, refl, sym, ap, ◌∙◌, subst, arith}
 use Rattle.std.specs.Prelude.{slice_index}
-use Rattle.fpl_text.specs.Bytes.{is_blank, is_letter, is_digit, is_mark}
+use Rattle.fpl_alphabet.specs.Bytes.{is_blank, is_letter, is_digit, is_mark}
 use Rattle.fpl_lex.specs.declared.token.Token.{Token}
 use Rattle.fpl_lex.specs.Cut.{Form, blank, comment, word, number, mark, other, Piece, IsPiece, IsCut, reading_from}
 use Rattle.fpl_model.specs.declared.presentation.Presentation.{Presentation}

@@ -7,7 +7,7 @@ use Rattle.fpl_reader.proofs.OneAnswer.{one_presentation, one_refusal, not_both}
 use Rattle.fpl_bytes.specs.declared.fault.BadBytes.{BadBytes}
 use Rattle.fpl_checkpoint.specs.declared.head.Head.{Head}
 use Rattle.fpl_checkpoint.proofs.OneHead.{one_head, not_bad, one_refusal as one_refusal_of_head}
-use Rattle.fpl_resume.specs.Walk.{Fault, bad_bytes, Stop, ended, failed}
+use Rattle.fpl_walk.specs.Walk.{Fault, bad_bytes, Stop, ended, failed}
 use Rattle.fplsa.specs.declared.words.View.TheVariants.{Table, Checkpoint, Check}
 use Rattle.fplsa.specs.declared.words.Command.{Command}
 use Rattle.fplsa.specs.Reply.{Reply, refused, stopped}

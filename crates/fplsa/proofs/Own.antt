@@ -11,10 +11,10 @@ use Rattle.fpl_print.specs.TableText.{table_text}
 use Rattle.fpl_checkpoint.specs.declared.head.Head.{Head}
 use Rattle.fpl_checkpoint.specs.Scans.{HasHead}
 use Rattle.fpl_checkpoint.proofs.OneHead.{not_bad}
-use Rattle.fpl_resume.specs.Walk.{Stop, Fault, ended, failed, too_many, bad_bytes, bad_section, overflow, begun, walk_of}
-use Rattle.fpl_streams.specs.Streams.{IsStreamOf, nothing}
-use Rattle.fpl_streams.specs.Laws.{GiveSame, PassesWith, walk_from}
-use Rattle.fpl_streams.proofs.Heads.{have_heads, heads_are_of, own_streams_give, own_streams_pass}
+use Rattle.fpl_walk.specs.Walk.{Stop, Fault, ended, failed, too_many, bad_bytes, bad_section, overflow, begun, walk_of}
+use Rattle.plain_streams.specs.Streams.{IsStreamOf, nothing}
+use Rattle.plain_streams.specs.Laws.{GiveSame, PassesWith, walk_from}
+use Rattle.plain_streams.proofs.Heads.{have_heads, heads_are_of, own_streams_give, own_streams_pass}
 use Rattle.fplsa.specs.declared.status.Status.{Status}
 use Rattle.fplsa.specs.declared.status.Status.TheVariants.{Done, Limit}
 use Rattle.fplsa.specs.declared.words.View.{View}

@@ -4,25 +4,25 @@ use mathlib.Core.Path.{sym, refl, ap, ap₂, ◌∙◌}
 use mathlib.Core.Logic.{inl, inr}
 use native.Mathlib.Omega.{arith}
 use native.Mathlib.Decide.{ℕ_discrete, dec_lt}
-use Rattle.fpl_fields.specs.Field.{Field}
-use Rattle.fpl_linear.specs.Vector.{vzero}
+use Rattle.math_fields.specs.Field.{Field}
+use Rattle.math_linear.specs.Vector.{vzero}
 use Rattle.fpl_numbers.specs.Kinds.{field_of}
-use Rattle.fpl_algebra.specs.Tree.{Presentation, generator}
-use Rattle.fpl_algebra.specs.Derives.{Expression}
-use Rattle.fpl_algebra.specs.Table.{Table, no_basis, weight_at, IsRegular}
-use Rattle.fpl_algebra.specs.Symbols.{symbols_of}
-use Rattle.fpl_algebra.specs.Built.{AddsBasis, IsLower, Agree}
-use Rattle.fpl_algebra.specs.Standard.{IsStandard, IsStandardNext}
-use Rattle.fpl_algebra.specs.Standard.IsStandard.{standard_start, standard_next}
-use Rattle.fpl_standard.proofs.Standing.{symbols_lower}
-use Rattle.fpl_theorems.proofs.StandardLaws.{one_standard}
+use Rattle.math_algebra.specs.Tree.{Presentation, generator}
+use Rattle.math_algebra.specs.Derives.{Expression}
+use Rattle.math_algebra.specs.Table.{Table, no_basis, weight_at, IsRegular}
+use Rattle.math_algebra.specs.Symbols.{symbols_of}
+use Rattle.math_algebra.specs.Built.{AddsBasis, IsLower, Agree}
+use Rattle.math_algebra.specs.Standard.{IsStandard, IsStandardNext}
+use Rattle.math_algebra.specs.Standard.IsStandard.{standard_start, standard_next}
+use Rattle.math_standard.proofs.Standing.{symbols_lower}
+use Rattle.math_theorems.proofs.StandardLaws.{one_standard}
 use Rattle.fpl_model.specs.declared.presentation.Presentation as declared
 use Rattle.fpl_model.specs.Meaning.{presentation_in}
 use Rattle.fpl_model.specs.Sound.{IsSound}
 use Rattle.fpl_table.specs.Plain.{PlainTable, table_in, shell_in}
 use Rattle.fpl_table.specs.Standard.{IsTableOf, count_of, count_through}
-use Rattle.fpl_next.proofs.Holding.{sound_is_sound, symbols_are_same}
-use Rattle.fpl_next.proofs.One.{list_same}
+use Rattle.plain_tables.proofs.Holding.{sound_is_sound, symbols_are_same}
+use Rattle.plain_tables.proofs.One.{list_same}
 
 module _ (K : Field) (P : Presentation K.Carrier) where
   record IsRanked (T : Table K) : Type 0 where

@@ -11,7 +11,7 @@ use Rattle.fplsa.specs.declared.status.Status.TheVariants.{Usage, NoMemory, Read
 use Rattle.fplsa.specs.declared.words.Command.{Command}
 use Rattle.fplsa.specs.Words.{IsCommand}
 use Rattle.fplsa.specs.Reply.{Reply, done, usage, refused, stopped, no_memory, read_fault, write_fault, not_built, IsFree, fault_status, status_of, with_text, line_of}
-use Rattle.fpl_resume.specs.Walk.{Fault, too_many, bad_bytes, bad_section, overflow}
+use Rattle.fpl_walk.specs.Walk.{Fault, too_many, bad_bytes, bad_section, overflow}
 use Rattle.fplsa.specs.Start.{Start, of_text, of_head}
 use Rattle.fplsa.specs.Answer.{Answers, AnswersCommand, AnswersText, AnswersCheckpoint, AnswersStart}
 use Rattle.fplsa.specs.Answer.AnswersStart.{view_not_built, failed_at, table_done, checkpoint_done, check_done}

@@ -4,14 +4,14 @@ use Rattle.std.specs.declared.option.Option.{Option}
 use Rattle.fpl_log.specs.declared.section.Section.{Section}
 use Rattle.fpl_model.specs.declared.presentation.Presentation.{Presentation}
 use Rattle.fpl_bytes.specs.declared.version.Version.TheVariants.{Two}
-use Rattle.fpl_sections.specs.Spelling.{section_bytes_of}
+use Rattle.fpl_section_bytes.specs.Spelling.{section_bytes_of}
 use Rattle.fpl_checkpoint.specs.Heads.{VERSION, head_bytes_of}
 use Rattle.fpl_outside.specs.Outside.{Takes}
 use Rattle.fpl_outside.specs.Whole.{WrotePrefix}
-use Rattle.fpl_resume.specs.declared.stop.Stop as code
-use Rattle.fpl_resume.specs.declared.stop.Stop.TheVariants as told
-use Rattle.fpl_resume.specs.Stops.{IsStop}
-use Rattle.fpl_resume.specs.Walk.{Stored, Stage, Fault, too_many, bad_bytes, bad_section, overflow, Stop, ended, failed, Walked, walk_of, stopped as ends}
+use Rattle.fpl_walk.specs.declared.stop.Stop as code
+use Rattle.fpl_walk.specs.declared.stop.Stop.TheVariants as told
+use Rattle.fpl_walk.specs.Stops.{IsStop}
+use Rattle.fpl_walk.specs.Walk.{Stored, Stage, Fault, too_many, bad_bytes, bad_section, overflow, Stop, ended, failed, Walked, walk_of, stopped as ends}
 use Rattle.fplsa.specs.declared.words.View.{View}
 use Rattle.fplsa.specs.declared.words.View.TheVariants.{Checkpoint}
 use Rattle.fplsa.specs.declared.words.Command.{Command}

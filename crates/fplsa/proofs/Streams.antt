@@ -8,7 +8,7 @@ use Rattle.std.proofs.Math.Seq.{take-append_seam}
 use Rattle.fpl_log.specs.declared.section.Section.{Section}
 use Rattle.fpl_model.specs.declared.presentation.Presentation.{Presentation}
 use Rattle.fpl_bytes.specs.declared.version.Version.TheVariants.{Two}
-use Rattle.fpl_sections.specs.Spelling.{section_bytes_of}
+use Rattle.fpl_section_bytes.specs.Spelling.{section_bytes_of}
 use Rattle.fpl_checkpoint.specs.Heads.{VERSION, head_bytes_of}
 use Rattle.fpl_outside.specs.Outside.{Takes}
 use Rattle.fpl_outside.specs.Whole.{WrotePrefix}

@@ -5,27 +5,27 @@ use Rattle.std.specs.declared.result.Result.{Result}
 use Rattle.fpl_numbers.specs.declared.number.Num.{Num}
 use Rattle.fpl_numbers.specs.declared.number.Unfit.{Unfit}
 use Rattle.fpl_log.specs.declared.section.Section.{Section}
-use Rattle.fpl_elimination.specs.Plain.{Held}
+use Rattle.plain_elimination.specs.Plain.{Held}
 use Rattle.fpl_model.specs.declared.presentation.Presentation.{Presentation}
 use Rattle.fpl_table.specs.Standard.{count_through}
 use Rattle.std.proofs.lemmas.List.{append-nil}
-use Rattle.fpl_completion.specs.Weight.{close_weight}
-use Rattle.fpl_completion.specs.Section.{slimmed, section_of}
+use Rattle.plain_weights.specs.Weight.{close_weight}
+use Rattle.plain_weights.specs.Section.{slimmed, section_of}
 use Rattle.fpl_check.specs.Refusal.{Refusal, bad, unfit}
 use Rattle.fpl_check.specs.Check.{check_of}
 use Rattle.fpl_bytes.specs.declared.fault.BadBytes.{BadBytes}
 use Rattle.fpl_bytes.specs.Numbers.{version_of}
 use Rattle.std.specs.Prelude.{slice_range}
-use Rattle.fpl_sections.specs.declared.frame.Frame.{Frame}
-use Rattle.fpl_sections.specs.declared.frame.Frame.TheVariants.{Whole, Tail}
-use Rattle.fpl_sections.specs.Frames.{frame_of}
-use Rattle.fpl_sections.specs.Reading.{payload_at}
-use Rattle.fpl_resume.specs.declared.stop.Stop as code
-use Rattle.fpl_resume.specs.declared.stop.Stop.TheVariants as told
+use Rattle.fpl_section_bytes.specs.declared.frame.Frame.{Frame}
+use Rattle.fpl_section_bytes.specs.declared.frame.Frame.TheVariants.{Whole, Tail}
+use Rattle.fpl_section_bytes.specs.Frames.{frame_of}
+use Rattle.fpl_section_bytes.specs.Reading.{payload_at}
+use Rattle.fpl_walk.specs.declared.stop.Stop as code
+use Rattle.fpl_walk.specs.declared.stop.Stop.TheVariants as told
 use Rattle.fpl_complete.specs.State.{unfit_of}
-use Rattle.fpl_resume.specs.Stops.{PlainRun, stored_in, IsStop}
+use Rattle.fpl_walk.specs.Stops.{PlainRun, stored_in, IsStop}
 use Rattle.fplsa.specs.Begin.{HasStopped}
-use Rattle.fpl_resume.specs.Walk.{Stored, Stage, too_many, bad_bytes, bad_section, overflow, Stop, ended, failed, Walked, next_weight, adopted, formed, computed_as, computed, framed, weighed, step_of, stopped, walk_on, walk_of, step_cost, cost_on, cost_of}
+use Rattle.fpl_walk.specs.Walk.{Stored, Stage, too_many, bad_bytes, bad_section, overflow, Stop, ended, failed, Walked, next_weight, adopted, formed, computed_as, computed, framed, weighed, step_of, stopped, walk_on, walk_of, step_cost, cost_on, cost_of}
 
 -- a step raises the table by one weight, and adds its section
 abbrev Grows : Stage → Result Stage Stop → Type 0

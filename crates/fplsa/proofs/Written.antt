@@ -8,7 +8,7 @@ use Rattle.fpl_reader.specs.Reading.{HasPresentation}
 use Rattle.fpl_reader.proofs.OneAnswer.{one_presentation, not_both}
 use Rattle.fpl_reader.proofs.Soundness.{presentation_sound}
 use Rattle.fpl_canonical.specs.Canonical.{canonical_of}
-use Rattle.fpl_canonical_length.proofs.Texts.{canonical_short}
+use Rattle.plain_texts.proofs.Texts.{canonical_short}
 use Rattle.fpl_table.specs.Plain.{PlainTable}
 use Rattle.fpl_table.specs.Standard.{IsTableOf}
 use Rattle.fpl_spelling.specs.Spelling.{names_of}
@@ -18,10 +18,10 @@ use Rattle.fpl_checkpoint.specs.Heads.{head_bytes_of}
 use Rattle.fpl_checkpoint.specs.Scans.{HasHead}
 use Rattle.fpl_checkpoint.proofs.OneHead.{not_bad}
 use Rattle.fpl_bytes.specs.declared.version.Version.TheVariants.{Two}
-use Rattle.fpl_resume.specs.Walk.{Fault, failed, too_many, bad_bytes, bad_section, overflow, begun, walk_of}
-use Rattle.fpl_streams.specs.Streams.{nothing, plain_walk, stream_of, IsStreamOf}
-use Rattle.fpl_streams.specs.Laws.{GiveSame, walk_from, PassesWith}
-use Rattle.fpl_streams.proofs.Written.{runs_write_streams}
+use Rattle.fpl_walk.specs.Walk.{Fault, failed, too_many, bad_bytes, bad_section, overflow, begun, walk_of}
+use Rattle.plain_streams.specs.Streams.{nothing, plain_walk, stream_of, IsStreamOf}
+use Rattle.plain_streams.specs.Laws.{GiveSame, walk_from, PassesWith}
+use Rattle.plain_streams.proofs.Written.{runs_write_streams}
 use Rattle.fplsa.specs.declared.words.View.{View}
 use Rattle.fplsa.specs.declared.words.View.TheVariants.{Table, Series, Gap, Log, Checkpoint, Centre, Lcs, Ideal, Cohomology, Equal, Check, Sample}
 use Rattle.fplsa.specs.declared.words.Command.{Command}

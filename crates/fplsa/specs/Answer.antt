@@ -27,7 +27,7 @@ use Rattle.fplsa.specs.Words.{IsCommand, IsNoCommand}
 use Rattle.fpl_bytes.specs.declared.fault.BadBytes.{BadBytes}
 use Rattle.fpl_checkpoint.specs.declared.head.Head.{Head}
 use Rattle.fpl_checkpoint.specs.Scans.{HasHead, IsBadHead}
-use Rattle.fpl_resume.specs.Walk.{Fault, bad_bytes, ended, failed}
+use Rattle.fpl_walk.specs.Walk.{Fault, bad_bytes, ended, failed}
 use Rattle.fplsa.specs.Reply.{Reply, done, usage, refused, stopped, not_built}
 use Rattle.fplsa.specs.Start.{Start, of_text, of_head, walk_for}
 use Rattle.fplsa.specs.CheckText.{check_text}

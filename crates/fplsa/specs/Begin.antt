@@ -5,10 +5,10 @@
 --   IsChecked run c bytes reply: the text of a check that has come to the run's stage
 use Rattle.std.specs.Prelude.{ℕ, ◌≡◌, ◌-◌, ◌⊎◌, List, length, Some, None, Err}
 use Rattle.fpl_model.specs.declared.presentation.Presentation.{Presentation}
-use Rattle.fpl_resume.specs.declared.stop.Stop as code
-use Rattle.fpl_resume.specs.declared.stop.Stop.TheVariants as told
-use Rattle.fpl_resume.specs.Walk.{Stage, Fault, Stop, failed, Walked, stopped as ends}
-use Rattle.fpl_resume.specs.Stops.{PlainRun, IsStop}
+use Rattle.fpl_walk.specs.declared.stop.Stop as code
+use Rattle.fpl_walk.specs.declared.stop.Stop.TheVariants as told
+use Rattle.fpl_walk.specs.Walk.{Stage, Fault, Stop, failed, Walked, stopped as ends}
+use Rattle.fpl_walk.specs.Stops.{PlainRun, IsStop}
 use Rattle.fplsa.specs.declared.words.Command.{Command}
 use Rattle.fplsa.specs.declared.walk.Begin.{Begin}
 use Rattle.fplsa.specs.Reply.{Reply, done, stopped}

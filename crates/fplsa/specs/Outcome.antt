@@ -8,7 +8,7 @@ use Rattle.fplsa.specs.declared.outcome.Outcome.{Outcome}
 use Rattle.fplsa.specs.declared.outcome.Outcome.TheVariants as found
 use Rattle.fplsa.specs.Reply.{Reply, done, usage, refused, stopped, no_memory, read_fault, write_fault, not_built}
 use Rattle.fpl_complete.specs.State.{unfit_of}
-use Rattle.fpl_resume.specs.Walk.{too_many, bad_bytes, bad_section, overflow}
+use Rattle.fpl_walk.specs.Walk.{too_many, bad_bytes, bad_section, overflow}
 use Rattle.fplsa.specs.Answer.{too_long, reason_text}
 
 abbrev pub refusal_text : Refusal → List ℕ

@@ -29,7 +29,7 @@ use Rattle.fpl_model.specs.declared.presentation.Presentation.{Presentation}
 use Rattle.fpl_reader.specs.Reading.{HasPresentation}
 use Rattle.fpl_table.specs.Plain.{PlainTable}
 use Rattle.fpl_table.specs.Standard.{IsTableOf, count_through}
-use Rattle.fpl_completion.specs.Section.{FitsAt}
+use Rattle.plain_weights.specs.Section.{FitsAt}
 use Rattle.fpl_checkpoint.specs.declared.head.Head.{Head}
 use Rattle.fpl_checkpoint.specs.Scans.{HasHead}
 use Rattle.fplsa.specs.declared.words.View.{View}
@@ -39,7 +39,7 @@ use Rattle.fplsa.specs.Words.{IsCommand, IsNoCommand}
 use Rattle.fplsa.specs.Reply.{Reply, no_memory, write_fault, status_of, text_of, with_text, IsPut, line_of}
 use Rattle.fplsa.specs.Stream.{IsFrontOf}
 use Rattle.fplsa.specs.Start.{Start, of_text, of_head, cost_for}
-use Rattle.fpl_streams.specs.Streams.{IsStreamOf}
+use Rattle.plain_streams.specs.Streams.{IsStreamOf}
 use Rattle.fplsa.specs.Answer.{AnswersStart, IsUnread, IsCheckpoint, most_bytes, most_text}
 
 abbrev pub ReadsNothing : List (List ℕ) → Type 0

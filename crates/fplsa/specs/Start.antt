@@ -8,7 +8,7 @@
 use Rattle.std.specs.Prelude.{ℕ, List, [], Bool, true, false}
 use Rattle.fpl_model.specs.declared.presentation.Presentation.{Presentation}
 use Rattle.fpl_checkpoint.specs.declared.head.Head.{Head}
-use Rattle.fpl_resume.specs.Walk.{Stored, Stage, Walked, begun, walk_of, cost_of}
+use Rattle.fpl_walk.specs.Walk.{Stored, Stage, Walked, begun, walk_of, cost_of}
 use Rattle.fplsa.specs.declared.words.View.{View}
 use Rattle.fplsa.specs.declared.words.View.TheVariants.{Check}
 use Rattle.fplsa.specs.declared.words.Command.{Command}

@@ -4,7 +4,7 @@ use Rattle.std.specs.Prelude.{ℕ, ◌≡◌, ◌≤◌, List, length, take}
 use Rattle.fpl_model.specs.declared.presentation.Presentation.{Presentation}
 use Rattle.fpl_reader.specs.Reading.{HasPresentation}
 use Rattle.fpl_checkpoint.specs.Heads.{VERSION, head_bytes_of}
-use Rattle.fpl_streams.specs.Streams.{IsStreamOf}
+use Rattle.plain_streams.specs.Streams.{IsStreamOf}
 use Rattle.fplsa.specs.declared.words.View.TheVariants.{Checkpoint}
 use Rattle.fplsa.specs.declared.words.Command.{Command}
 use Rattle.fplsa.specs.Words.{IsCommand}

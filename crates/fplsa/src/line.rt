@@ -5,7 +5,7 @@ ghost use Rattle.fpl_outside.specs.Whole.{WrotePrefix};
 ghost use Rattle.fpl_spelling.specs.Spelling.{below_text, magnitude_text, number_text, sign_text, is_below_nought};
 ghost use Rattle.fplsa.specs.Reply.{Reply, line_of, fault_line, op_text, refused};
 ghost use Rattle.fpl_complete.specs.State.{unfit_of};
-ghost use Rattle.fpl_resume.specs.Walk.{too_many, bad_bytes, bad_section, overflow};
+ghost use Rattle.fpl_walk.specs.Walk.{too_many, bad_bytes, bad_section, overflow};
 ghost use Rattle.fplsa.specs.Faults.{byte_text, spot_text, why_text};
 ghost use Rattle.fplsa.specs.Line.{piece_text, pieces_text};
 ghost use Rattle.fplsa.specs.Outcome.{refusal_text, reply_of};

@@ -2,7 +2,7 @@
 ghost use Rattle.std.specs.Prelude.{◌≡◌, ◌≤◌, ◌++◌, ◌∷◌, ◌<◌, ◌^◌, ℕ, List, [], length, IfOk, IfErr};
 ghost use Rattle.fpl_log.specs.declared.section.Section.{Section};
 ghost use Rattle.fpl_bytes.specs.declared.version.Version.TheVariants.{Two};
-ghost use Rattle.fpl_sections.specs.Spelling.{section_bytes_of};
+ghost use Rattle.fpl_section_bytes.specs.Spelling.{section_bytes_of};
 ghost use Rattle.fpl_canonical.specs.Canonical.{canonical_of};
 ghost use Rattle.fpl_checkpoint.specs.Heads.{VERSION, head_bytes_of};
 ghost use Rattle.fpl_outside.specs.Outside.{Rose};
@@ -17,8 +17,8 @@ use crate::status::Status;
 use fpl_checkpoint::{head_bytes, section_bytes};
 use fpl_model::Presentation;
 use fpl_outside::{Sink, write_whole};
-use fpl_resume::Run;
 use fpl_scalar::Field;
+use fpl_walk::Run;
 use std::alloc::{AllocError, Global};
 
 /// Why a text wasn't put whole.

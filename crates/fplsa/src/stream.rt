@@ -2,8 +2,8 @@
 ghost use Rattle.std.specs.Prelude.{◌≡◌, ◌≤◌, ◌<◌, ◌+◌, ◌^◌, ◌⊎◌, [], length};
 ghost use Rattle.fpl_canonical.specs.Canonical.{canonical_of};
 ghost use Rattle.fpl_outside.specs.Outside.{Rose};
-ghost use Rattle.fpl_resume.specs.Walk.{walk_of, cost_of};
-ghost use Rattle.fpl_resume.specs.Stops.{stored_in};
+ghost use Rattle.fpl_walk.specs.Walk.{walk_of, cost_of};
+ghost use Rattle.fpl_walk.specs.Stops.{stored_in};
 ghost use Rattle.fplsa.specs.declared.words.View.{View};
 ghost use Rattle.fplsa.specs.Words.{IsInRange};
 ghost use Rattle.fplsa.specs.Reply.{status_of};
@@ -18,9 +18,9 @@ use crate::status::Status;
 use crate::walk::{does_compute, ending};
 use crate::words::{Command, View};
 use fpl_outside::Sink;
-use fpl_resume::Run;
 use fpl_scalar::Field;
 use fpl_steps::Steps;
+use fpl_walk::Run;
 use std::alloc::Global;
 use std::sync::ledger::Ledger;
 

@@ -3,9 +3,9 @@ ghost use Rattle.std.specs.Prelude.{◌≡◌, ◌≤◌, ◌<◌, ◌+◌, ◌^
 ghost use Rattle.fpl_model.specs.Sound.{IsSound};
 ghost use Rattle.fpl_canonical.specs.Canonical.{canonical_of};
 ghost use Rattle.fpl_outside.specs.Outside.{Rose};
-ghost use Rattle.fpl_resume.specs.Walk as plain;
-ghost use Rattle.fpl_resume.specs.Walk.{Stage, Fault, failed, walk_of, cost_of};
-ghost use Rattle.fpl_resume.specs.Stops.{IsStop, stored_in};
+ghost use Rattle.fpl_walk.specs.Walk as plain;
+ghost use Rattle.fpl_walk.specs.Walk.{Stage, Fault, failed, walk_of, cost_of};
+ghost use Rattle.fpl_walk.specs.Stops.{IsStop, stored_in};
 ghost use Rattle.fplsa.specs.declared.words.View.{View};
 ghost use Rattle.fplsa.specs.Words.{IsInRange};
 ghost use Rattle.fplsa.specs.Reply.{no_memory, stopped, status_of};
@@ -25,9 +25,9 @@ use fpl_model::Presentation;
 use fpl_numbers::Kind;
 use fpl_outside::Sink;
 use fpl_print::table_text;
-use fpl_resume::{Run, Stop};
 use fpl_scalar::{Field, Fraction, Residue};
 use fpl_steps::Steps;
+use fpl_walk::{Run, Stop};
 use std::alloc::Global;
 use std::sync::ledger::Ledger;
 

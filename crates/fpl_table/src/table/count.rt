@@ -1,5 +1,5 @@
 ghost use Rattle.std.specs.Prelude.{◌≡◌, ◌≤◌, ◌<◌, ◌+◌, ◌-◌, ◌++◌, length, map, IfOk, OnOk, All};
-ghost use Rattle.fpl_algebra.specs.Symbols.{symbols_of};
+ghost use Rattle.math_algebra.specs.Symbols.{symbols_of};
 ghost use Rattle.fpl_table.specs.Plain.{plain_basis, table_in, shell_in, symbol_in};
 ghost use Rattle.fpl_table.specs.Shape.{HasShape, IsNumbered};
 ghost use Rattle.fpl_table.specs.Standard.{count_of};

@@ -1,5 +1,5 @@
 ghost use Rattle.std.specs.Prelude.{◌≡◌, ◌≤◌, ◌<◌, ◌+◌, ◌-◌, ◌⊎◌, length};
-ghost use Rattle.fpl_algebra.specs.Tree.{odd};
+ghost use Rattle.math_algebra.specs.Tree.{odd};
 ghost use Rattle.fpl_table.specs.Shape.{HasShape, IsRowUpTo};
 ghost use Rattle.fpl_table.specs.Plain.{plain_basis, through, first_partner, partner_from, entry_row};
 

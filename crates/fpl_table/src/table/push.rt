@@ -1,6 +1,6 @@
 ghost use Rattle.std.specs.Prelude.{◌≡◌, ◌≤◌, ◌<◌, ◌+◌, ◌-◌, length, map, get_or, IfOk, OnOk, OnErr, All};
 ghost use Rattle.fpl_rows.specs.Meaning.{AreRows};
-ghost use Rattle.fpl_algebra.specs.Symbols.{no_symbol, symbol_parity};
+ghost use Rattle.math_algebra.specs.Symbols.{no_symbol, symbol_parity};
 ghost use Rattle.fpl_model.specs.Meaning.{plain, parity_in};
 ghost use Rattle.fpl_model.specs.Mono.{expr_of};
 ghost use Rattle.fpl_table.specs.Plain.{basis_in, symbol_in, symbols_in, table_in, shell_in};

@@ -1,8 +1,8 @@
 ghost use Rattle.std.specs.Prelude.{◌≡◌, ◌≤◌, ◌<◌, ◌+◌, ◌-◌, ◌*◌, ◌++◌, suc, nat_eq, cond, [], length, map, get_or, All, IfOk, Some};
 ghost use Rattle.fpl_rows.specs.Meaning.{IsRowOf};
 ghost use Rattle.fpl_scalar.specs.Vectors.{AreElements};
-ghost use Rattle.fpl_algebra.specs.Symbols.{joined};
-ghost use Rattle.fpl_algebra.specs.Table.{of_generator};
+ghost use Rattle.math_algebra.specs.Symbols.{joined};
+ghost use Rattle.math_algebra.specs.Table.{of_generator};
 ghost use Rattle.fpl_table.specs.Plain.{symbols_in, plain_basis, generator_at};
 ghost use Rattle.fpl_table.specs.Cells.{generator_cell, generator_cells, pair_cells, pairs_to};
 ghost use Rattle.fpl_table.specs.Shape.{HasShape, IsRowUpTo};

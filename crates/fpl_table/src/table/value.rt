@@ -2,7 +2,7 @@ ghost use Rattle.std.specs.Prelude.{◌≡◌, ◌≤◌, ◌<◌, ◌^◌, leng
 ghost use Rattle.fpl_numbers.specs.Numbers.{IsElement, residue};
 ghost use Rattle.fpl_numbers.specs.Results.{Gives, GivesBy};
 ghost use Rattle.fpl_scalar.specs.Vectors.{AreElements, scale_of};
-ghost use Rattle.fpl_algebra.specs.Tree.{trees};
+ghost use Rattle.math_algebra.specs.Tree.{trees};
 ghost use Rattle.fpl_model.specs.Meaning.{plain};
 ghost use Rattle.fpl_model.specs.Sound.{IsTerm, AreTerms, HaveWeights, count_tree, count_trees};
 ghost use Rattle.fpl_table.specs.Shape.{IsRowUpTo, Agrees};

@@ -1,5 +1,5 @@
 use Rattle.std.proofs.Common.{◌≡◌, ◌++◌, true, drop, map}
-use Rattle.fpl_algebra.specs.Tree.{trees}
+use Rattle.math_algebra.specs.Tree.{trees}
 use Rattle.fpl_model.specs.Meaning.{plain}
 use Rattle.fpl_canonical.specs.Canonical.{sum_text}
 use Rattle.fpl_canonical.proofs.expression.+writing.Given as goal

@@ -1,4 +1,4 @@
-use Rattle.fpl_next.proofs.Holding.{push_holds}
+use Rattle.plain_tables.proofs.Holding.{push_holds}
 use Rattle.fpl_check.proofs.LawsPassed.{accepted_closed, accepted_spans, conclusions_zero}
 use Rattle.fpl_check.proofs.laws.accepted.Goals as goal
 

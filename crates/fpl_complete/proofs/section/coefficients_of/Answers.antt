@@ -3,7 +3,7 @@ use Rattle.fpl_numbers.specs.declared.number.Num.{Num}
 use Rattle.fpl_numbers.specs.declared.number.Kind.{Kind}
 use Rattle.fpl_numbers.specs.Numbers.{IsElement, residue}
 use Rattle.fpl_log.specs.declared.closed.Coefficient.{Coefficient}
-use Rattle.fpl_completion.specs.Section.{coefficient, coefficients_from}
+use Rattle.plain_weights.specs.Section.{coefficient, coefficients_from}
 use Rattle.fpl_complete.proofs.Coefficients.{next_step, kept_more, kept_all}
 use Rattle.fpl_complete.proofs.section.coefficients_of.Goals as goal
 

@@ -1,5 +1,5 @@
 use Rattle.std.proofs.Common.{◌≡◌, ◌≤◌, ◌+◌, ◌-◌, ◌++◌, length, drop}
-use Rattle.fpl_completion.specs.Section.{coefficients_from}
+use Rattle.plain_weights.specs.Section.{coefficients_from}
 use Rattle.fpl_complete.proofs.section.coefficients_of.Given as goal
 
 abbrev pub invariant-loop-symbol : goal.invariant-loop-symbol

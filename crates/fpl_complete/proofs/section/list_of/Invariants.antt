@@ -1,5 +1,5 @@
 use Rattle.std.proofs.Common.{◌≡◌, ◌++◌, drop}
-use Rattle.fpl_completion.specs.Section.{closed_list}
+use Rattle.plain_weights.specs.Section.{closed_list}
 use Rattle.fpl_complete.proofs.section.list_of.Given as goal
 
 abbrev pub invariant-loop-i : goal.invariant-loop-i

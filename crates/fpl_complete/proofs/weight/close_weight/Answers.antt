@@ -1,7 +1,7 @@
 use Rattle.std.proofs.Common.{◌≡◌, sym, subst, arith}
 use Rattle.fpl_numbers.specs.declared.number.Kind.TheVariants.{Prime}
 use Rattle.fpl_rewrite.proofs.SymbolCounts.{few_at}
-use Rattle.fpl_faithful.proofs.Fitting.{Always, prime_always}
+use Rattle.plain_sources.proofs.Fitting.{Always, prime_always}
 use Rattle.fpl_complete.proofs.Closing.{again_fault, weighed, weighed_once}
 use Rattle.fpl_complete.proofs.weight.close_weight.Goals as goal
 

@@ -2,7 +2,7 @@ use Rattle.std.proofs.Common.{suc, ◌≡◌, ◌∙◌, List, ◌∷◌, ap, le
 use Rattle.fpl_log.specs.declared.step.Origin.{Origin}
 use Rattle.fpl_rewrite.specs.Origins.{origins_of}
 use Rattle.fpl_rewrite.specs.Cursor.{to_come}
-use Rattle.fpl_completion.specs.Weight.{begun, gather}
+use Rattle.plain_weights.specs.Weight.{begun, gather}
 use Rattle.fpl_check.proofs.ListedOrigins.{contains_rest}
 use Rattle.fpl_complete.proofs.Runs.{gather_next}
 use Rattle.fpl_complete.proofs.weight.gather.Goals as goal

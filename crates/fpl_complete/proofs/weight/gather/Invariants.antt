@@ -3,7 +3,7 @@ use Rattle.fpl_log.specs.declared.step.Origin.{Origin}
 use Rattle.fpl_table.specs.Plain.{symbols_in}
 use Rattle.fpl_rewrite.specs.Origins.{origins_of}
 use Rattle.fpl_rewrite.specs.Cursor.{to_come}
-use Rattle.fpl_completion.specs.Weight.{begun, gather}
+use Rattle.plain_weights.specs.Weight.{begun, gather}
 use Rattle.fpl_complete.proofs.weight.gather.Given as goal
 
 abbrev pub invariant-origins : goal.invariant-origins

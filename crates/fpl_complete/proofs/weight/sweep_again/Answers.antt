@@ -1,7 +1,7 @@
 use Rattle.std.proofs.Common.{◌≡◌, ◌∙◌, ◌∷◌}
 use Rattle.fpl_rewrite.specs.Origins.{origins_of}
 use Rattle.fpl_rewrite.specs.Cursor.{to_come}
-use Rattle.fpl_completion.specs.Weight.{again}
+use Rattle.plain_weights.specs.Weight.{again}
 use Rattle.fpl_check.proofs.ListedOrigins.{contains_rest}
 use Rattle.fpl_complete.proofs.Runs.{again_next, again_stops}
 use Rattle.fpl_complete.proofs.weight.sweep_again.Goals as goal

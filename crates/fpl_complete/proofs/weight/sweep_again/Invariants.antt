@@ -1,9 +1,9 @@
 use Rattle.std.proofs.Common.{◌≡◌, ◌+◌, length, Contains}
 use Rattle.fpl_log.specs.declared.step.Origin.{Origin}
-use Rattle.fpl_elimination.specs.Plain.{Held}
+use Rattle.plain_elimination.specs.Plain.{Held}
 use Rattle.fpl_rewrite.specs.Origins.{origins_of}
 use Rattle.fpl_rewrite.specs.Cursor.{to_come}
-use Rattle.fpl_completion.specs.Weight.{again}
+use Rattle.plain_weights.specs.Weight.{again}
 use Rattle.fpl_complete.proofs.weight.sweep_again.Given as goal
 
 abbrev pub invariant-origins : goal.invariant-origins

@@ -1,5 +1,5 @@
 use Rattle.std.proofs.Common.{arith, refl, []}
-use Rattle.fpl_elimination.proofs.Found.{close_fault, close_pivots}
+use Rattle.plain_elimination.proofs.Found.{close_fault, close_pivots}
 use Rattle.fpl_echelon.proofs.close.close_all.Goals as goal
 
 pub close_place-requires-clause-closed : goal.close_place-requires-clause-closed

@@ -1,5 +1,5 @@
 use Rattle.std.proofs.Common.{◌≡◌, [], Ok}
-use Rattle.fpl_elimination.specs.Plain.{close_to}
+use Rattle.plain_elimination.specs.Plain.{close_to}
 use Rattle.fpl_echelon.proofs.close.close_all.Given as goal
 
 abbrev pub invariant-loop-s : goal.invariant-loop-s

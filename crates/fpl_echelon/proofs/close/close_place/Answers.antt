@@ -1,5 +1,5 @@
 use Rattle.std.proofs.Common.{◌+◌}
-use Rattle.fpl_elimination.proofs.Found.{found_length, found_elements, found_fits}
+use Rattle.plain_elimination.proofs.Found.{found_length, found_elements, found_fits}
 use Rattle.fpl_echelon.proofs.close.close_place.Goals as goal
 
 pub sweep_below-requires-clause-place : goal.sweep_below-requires-clause-place

@@ -1,7 +1,7 @@
 use Rattle.std.proofs.Common.{◌≡◌, ◌≤◌, ◌-◌, ◌∙◌, ℕ, sym, refl, ap, subst, arith, length}
 use Rattle.fpl_rows.specs.Meaning.{IsRowOf}
 use Rattle.fpl_rows.proofs.Leads.{lead_is}
-use Rattle.fpl_elimination.proofs.Remainders.{sweep_means}
+use Rattle.plain_elimination.proofs.Remainders.{sweep_means}
 use Rattle.fpl_echelon.proofs.PlaceSweeps.{swept_start, swept_lead, swept_whole, swept_next, swept_stops, found_is}
 use Rattle.fpl_echelon.proofs.remainder.sweep_by.Goals as goal
 

@@ -1,7 +1,7 @@
 use Rattle.std.proofs.Common.{◌∙◌, ◌-◌, ap, sym, arith}
 use Rattle.fpl_numbers.specs.Results.{and_then}
 use Rattle.fpl_rows.proofs.Leads.{lead_is}
-use Rattle.fpl_elimination.specs.Plain.{sweep_of}
+use Rattle.plain_elimination.specs.Plain.{sweep_of}
 use Rattle.fpl_echelon.proofs.Passing.{to_lead, to_end, fault_on}
 use Rattle.fpl_echelon.proofs.sweeping.sweep_below.Goals as goal
 

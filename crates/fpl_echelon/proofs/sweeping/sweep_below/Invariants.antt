@@ -1,6 +1,6 @@
 use Rattle.std.proofs.Common.{◌≡◌, ◌≤◌, length}
 use Rattle.fpl_scalar.specs.Vectors.{AreElements}
-use Rattle.fpl_elimination.specs.Plain.{sweep_of}
+use Rattle.plain_elimination.specs.Plain.{sweep_of}
 use Rattle.fpl_echelon.proofs.sweeping.sweep_below.Given as goal
 
 abbrev pub invariant-loop-s : goal.invariant-loop-s

@@ -1,5 +1,5 @@
 use Rattle.std.proofs.Common.{◌+◌, length, arith}
-use Rattle.fpl_elimination.proofs.Found.{found_length, found_elements}
+use Rattle.plain_elimination.proofs.Found.{found_length, found_elements}
 use Rattle.fpl_echelon.proofs.sweeping.sweep_place.Goals as goal
 
 pub axpy-requires-clause-at_most : goal.axpy-requires-clause-at_most

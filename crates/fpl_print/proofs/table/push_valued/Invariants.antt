@@ -1,6 +1,6 @@
 use Rattle.std.proofs.Common.{◌≡◌, ◌++◌, drop, map}
 use Rattle.std.specs.Prelude.{All, filter}
-use Rattle.fpl_algebra.specs.Symbols.{symbols_of}
+use Rattle.math_algebra.specs.Symbols.{symbols_of}
 use Rattle.fpl_table.specs.Plain.{symbol_in, table_in, shell_in}
 use Rattle.fpl_print.specs.TableText.{IsEntry, has_value}
 use Rattle.fpl_print.proofs.table.push_valued.Given as goal

@@ -1,5 +1,5 @@
 use Rattle.std.proofs.Common.{arith}
-use Rattle.fpl_algebra.specs.Symbols.{place_of}
+use Rattle.math_algebra.specs.Symbols.{place_of}
 use Rattle.fpl_table.specs.Plain.{symbol_in}
 use Rattle.fpl_rewrite.proofs.Nought.{add_past}
 use Rattle.fpl_rewrite.proofs.entries.add_at_symbol.Goals as goal

@@ -1,6 +1,6 @@
 use Rattle.std.proofs.Common.{◌≡◌, ◌≤◌, length, map, drop}
 use Rattle.fpl_scalar.specs.Vectors.{AreElements}
-use Rattle.fpl_algebra.specs.Tree.{trees}
+use Rattle.math_algebra.specs.Tree.{trees}
 use Rattle.fpl_model.specs.Meaning.{plain}
 use Rattle.fpl_model.specs.Sound.{AreTerms, count_trees}
 use Rattle.fpl_table.specs.Plain.{symbols_in}

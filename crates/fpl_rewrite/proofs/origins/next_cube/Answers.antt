@@ -1,5 +1,5 @@
 use Rattle.std.proofs.Common.{◌≡◌, ◌+◌, ◌/◌, true, false, refl, ◌∙◌, arith}
-use Rattle.fpl_algebra.specs.Symbols.{is_odd}
+use Rattle.math_algebra.specs.Symbols.{is_odd}
 use Rattle.fpl_rewrite.specs.Origins.{is_three}
 use Rattle.fpl_table.specs.Plain.{plain_basis}
 use Rattle.fpl_table.proofs.Weights.{leading_within}

@@ -6,7 +6,7 @@ use Rattle.std.proofs.Math.Seq.{get_or-append_seam}
 use mathlib.Core.Path.{ap₂}
 use Rattle.fpl_log.specs.declared.section.Section.{Section}
 use Rattle.fpl_bytes.specs.declared.version.Version.TheVariants.{Two}
-use Rattle.fpl_sections.specs.Spelling.{section_bytes_of}
+use Rattle.fpl_section_bytes.specs.Spelling.{section_bytes_of}
 use Rattle.fplsa.proofs.put.put_last_section.Goals as goal
 
 last_of : (xs before : List Section) (s : Section) (n : ℕ) → xs ≡ before ++ s ∷ [] → n ≡ length xs → slice_get xs (n - 1) ≡ Some s

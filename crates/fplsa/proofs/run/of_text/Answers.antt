@@ -1,6 +1,6 @@
 use Rattle.std.proofs.Common.{[], ◌≤◌, length, arith}
 use Rattle.fpl_outside.proofs.Pieces.{takes_nothing}
-use Rattle.fpl_canonical_length.proofs.Texts.{canonical_short}
+use Rattle.plain_texts.proofs.Texts.{canonical_short}
 use Rattle.fplsa.specs.Start.{of_text}
 use Rattle.fplsa.specs.Run.IsStart.{from_text}
 use Rattle.fplsa.specs.Answer.{AnswersStart, AnswersText, most_text}

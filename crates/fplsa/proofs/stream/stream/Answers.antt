@@ -1,10 +1,10 @@
 use Rattle.std.proofs.Common.{◌≡◌, ◌≤◌, ◌<◌, ◌-◌, ◌++◌, Ok, Some, refl, sym, ap, ◌∙◌, subst, arith}
 use Rattle.fpl_bytes.specs.declared.version.Version.TheVariants.{Two}
-use Rattle.fpl_sections.specs.Spelling.{section_bytes_of}
+use Rattle.fpl_section_bytes.specs.Spelling.{section_bytes_of}
 use Rattle.fpl_checkpoint.specs.Heads.{VERSION, head_bytes_of}
 use Rattle.fpl_outside.specs.Outside.{Takes}
-use Rattle.fpl_resume.specs.Walk.{ended, Walked, step_of, walk_of, cost_of}
-use Rattle.fpl_resume.specs.Stops.{IsStop, stored_in}
+use Rattle.fpl_walk.specs.Walk.{ended, Walked, step_of, walk_of, cost_of}
+use Rattle.fpl_walk.specs.Stops.{IsStop, stored_in}
 use Rattle.fplsa.specs.Start.{does_compute}
 use Rattle.fplsa.specs.Stream.{stream_text}
 use Rattle.fplsa.specs.Run.{Ends}

@@ -1,6 +1,6 @@
 use Rattle.std.proofs.Common.{◌≡◌, ◌-◌, inl, inr, length, None, ap, ◌∙◌, sym, subst}
 use Rattle.fpl_model.specs.declared.presentation.Presentation.{Presentation}
-use Rattle.fpl_resume.specs.Walk.{Walked, stopped}
+use Rattle.fpl_walk.specs.Walk.{Walked, stopped}
 use Rattle.fplsa.specs.Reply.{done}
 use Rattle.fplsa.specs.CheckText.{check_text}
 use Rattle.fplsa.specs.Start.{walk_for}

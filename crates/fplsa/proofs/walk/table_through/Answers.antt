@@ -5,7 +5,7 @@ use Rattle.fpl_table.specs.Plain.{PlainTable}
 use Rattle.fpl_table.specs.Standard.{IsTableOf}
 use Rattle.fpl_spelling.specs.Spelling.{names_of}
 use Rattle.fpl_print.specs.TableText.{table_text}
-use Rattle.fpl_resume.specs.Walk.{Walked, stopped}
+use Rattle.fpl_walk.specs.Walk.{Walked, stopped}
 use Rattle.fplsa.specs.Reply.{done}
 use Rattle.fplsa.specs.Start.{walk_for}
 use Rattle.fplsa.specs.Answer.{AnswersStart}

@@ -1,6 +1,6 @@
 use Rattle.std.proofs.Common.{◌≡◌, ◌≤◌, ◌<◌, Ok, sym, ap, ◌∙◌, subst, arith}
-use Rattle.fpl_resume.specs.Walk.{step_of}
-use Rattle.fpl_resume.specs.Stops.{PlainRun, IsStop, stored_in}
+use Rattle.fpl_walk.specs.Walk.{step_of}
+use Rattle.fpl_walk.specs.Stops.{PlainRun, IsStop, stored_in}
 use Rattle.fplsa.specs.Start.{does_compute}
 use Rattle.fplsa.proofs.Walks.{step_raises, walk_left, cost_left, cost_stops, walk_over, stored_as, step_as, cost_as, stopped_at}
 use Rattle.fplsa.proofs.walk.walk.Goals as goal

@@ -1,6 +1,6 @@
 use Rattle.std.proofs.Common.{◌≡◌, ◌≤◌, ◌+◌, ◌-◌}
-use Rattle.fpl_resume.specs.Walk.{walk_of, cost_of}
-use Rattle.fpl_resume.specs.Stops.{stored_in}
+use Rattle.fpl_walk.specs.Walk.{walk_of, cost_of}
+use Rattle.fpl_walk.specs.Stops.{stored_in}
 use Rattle.fplsa.specs.Start.{does_compute}
 use Rattle.fplsa.proofs.walk.walk.Given as goal
 

@@ -3,8 +3,8 @@ use Rattle.fpl_model.specs.declared.presentation.Presentation.{Presentation}
 use Rattle.fpl_table.specs.Plain.{PlainTable}
 use Rattle.fpl_table.specs.Standard.{IsTableOf, count_through}
 use Rattle.fpl_rewrite.specs.Origins.{origins_of}
-use Rattle.fpl_next.specs.Raised.{IsRaised}
-use Rattle.fpl_completion.specs.Section.{Computes, OverflowsAt}
+use Rattle.plain_tables.specs.Raised.{IsRaised}
+use Rattle.plain_weights.specs.Section.{Computes, OverflowsAt}
 use Rattle.fpl_complete.specs.State.{PlainState, section_at, unfit_of}
 use Rattle.fpl_complete.proofs.Onward.{front_stays, computed_more, within_more, cost_next, cost_whole}
 use Rattle.fpl_complete.proofs.state.State.raise.Goals as goal

@@ -1,5 +1,5 @@
 use Rattle.std.proofs.Common.{subst, All}
-use Rattle.fpl_sections.specs.Stored.{IsWritable}
+use Rattle.fpl_section_bytes.specs.Stored.{IsWritable}
 use Rattle.fpl_complete.specs.State.{PlainState, AreOfWeights}
 use Rattle.fpl_complete.proofs.state.State.sections.Goals as goal
 

@@ -1,8 +1,8 @@
 use Rattle.std.proofs.Common.{subst, sym, refl, arith, [], List}
 use Rattle.fpl_log.specs.declared.section.Section.{Section}
 use Rattle.fpl_table.specs.Plain.{PlainTable}
-use Rattle.fpl_next.specs.Raised.IsRaised.{started}
-use Rattle.fpl_next.proofs.Holding.{start_holds}
+use Rattle.plain_tables.specs.Raised.IsRaised.{started}
+use Rattle.plain_tables.proofs.Holding.{start_holds}
 use Rattle.fpl_complete.specs.State.{IsState}
 use Rattle.fpl_complete.proofs.Raising.{no_sections}
 use Rattle.fpl_complete.proofs.state.State.start.Goals as goal

@@ -1,7 +1,7 @@
 use Rattle.std.proofs.Common.{subst}
 use Rattle.fpl_table.specs.Standard.{IsTableOf}
-use Rattle.fpl_next.specs.Raised.{IsRaised}
-use Rattle.fpl_next.proofs.Holding.{held_is_table}
+use Rattle.plain_tables.specs.Raised.{IsRaised}
+use Rattle.plain_tables.proofs.Holding.{held_is_table}
 use Rattle.fpl_complete.specs.State.{PlainState}
 use Rattle.fpl_complete.proofs.state.State.table.Goals as goal
 

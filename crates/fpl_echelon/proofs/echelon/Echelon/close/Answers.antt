@@ -1,4 +1,4 @@
-use Rattle.fpl_elimination.proofs.Found.{close_means}
+use Rattle.plain_elimination.proofs.Found.{close_means}
 use Rattle.fpl_echelon.proofs.echelon.Echelon.close.Goals as goal
 
 pub returns-clause-form : goal.returns-clause-form

@@ -1,5 +1,5 @@
 use Rattle.std.proofs.Common.{◌∙◌, ap, sym, subst}
-use Rattle.fpl_elimination.specs.Plain.{Elimination}
+use Rattle.plain_elimination.specs.Plain.{Elimination}
 use Rattle.fpl_scalar.specs.Vectors.{AreElements}
 use Rattle.fpl_echelon.proofs.Contracts.{spans_with, pivots_after}
 use Rattle.fpl_echelon.proofs.echelon.Echelon.insert.Goals as goal

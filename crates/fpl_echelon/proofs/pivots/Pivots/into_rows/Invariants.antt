@@ -1,5 +1,5 @@
 use Rattle.std.proofs.Common.{◌≡◌, ◌++◌}
-use Rattle.fpl_elimination.specs.Plain.{rows_of}
+use Rattle.plain_elimination.specs.Plain.{rows_of}
 use Rattle.fpl_echelon.proofs.pivots.Pivots.into_rows.Given as goal
 
 abbrev pub invariant-loop-pivot : goal.invariant-loop-pivot

@@ -1,5 +1,5 @@
 use Rattle.std.proofs.Common.{refl, arith}
-use Rattle.fpl_algebra.specs.Degrees.{weight_of}
+use Rattle.math_algebra.specs.Degrees.{weight_of}
 use Rattle.fpl_model.specs.Meaning.{plain, presentation_in}
 use Rattle.fpl_model.proofs.Degrees.{shape_at, up_to}
 use Rattle.fpl_model.proofs.Plain.{plain_forms}

@@ -1,6 +1,6 @@
 use Rattle.std.proofs.Common.{◌≡◌, ◌≤◌, nat_eq, length, map, drop}
-use Rattle.fpl_algebra.specs.Tree.{trees}
-use Rattle.fpl_algebra.specs.Degrees.{of_both, weights_of}
+use Rattle.math_algebra.specs.Tree.{trees}
+use Rattle.math_algebra.specs.Degrees.{of_both, weights_of}
 use Rattle.fpl_model.specs.Meaning.{plain, trees_in, presentation_in}
 use Rattle.fpl_model.specs.Sound.{AreTerms, count_trees}
 use Rattle.fpl_model.specs.Degrees.{weight_degree}

@@ -1,7 +1,7 @@
 use Rattle.std.proofs.Common.{◌≡◌, ap, true, sym, ◌∙◌, arith}
 use Rattle.fpl_model.specs.Meaning.{plain}
 use Rattle.fpl_model.proofs.Plain.{plain-Gen}
-use Rattle.fpl_algebra.specs.Tree.{gen}
+use Rattle.math_algebra.specs.Tree.{gen}
 use Rattle.fpl_table.specs.Value.{is_light}
 use Rattle.fpl_table.proofs.Light.{light_generator}
 use Rattle.fpl_table.proofs.table.Table.+valuing.Goals as goal

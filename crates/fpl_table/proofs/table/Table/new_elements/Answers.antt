@@ -1,7 +1,7 @@
 use Rattle.std.proofs.Common.{◌≡◌, ◌<◌, length, get_or, refl, ap, sym, subst, ◌∙◌, arith}
 use Rattle.std.proofs.lemmas.List.{map-append, take_more, length-map}
 use Rattle.std.proofs.Math.ListN.{get_or-map}
-use Rattle.fpl_algebra.specs.Symbols.{no_symbol}
+use Rattle.math_algebra.specs.Symbols.{no_symbol}
 use Rattle.fpl_table.specs.declared.symbol.Symbol.TheVariants.{Gen}
 use Rattle.fpl_table.specs.Plain.{symbol_in, symbols_in, basis_in}
 use Rattle.fpl_table.specs.Shape.{IsOfTable, IsNumbered, symbol_tree_in, basis_trees}

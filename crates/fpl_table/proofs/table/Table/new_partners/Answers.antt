@@ -1,5 +1,5 @@
 use Rattle.std.proofs.Common.{◌≡◌, ◌<◌, ◌≤◌, ◌+◌, ◌-◌, suc, length, ap, sym, ◌∙◌, arith, add-one, append_assoc, append-nil, length-append}
-use Rattle.fpl_algebra.specs.Table.{of_pair}
+use Rattle.math_algebra.specs.Table.{of_pair}
 use Rattle.fpl_table.specs.Shape.{HasShape, IsRowUpTo}
 use Rattle.fpl_table.proofs.Lists.{all_push}
 use Rattle.fpl_table.specs.Push.{row_of_symbol, symbol_row}

@@ -1,5 +1,5 @@
 use Rattle.std.proofs.Common.{◌≡◌, ◌-◌, ◌+◌, ap, ap₂, refl, ◌∙◌, arith}
-use Rattle.fpl_algebra.specs.Tree.{bracket_of}
+use Rattle.math_algebra.specs.Tree.{bracket_of}
 use Rattle.fpl_model.specs.Meaning.{plain}
 use Rattle.fpl_model.proofs.Plain.{plain-Gen, plain-Br}
 use Rattle.fpl_table.proofs.Lists.{ok_more}

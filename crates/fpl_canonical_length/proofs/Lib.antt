@@ -1,4 +1,0 @@
-pub mod Sizes
-pub mod Costs
-pub mod Expressions
-pub mod Texts

@@ -1,5 +1,0 @@
-use Rattle.fpl_sections.proofs.Writable.{stored_is_writable}
-use Rattle.fpl_checkpoint_tests.proofs.tests.rewritten.Goals as goal
-
-pub section_bytes-requires : goal.section_bytes-requires
-section_bytes-requires c = stored_is_writable _ _ c.in_ok-section.ensures.found.0

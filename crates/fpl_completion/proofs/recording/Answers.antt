@@ -1,9 +1,0 @@
-use Rattle.fpl_completion.proofs.Completed.{weighed_in_order}
-use Rattle.fpl_completion.proofs.Recorded.{origins_counted}
-use Rattle.fpl_completion.proofs.recording.Goals as goal
-
-pub returns-clause-order : goal.returns-clause-order
-returns-clause-order c = λ p T h holds run. weighed_in_order p T holds h run
-
-pub returns-clause-origins : goal.returns-clause-origins
-returns-clause-origins c = λ p T h run. origins_counted T p h run

@@ -1,5 +1,0 @@
-use Rattle.fpl_fields.proofs.Divisors.{some_gcd}
-use Rattle.fpl_fields.proofs.numbers_have_gcds.Goals as goal
-
-pub returns : goal.returns
-returns c = some_gcd

@@ -1,5 +1,0 @@
-use Rattle.fpl_fields.proofs.Residues.{residue_inverse}
-use Rattle.fpl_fields.proofs.residues_have_inverses.Goals as goal
-
-pub returns : goal.returns
-returns c = λ p a prime h. let y = residue_inverse p prime a in (y.0, y.1 h)

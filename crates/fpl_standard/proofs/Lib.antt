@@ -1,4 +1,0 @@
-pub mod Agreement
-pub mod Main
-pub mod Views
-pub mod Standing

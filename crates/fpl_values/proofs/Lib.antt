@@ -1,4 +1,0 @@
-pub mod Products
-pub mod Parts
-pub mod Sound
-pub mod Soundness

@@ -1,0 +1,360 @@
+-- Fractions: (u, (v, d)) stands for (u - v) / (d + 1). The normal ones are in lowest terms.
+use Rattle.std.specs.Prelude.{ℕ, zero, suc, ◌≡◌, ◌≢◌, ◌<◌, ◌≤◌, ◌/◌, ◌+◌, ◌*◌, ◌-◌}
+use Rattle.std.specs.Int.{IsGcd}
+use mathlib.Core.Path.{refl, sym, ap, ap₂, ◌∙◌, subst, subst₂}
+use mathlib.Core.HLevel.{×_discrete}
+use native.Mathlib.Omega.{arith}
+use native.Mathlib.Decide.{ℕ_discrete, dec_le, dec_lt}
+use native.Mathlib.Nat.{add_comm, div-mul_cancel, pos_of_dvd_of_pos, eq_of_mul-eq-mul_right, mul-pos}
+use Rattle.math_fields.specs.Normal.{Normal}
+use Rattle.math_fields.proofs.Divisors.{some_gcd, quotients_apart, quotient_positive, lowest_equal}
+
+-- n'/e is n/d in lowest terms
+pub record Lowest (n d n' e : ℕ) : Type 0 where
+  pub by : ℕ
+  pub positive : 0 < by
+  pub above : n ≡ n' * by
+  pub below : d ≡ e * by
+  pub apart : IsGcd n' e 1
+
+lowest_of : (n d : ℕ) → 0 < d → (n' : ℕ) × ((k : ℕ) × Lowest n d n' (k + 1))
+lowest_of n d z = (
+  n / g,
+  (
+    d / g - 1,
+    record {
+      by = g;
+      positive = some;
+      above = sym (div-mul_cancel g is.0);
+      below = sym (div-mul_cancel g is.1) ∙ ap (λ w. w * g) (sym back);
+      apart = subst (λ w. IsGcd (n / g) w 1) (sym back) (quotients_apart n d g some is);
+    },
+  ),
+)
+  where
+    g : ℕ
+    g = (some_gcd n d).0
+
+    is : IsGcd n d g
+    is = (some_gcd n d).1
+
+    some : 0 < g
+    some = pos_of_dvd_of_pos is.1 z
+
+    back : d / g - 1 + 1 ≡ d / g
+    back = omega (arith, quotient_positive d g z is.1)
+
+lowest_same : (n d n' e m f m' h : ℕ) → 0 < d → 0 < f → Lowest n d n' e → Lowest m f m' h → n * f ≡ m * d → (n' ≡ m') × (e ≡ h)
+lowest_same n d n' e m f m' h z z' a b eq = lowest_equal n' e m' h positive a.apart b.apart crossed
+  where
+    positive : 0 < h
+    positive = from h b.below
+      where
+        from : (h : ℕ) → f ≡ h * b.by → 0 < h
+        from zero p = absurd (omega arith)
+        from (suc h) p = omega arith
+
+    crossed : n' * h ≡ m' * e
+    crossed =
+        eq_of_mul-eq-mul_right (a.by * b.by) (mul-pos a.positive b.positive) (n' * h) (m' * e)
+        (turn n' a.by h b.by ∙ ap₂ (λ u v. u * v) (sym a.above) (sym b.below) ∙ eq ∙ ap₂ (λ u v. u * v) b.above a.below ∙ turn' m' b.by e a.by)
+      where
+        turn : (p g q k : ℕ) → p * q * (g * k) ≡ p * g * (q * k)
+        turn p g q k = omega arith
+
+        turn' : (p g q k : ℕ) → p * g * (q * k) ≡ p * q * (k * g)
+        turn' p g q k = omega arith
+
+abbrev pub Ratio : Type 0
+Ratio = ℕ × (ℕ × ℕ)
+
+abbrev pub Alike : Ratio → Ratio → Type 0
+Alike x y = x.0 * (y.1.1 + 1) + y.1.0 * (x.1.1 + 1) ≡ y.0 * (x.1.1 + 1) + x.1.0 * (y.1.1 + 1)
+
+past_zero : (n : ℕ) → 0 < n + 1
+past_zero n = omega arith
+
+lowest_in : (x : Ratio) → Dec (x.1.0 ≤ x.0) → Ratio
+lowest_in x (yes h) = let t = lowest_of (x.0 - x.1.0) (x.1.1 + 1) (past_zero x.1.1) in (t.0, (0, t.1.0))
+lowest_in x (no h) = let t = lowest_of (x.1.0 - x.0) (x.1.1 + 1) (past_zero x.1.1) in (0, (t.0, t.1.0))
+
+pub lowest : Ratio → Ratio
+lowest x = lowest_in x (dec_le x.1.0 x.0)
+
+lowest_in_alike : (x : Ratio) (d : Dec (x.1.0 ≤ x.0)) → Alike (lowest_in x d) x
+unfolding lowest_in
+lowest_in_alike x (yes h) =
+    let t = lowest_of (x.0 - x.1.0) (x.1.1 + 1) (past_zero x.1.1) in
+    go x.0 x.1.0 (x.1.1 + 1) (t.1.0 + 1) t.0 t.1.1.by (omega (arith, t.1.1.above)) t.1.1.below
+  where
+    go : (u v d e n g : ℕ) → u ≡ v + n * g → d ≡ e * g → n * d + v * e ≡ u * e + 0 * d
+    go u v d e n g p q = omega (arith, ap (λ w. w * e) p, ap (λ w. n * w) q)
+lowest_in_alike x (no h) =
+    let t = lowest_of (x.1.0 - x.0) (x.1.1 + 1) (past_zero x.1.1) in
+    go x.0 x.1.0 (x.1.1 + 1) (t.1.0 + 1) t.0 t.1.1.by (omega (arith, t.1.1.above)) t.1.1.below
+  where
+    go : (u v d e n g : ℕ) → v ≡ u + n * g → d ≡ e * g → 0 * d + v * e ≡ u * e + n * d
+    go u v d e n g p q = omega (arith, ap (λ w. w * e) p, ap (λ w. n * w) q)
+
+pub lowest_alike : (x : Ratio) → Alike (lowest x) x
+unfolding lowest
+lowest_alike x = lowest_in_alike x (dec_le x.1.0 x.0)
+
+-- from what is alike, the differences
+cross : (u v a e u' v' b d : ℕ) → u ≡ v + a → u' ≡ v' + b → u * e + v' * d ≡ u' * d + v * e → a * e ≡ b * d
+cross u v a e u' v' b d p q h = omega (arith, ap (λ w. w * e) p, ap (λ w. w * d) q, h)
+
+not_cross : (u v a e u' v' b d : ℕ) → 0 < d → u ≡ v + a → v' ≡ u' + b → 0 < b → u * e + v' * d ≡ u' * d + v * e → ⊥
+not_cross u v a e u' v' b d z p q k h = omega (arith, ap (λ w. w * e) p, ap (λ w. w * d) q, h, mul-pos k z)
+
+cross_back : (u v a e u' v' b d : ℕ) → v ≡ u + a → v' ≡ u' + b → u * e + v' * d ≡ u' * d + v * e → a * e ≡ b * d
+cross_back u v a e u' v' b d p q h = omega (arith, ap (λ w. w * e) p, ap (λ w. w * d) q, h)
+
+not_cross_back : (u v a e u' v' b d : ℕ) → 0 < e → v ≡ u + a → u' ≡ v' + b → 0 < a → u * e + v' * d ≡ u' * d + v * e → ⊥
+not_cross_back u v a e u' v' b d z p q k h = omega (arith, ap (λ w. w * e) p, ap (λ w. w * d) q, h, mul-pos k z)
+
+lowest_in_same : (x y : Ratio) (c : Dec (x.1.0 ≤ x.0)) (d : Dec (y.1.0 ≤ y.0)) → Alike x y → lowest_in x c ≡ lowest_in y d
+unfolding lowest_in
+lowest_in_same x y (yes c) (yes d) h =
+    let s = lowest_of (x.0 - x.1.0) (x.1.1 + 1) (past_zero x.1.1) in
+    let t = lowest_of (y.0 - y.1.0) (y.1.1 + 1) (past_zero y.1.1) in
+    let e = lowest_same (x.0 - x.1.0) (x.1.1 + 1) s.0 (s.1.0 + 1) (y.0 - y.1.0) (y.1.1 + 1) t.0 (t.1.0 + 1) (past_zero x.1.1) (past_zero y.1.1) s.1.1 t.1.1
+    (cross x.0 x.1.0 (x.0 - x.1.0) (y.1.1 + 1) y.0 y.1.0 (y.0 - y.1.0) (x.1.1 + 1) (omega arith) (omega arith) h) in
+    let k : s.1.0 ≡ t.1.0 = omega (arith, e.1) in
+    ap₂ (λ n m. (n, (0, m))) e.0 k
+lowest_in_same x y (yes c) (no d) h =
+    absurd (not_cross x.0 x.1.0 (x.0 - x.1.0) (y.1.1 + 1) y.0 y.1.0 (y.1.0 - y.0) (x.1.1 + 1) (past_zero x.1.1) (omega arith) (omega arith) (omega arith) h)
+lowest_in_same x y (no c) (yes d) h =
+    absurd (not_cross_back x.0 x.1.0 (x.1.0 - x.0) (y.1.1 + 1) y.0 y.1.0 (y.0 - y.1.0) (x.1.1 + 1) (past_zero y.1.1) (omega arith) (omega arith) (omega arith) h)
+lowest_in_same x y (no c) (no d) h =
+    let s = lowest_of (x.1.0 - x.0) (x.1.1 + 1) (past_zero x.1.1) in
+    let t = lowest_of (y.1.0 - y.0) (y.1.1 + 1) (past_zero y.1.1) in
+    let e = lowest_same (x.1.0 - x.0) (x.1.1 + 1) s.0 (s.1.0 + 1) (y.1.0 - y.0) (y.1.1 + 1) t.0 (t.1.0 + 1) (past_zero x.1.1) (past_zero y.1.1) s.1.1 t.1.1
+    (cross_back x.0 x.1.0 (x.1.0 - x.0) (y.1.1 + 1) y.0 y.1.0 (y.1.0 - y.0) (x.1.1 + 1) (omega arith) (omega arith) h) in
+    let k : s.1.0 ≡ t.1.0 = omega (arith, e.1) in
+    ap₂ (λ n m. (0, (n, m))) e.0 k
+
+pub lowest_same_of : (x y : Ratio) → Alike x y → lowest x ≡ lowest y
+unfolding lowest
+lowest_same_of x y h = lowest_in_same x y (dec_le x.1.0 x.0) (dec_le y.1.0 y.0) h
+
+-- fractions with one normal form are alike
+pub alike_of_lowest : (x y : Ratio) → lowest x ≡ lowest y → Alike x y
+alike_of_lowest x y e =
+    go (lowest x) (lowest_alike x) (subst (λ w. Alike w y) (sym e) (lowest_alike y))
+  where
+    go : (z : Ratio) → Alike z x → Alike z y → Alike x y
+    go z p q = eq_of_mul-eq-mul_right (z.1.1 + 1) (past_zero z.1.1) _ _ (through z.0 z.1.0 (z.1.1 + 1) x.0 x.1.0 (x.1.1 + 1) y.0 y.1.0 (y.1.1 + 1) p q)
+      where
+        through : (u v d u' v' d' a b e : ℕ) → u * d' + v' * d ≡ u' * d + v * d' → u * e + b * d ≡ a * d + v * e → (u' * e + b * d') * d ≡ (a * d' + v' * e) * d
+        through u v d u' v' d' a b e p q = omega (arith, ap (λ w. w * e) p, ap (λ w. w * d') q)
+
+abbrev pub ratio_plus : Ratio → Ratio → Ratio
+ratio_plus x y = (x.0 * (y.1.1 + 1) + y.0 * (x.1.1 + 1), (x.1.0 * (y.1.1 + 1) + y.1.0 * (x.1.1 + 1), x.1.1 * y.1.1 + x.1.1 + y.1.1))
+
+abbrev pub ratio_times : Ratio → Ratio → Ratio
+ratio_times x y = (x.0 * y.0 + x.1.0 * y.1.0, (x.0 * y.1.0 + x.1.0 * y.0, x.1.1 * y.1.1 + x.1.1 + y.1.1))
+
+abbrev pub ratio_minus : Ratio → Ratio
+ratio_minus x = (x.1.0, (x.0, x.1.1))
+
+ratio : {a a' b b' c c' : ℕ} → a ≡ a' → b ≡ b' → c ≡ c' → Path Ratio (a, (b, c)) (a', (b', c'))
+ratio p q r i = (p i, (q i, r i))
+
+-- alike, with the denominators named
+pub alike_by : (x y : Ratio) (d e : ℕ) → x.1.1 + 1 ≡ d → y.1.1 + 1 ≡ e → x.0 * e + y.1.0 * d ≡ y.0 * d + x.1.0 * e → Alike x y
+alike_by x y d e p q h = subst₂ (λ d e. x.0 * e + y.1.0 * d ≡ y.0 * d + x.1.0 * e) (sym p) (sym q) h
+
+pub by_product : (d e : ℕ) → d * e + d + e + 1 ≡ (d + 1) * (e + 1)
+by_product d e = omega arith
+
+pub plus_alike : (x x' y : Ratio) → Alike x x' → Alike (ratio_plus x y) (ratio_plus x' y)
+plus_alike x x' y h =
+    alike_by (ratio_plus x y) (ratio_plus x' y) ((x.1.1 + 1) * (y.1.1 + 1)) ((x'.1.1 + 1) * (y.1.1 + 1)) (by_product _ _) (by_product _ _)
+    (go x.0 x.1.0 (x.1.1 + 1) x'.0 x'.1.0 (x'.1.1 + 1) y.0 y.1.0 (y.1.1 + 1) h)
+  where
+    go : (u v d u' v' d' a b e : ℕ) → u * d' + v' * d ≡ u' * d + v * d' →
+        (u * e + a * d) * (d' * e) + (v' * e + b * d') * (d * e) ≡ (u' * e + a * d') * (d * e) + (v * e + b * d) * (d' * e)
+    go u v d u' v' d' a b e h = omega (arith, ap (λ w. w * (e * e)) h)
+
+pub times_alike : (x x' y : Ratio) → Alike x x' → Alike (ratio_times x y) (ratio_times x' y)
+times_alike x x' y h =
+    alike_by (ratio_times x y) (ratio_times x' y) ((x.1.1 + 1) * (y.1.1 + 1)) ((x'.1.1 + 1) * (y.1.1 + 1)) (by_product _ _) (by_product _ _)
+    (go x.0 x.1.0 (x.1.1 + 1) x'.0 x'.1.0 (x'.1.1 + 1) y.0 y.1.0 (y.1.1 + 1) h)
+  where
+    go : (u v d u' v' d' a b e : ℕ) → u * d' + v' * d ≡ u' * d + v * d' →
+        (u * a + v * b) * (d' * e) + (u' * b + v' * a) * (d * e) ≡ (u' * a + v' * b) * (d * e) + (u * b + v * a) * (d' * e)
+    go u v d u' v' d' a b e h = omega (arith, ap (λ w. w * (a * e)) h, ap (λ w. w * (b * e)) h)
+
+pub minus_alike : (x x' : Ratio) → Alike x x' → Alike (ratio_minus x) (ratio_minus x')
+minus_alike x x' h = go (x.0 * (x'.1.1 + 1)) (x'.1.0 * (x.1.1 + 1)) (x'.0 * (x.1.1 + 1)) (x.1.0 * (x'.1.1 + 1)) h
+  where
+    go : (a b c d : ℕ) → a + b ≡ c + d → d + c ≡ b + a
+    go a b c d h = omega arith
+
+pub plus_assoc : (x y z : Ratio) → ratio_plus (ratio_plus x y) z ≡ ratio_plus x (ratio_plus y z)
+plus_assoc x y z = ratio (part x.0 x.1.1 y.0 y.1.1 z.0 z.1.1) (part x.1.0 x.1.1 y.1.0 y.1.1 z.1.0 z.1.1) (dens x.1.1 y.1.1 z.1.1)
+  where
+    part : (a d b e c f : ℕ) → (a * (e + 1) + b * (d + 1)) * (f + 1) + c * (d * e + d + e + 1) ≡ a * (e * f + e + f + 1) + (b * (f + 1) + c * (e + 1)) * (d + 1)
+    part a d b e c f = omega arith
+
+    dens : (d e f : ℕ) → (d * e + d + e) * f + (d * e + d + e) + f ≡ d * (e * f + e + f) + d + (e * f + e + f)
+    dens d e f = omega arith
+
+pub plus_comm : (x y : Ratio) → ratio_plus x y ≡ ratio_plus y x
+plus_comm x y = ratio (add_comm _ _) (add_comm _ _) (dens x.1.1 y.1.1)
+  where
+    dens : (d e : ℕ) → d * e + d + e ≡ e * d + e + d
+    dens d e = omega arith
+
+pub plus-nought : (x : Ratio) → ratio_plus x (0, (0, 0)) ≡ x
+plus-nought x = ratio (part x.0 x.1.1) (part x.1.0 x.1.1) (dens x.1.1)
+  where
+    part : (a d : ℕ) → a * (0 + 1) + 0 * (d + 1) ≡ a
+    part a d = omega arith
+
+    dens : (d : ℕ) → d * 0 + d + 0 ≡ d
+    dens d = omega arith
+
+pub plus-minus : (x : Ratio) → Alike (ratio_plus x (ratio_minus x)) (0, (0, 0))
+plus-minus x = go (x.0 * (x.1.1 + 1)) (x.1.0 * (x.1.1 + 1)) (x.1.1 * x.1.1 + x.1.1 + x.1.1 + 1)
+  where
+    go : (a b d : ℕ) → (a + b) * (0 + 1) + 0 * d ≡ 0 * d + (b + a) * (0 + 1)
+    go a b d = omega arith
+
+pub times_assoc : (x y z : Ratio) → ratio_times (ratio_times x y) z ≡ ratio_times x (ratio_times y z)
+times_assoc x y z = ratio (part x.0 x.1.0 y.0 y.1.0 z.0 z.1.0) (part x.0 x.1.0 y.0 y.1.0 z.1.0 z.0) (dens x.1.1 y.1.1 z.1.1)
+  where
+    part : (a a' b b' c c' : ℕ) → (a * b + a' * b') * c + (a * b' + a' * b) * c' ≡ a * (b * c + b' * c') + a' * (b * c' + b' * c)
+    part a a' b b' c c' = omega arith
+
+    dens : (d e f : ℕ) → (d * e + d + e) * f + (d * e + d + e) + f ≡ d * (e * f + e + f) + d + (e * f + e + f)
+    dens d e f = omega arith
+
+pub times_comm : (x y : Ratio) → ratio_times x y ≡ ratio_times y x
+times_comm x y = ratio (part x.0 x.1.0 y.0 y.1.0) (part' x.0 x.1.0 y.0 y.1.0) (dens x.1.1 y.1.1)
+  where
+    part : (a a' b b' : ℕ) → a * b + a' * b' ≡ b * a + b' * a'
+    part a a' b b' = omega arith
+
+    part' : (a a' b b' : ℕ) → a * b' + a' * b ≡ b * a' + b' * a
+    part' a a' b b' = omega arith
+
+    dens : (d e : ℕ) → d * e + d + e ≡ e * d + e + d
+    dens d e = omega arith
+
+pub times-unit : (x : Ratio) → ratio_times x (1, (0, 0)) ≡ x
+times-unit x = ratio (part x.0 x.1.0) (part' x.0 x.1.0) (dens x.1.1)
+  where
+    part : (a b : ℕ) → a * 1 + b * 0 ≡ a
+    part a b = omega arith
+
+    part' : (a b : ℕ) → a * 0 + b * 1 ≡ b
+    part' a b = omega arith
+
+    dens : (d : ℕ) → d * 0 + d + 0 ≡ d
+    dens d = omega arith
+
+pub times-plus : (x y z : Ratio) → Alike (ratio_times x (ratio_plus y z)) (ratio_plus (ratio_times x y) (ratio_times x z))
+times-plus x y z =
+    alike_by (ratio_times x (ratio_plus y z)) (ratio_plus (ratio_times x y) (ratio_times x z)) (d * (e * f)) ((d * e) * (d * f))
+    (by_product x.1.1 _ ∙ ap (λ w. d * w) (by_product y.1.1 z.1.1))
+    (by_product _ _ ∙ ap₂ (λ v w. v * w) (by_product x.1.1 y.1.1) (by_product x.1.1 z.1.1))
+    (rw (by_product x.1.1 y.1.1, by_product x.1.1 z.1.1) (go x.0 x.1.0 d y.0 y.1.0 e z.0 z.1.0 f))
+  where
+    d : ℕ
+    d = x.1.1 + 1
+
+    e : ℕ
+    e = y.1.1 + 1
+
+    f : ℕ
+    f = z.1.1 + 1
+
+    go : (a a' d b b' e c c' f : ℕ) →
+        (a * (b * f + c * e) + a' * (b' * f + c' * e)) * ((d * e) * (d * f)) + ((a * b' + a' * b) * (d * f) + (a * c' + a' * c) * (d * e)) * (d * (e * f))
+        ≡ ((a * b + a' * b') * (d * f) + (a * c + a' * c') * (d * e)) * (d * (e * f)) + (a * (b' * f + c' * e) + a' * (b * f + c * e)) * ((d * e) * (d * f))
+    go a a' d b b' e c c' f = omega arith
+
+-- an inverse, and 0 of 0
+inverse_in : (x : Ratio) → Dec (x.1.0 < x.0) → Dec (x.0 < x.1.0) → Ratio
+inverse_in x (yes h) d = (x.1.1 + 1, (0, x.0 - x.1.0 - 1))
+inverse_in x (no h) (yes k) = (0, (x.1.1 + 1, x.1.0 - x.0 - 1))
+inverse_in x (no h) (no k) = (0, (0, 0))
+
+inverse_in_is : (x : Ratio) (c : Dec (x.1.0 < x.0)) (d : Dec (x.0 < x.1.0)) → x.0 ≢ x.1.0 → Alike (ratio_times x (inverse_in x c d)) (1, (0, 0))
+unfolding inverse_in
+inverse_in_is x (yes h) d n =
+    alike_by (ratio_times x (x.1.1 + 1, (0, x.0 - x.1.0 - 1))) (1, (0, 0)) ((x.1.1 + 1) * (x.0 - x.1.0)) 1 (by_product _ _ ∙ ap (λ w. (x.1.1 + 1) * w) (omega arith)) refl
+    (go x.0 x.1.0 (x.1.1 + 1) (x.0 - x.1.0) (omega arith))
+  where
+    go : (u v d a : ℕ) → u ≡ v + a → (u * d + v * 0) * 1 + 0 * (d * a) ≡ 1 * (d * a) + (u * 0 + v * d) * 1
+    go u v d a p = omega (arith, ap (λ w. w * d) p)
+inverse_in_is x (no h) (yes k) n =
+    alike_by (ratio_times x (0, (x.1.1 + 1, x.1.0 - x.0 - 1))) (1, (0, 0)) ((x.1.1 + 1) * (x.1.0 - x.0)) 1 (by_product _ _ ∙ ap (λ w. (x.1.1 + 1) * w) (omega arith)) refl
+    (go x.0 x.1.0 (x.1.1 + 1) (x.1.0 - x.0) (omega arith))
+  where
+    go : (u v d a : ℕ) → v ≡ u + a → (u * 0 + v * d) * 1 + 0 * (d * a) ≡ 1 * (d * a) + (u * d + v * 0) * 1
+    go u v d a p = omega (arith, ap (λ w. w * d) p)
+inverse_in_is x (no h) (no k) n = absurd (n (omega arith))
+
+pub ratio_inverse : Ratio → Ratio
+ratio_inverse x = inverse_in x (dec_lt x.1.0 x.0) (dec_lt x.0 x.1.0)
+
+pub times-inverse : (x : Ratio) → lowest x ≢ lowest (0, (0, 0)) → Alike (ratio_times x (ratio_inverse x)) (1, (0, 0))
+unfolding ratio_inverse
+times-inverse x h =
+    inverse_in_is x (dec_lt x.1.0 x.0) (dec_lt x.0 x.1.0)
+    (λ e. h (lowest_same_of x (0, (0, 0)) (go x.0 x.1.0 (x.1.1 + 1) e)))
+  where
+    go : (u v d : ℕ) → u ≡ v → u * (0 + 1) + 0 * d ≡ 0 * d + v * (0 + 1)
+    go u v d e = omega arith
+
+pub unit≢nought : lowest (1, (0, 0)) ≢ lowest (0, (0, 0))
+unit≢nought e =
+    go (lowest (1, (0, 0))) (lowest_alike (1, (0, 0))) (subst (λ w. Alike w (0, (0, 0))) (sym e) (lowest_alike (0, (0, 0))))
+  where
+    go : (x : Ratio) → x.0 * (0 + 1) + 0 * (x.1.1 + 1) ≡ 1 * (x.1.1 + 1) + x.1.0 * (0 + 1) → x.0 * (0 + 1) + 0 * (x.1.1 + 1) ≡ 0 * (x.1.1 + 1) + x.1.0 * (0 + 1) → ⊥
+    go x p q = omega arith
+
+pub two≢nought : lowest (2, (0, 0)) ≢ lowest (0, (0, 0))
+two≢nought e =
+    go (lowest (2, (0, 0))) (lowest_alike (2, (0, 0))) (subst (λ w. Alike w (0, (0, 0))) (sym e) (lowest_alike (0, (0, 0))))
+  where
+    go : (x : Ratio) → x.0 * (0 + 1) + 0 * (x.1.1 + 1) ≡ 2 * (x.1.1 + 1) + x.1.0 * (0 + 1) → x.0 * (0 + 1) + 0 * (x.1.1 + 1) ≡ 0 * (x.1.1 + 1) + x.1.0 * (0 + 1) → ⊥
+    go x p q = omega arith
+
+pub three≢nought : lowest (3, (0, 0)) ≢ lowest (0, (0, 0))
+three≢nought e =
+    go (lowest (3, (0, 0))) (lowest_alike (3, (0, 0))) (subst (λ w. Alike w (0, (0, 0))) (sym e) (lowest_alike (0, (0, 0))))
+  where
+    go : (x : Ratio) → x.0 * (0 + 1) + 0 * (x.1.1 + 1) ≡ 3 * (x.1.1 + 1) + x.1.0 * (0 + 1) → x.0 * (0 + 1) + 0 * (x.1.1 + 1) ≡ 0 * (x.1.1 + 1) + x.1.0 * (0 + 1) → ⊥
+    go x p q = omega arith
+
+unfoldable pub fraction_normal : Normal
+fraction_normal = record {
+  Raw = Ratio;
+  same = ×_discrete ℕ_discrete (×_discrete ℕ_discrete ℕ_discrete);
+  norm = lowest;
+  nought = (0, (0, 0));
+  unit = (1, (0, 0));
+  plus = ratio_plus;
+  times = ratio_times;
+  minus = ratio_minus;
+  inverse = ratio_inverse;
+  norm_norm = λ x. lowest_same_of _ _ (lowest_alike x);
+  norm-plus = λ x y. lowest_same_of _ _ (plus_alike _ _ y (lowest_alike x));
+  norm-times = λ x y. lowest_same_of _ _ (times_alike _ _ y (lowest_alike x));
+  norm-minus = λ x. lowest_same_of _ _ (minus_alike _ _ (lowest_alike x));
+  plus_assoc = λ x y z. ap lowest (plus_assoc x y z);
+  plus_comm = λ x y. ap lowest (plus_comm x y);
+  plus-nought = λ x. ap lowest (plus-nought x);
+  plus-minus = λ x. lowest_same_of _ _ (plus-minus x);
+  times_assoc = λ x y z. ap lowest (times_assoc x y z);
+  times_comm = λ x y. ap lowest (times_comm x y);
+  times-unit = λ x. ap lowest (times-unit x);
+  times-plus = λ x y z. lowest_same_of _ _ (times-plus x y z);
+  times-inverse = λ x h. lowest_same_of _ _ (times-inverse x h);
+  unit≢nought = unit≢nought;
+  two≢nought = two≢nought;
+}

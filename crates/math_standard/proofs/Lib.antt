@@ -1,0 +1,10 @@
+pub mod Sweeps
+pub mod Next
+pub mod NextSound
+pub mod BuiltFacts
+pub mod NextTables
+pub mod Exists
+pub mod Agreement
+pub mod Main
+pub mod Views
+pub mod Standing

@@ -1,0 +1,12 @@
+pub mod Products
+pub mod Parts
+pub mod Sound
+pub mod Soundness
+pub mod Steps
+pub mod Sources
+pub mod Weights
+pub mod Relations
+pub mod RelationRows
+pub mod SymbolLists
+pub mod Facts
+pub mod SourceRows

@@ -1,0 +1,175 @@
+-- Over a prime every operation fits, so nothing in the plain run is refused.
+use Rattle.std.specs.Prelude.{ℕ, ◌+◌, ◌-◌, List, [], ◌∷◌, length, get_or, map, set, Option, Some, None, Result, Bool, true, false, cond, nat_eq, if◌then◌else◌}
+use mathlib.Core.Path.{refl}
+use Rattle.fpl_numbers.specs.declared.number.Num.{Num}
+use Rattle.fpl_numbers.specs.declared.number.Op.{Op}
+use Rattle.fpl_numbers.specs.declared.number.Op.TheVariants.{Add, Mul}
+use Rattle.fpl_numbers.specs.declared.number.Kind.{Kind}
+use Rattle.fpl_numbers.specs.declared.number.Kind.TheVariants.{Prime}
+use Rattle.fpl_numbers.specs.declared.number.Unfit.{Unfit}
+use Rattle.fpl_numbers.specs.Numbers.{operate, result_of, is_nought, residue, negative_of}
+use Rattle.fpl_numbers.specs.Results.{map_ok, and_then}
+use Rattle.fpl_scalar.specs.Vectors.{fused, axpy_of, scale_of}
+use Rattle.fpl_rows.specs.Positions.{lead_of}
+use Rattle.math_algebra.specs.Tree.{Tree, Trees, gen, none, sum_of, multiple, bracket_of as br, end, more}
+use Rattle.math_algebra.specs.Degrees.{weight_of}
+use Rattle.fpl_model.specs.declared.presentation.Equation.{Equation}
+use Rattle.fpl_model.specs.declared.presentation.Presentation.{Presentation}
+use Rattle.fpl_model.specs.Meaning.{plain}
+use Rattle.fpl_log.specs.declared.step.Origin.{Origin}
+use Rattle.fpl_log.specs.declared.step.Origin.TheVariants.{Relation, Jacobi, Cube, Row}
+use Rattle.plain_elimination.specs.Plain.{take_at, take_row, sweep_rows}
+use Rattle.fpl_table.specs.Plain.{PlainTable, plain_basis, entry_row, image_row, symbols_in, Pairing, nothing, plus, minus, pairing}
+use Rattle.fpl_table.specs.Value.{zero_row, padded, add_at, add_row, add_entry, add_product, bracket_with, bracket_from, bracket_of, is_light, value_of, values_of}
+use Rattle.fpl_rewrite.specs.Rows.{pair_place, generator_place, add_signed, add_outer, outer_with, outer_from, outer_of, counts, form_of, forms_of, relation_row_of, entry_if, spread, first_terms, second_terms, swapped, third_terms, jacobi_row_of, cube_row_of, equation_row, row_of_origin}
+use Rattle.plain_sources.specs.PrimeLaws.{DoesFit}
+use Rattle.plain_sources.proofs.Fits.{then_fits, map_fits}
+
+abbrev pub Always : Kind → Type 0
+Always kind = (op : Op) (a b : Num) → DoesFit (operate kind op a b)
+
+pub prime_always : (p : ℕ) → Always (Prime p)
+prime_always p op a b = (result_of (Prime p) op a b, refl)
+
+pub if_fits : {X : Type 0} (b : Bool) (r s : Result X Unfit) → DoesFit r → DoesFit s → DoesFit (if b then r else s)
+if_fits true r s h k = h
+if_fits false r s h k = k
+
+cond_fits : {X : Type 0} (b : Bool) (r s : Result X Unfit) → DoesFit r → DoesFit s → DoesFit (cond b r s)
+cond_fits true r s h k = h
+cond_fits false r s h k = k
+
+module _ (kind : Kind) (always : Always kind) where
+  pub add_at_fits : (v : List Num) (s : ℕ) (c : Num) → DoesFit (add_at kind v s c)
+  add_at_fits v s c = map_fits (λ x. set v s x) _ (always Add (get_or v s (residue 0)) c)
+
+  pub add_row_fits : (v x : List Num) → DoesFit (add_row kind v x)
+  add_row_fits [] x = ([], refl)
+  add_row_fits (v ∷ vs) [] = (v ∷ vs, refl)
+  add_row_fits (v ∷ vs) (x ∷ xs) = then_fits (λ s. map_ok (λ rest. s ∷ rest) (add_row kind vs xs)) _ (always Add v x) (λ s. map_fits (λ rest. s ∷ rest) _ (add_row_fits vs xs))
+
+  pub axpy_fits : (xs : List Num) (c : Num) (ys : List Num) → DoesFit (axpy_of kind xs c ys)
+  axpy_fits [] c ys = ([], refl)
+  axpy_fits (x ∷ xs) c [] = (x ∷ xs, refl)
+  axpy_fits (x ∷ xs) c (y ∷ ys) =
+      then_fits (λ s. map_ok (λ rest. s ∷ rest) (axpy_of kind xs c ys)) (fused kind x c y) (then_fits (λ m. operate kind Add x m) _ (always Mul c y) (λ m. always Add x m))
+      (λ s. map_fits (λ rest. s ∷ rest) _ (axpy_fits xs c ys))
+
+  pub scale_fits : (c : Num) (xs : List Num) → DoesFit (scale_of kind c xs)
+  scale_fits c [] = ([], refl)
+  scale_fits c (x ∷ xs) = then_fits (λ m. map_ok (λ rest. m ∷ rest) (scale_of kind c xs)) _ (always Mul c x) (λ m. map_fits (λ rest. m ∷ rest) _ (scale_fits c xs))
+
+  -- sweeping by closed rows
+  take_fits : (u : List Num) (o : Option ℕ) (v : List Num) → DoesFit (take_at kind u o v)
+  take_fits u None v = (v, refl)
+  take_fits u (Some s) v = if_fits (is_nought (get_or v (s - 1) (residue 0))) _ _ (v, refl) (axpy_fits v (negative_of kind (get_or v (s - 1) (residue 0))) u)
+
+  pub sweep_rows_fits : (us : List (List Num)) (v : List Num) → DoesFit (sweep_rows kind us v)
+  sweep_rows_fits [] v = (v, refl)
+  sweep_rows_fits (u ∷ us) v = then_fits (λ w. take_row kind u w) (sweep_rows kind us v) (sweep_rows_fits us v) (λ w. take_fits u (lead_of u) w)
+
+module _ (T : PlainTable) (always : Always T.kind) where
+  entry_fits : (i j : ℕ) (m : Num) (v : List Num) → DoesFit (add_entry T i j m v)
+  entry_fits i j m v = if_fits _ _ _ (axpy_fits T.kind always v m (entry_row T i j)) (v, refl)
+
+  product_fits : (pr : Pairing) (x y : Num) (v : List Num) → DoesFit (add_product T pr x y v)
+  product_fits nothing x y v = (v, refl)
+  product_fits (plus i j) x y v = then_fits (λ m. add_entry T i j m v) _ (always Mul x y) (λ m. entry_fits i j m v)
+  product_fits (minus i j) x y v = then_fits (λ m. add_entry T i j (negative_of T.kind m) v) _ (always Mul x y) (λ m. entry_fits i j (negative_of T.kind m) v)
+
+  with_fits : (i : ℕ) (x : Num) (j : ℕ) (ys v : List Num) → DoesFit (bracket_with T i x j ys v)
+  with_fits i x j [] v = (v, refl)
+  with_fits i x j (y ∷ ys) v = then_fits (λ w. bracket_with T i x (j + 1) ys w) _ (if_fits _ _ _ (v, refl) (product_fits (pairing T i j) x y v)) (λ w. with_fits i x (j + 1) ys w)
+
+  from_fits : (i : ℕ) (xs y v : List Num) → DoesFit (bracket_from T i xs y v)
+  from_fits i [] y v = (v, refl)
+  from_fits i (x ∷ xs) y v = then_fits (λ w. bracket_from T (i + 1) xs y w) _ (if_fits _ _ _ (v, refl) (with_fits i x 0 y v)) (λ w. from_fits (i + 1) xs y w)
+
+  pub bracket_fits : (x y : List Num) → DoesFit (bracket_of T x y)
+  bracket_fits x y = from_fits 0 x y (zero_row (length T.basis))
+
+  abbrev none_row : List Num
+  none_row = zero_row (length T.basis)
+
+  mutual
+    pub value_fits : (e : Tree Num) → DoesFit (value_of T e)
+    value_fits (gen g) = if_fits (is_light T (gen g)) _ _ (padded (length T.basis) (image_row T (g - 1)), refl) (none_row, refl)
+    value_fits none = (none_row, refl)
+    value_fits (sum_of es) = if_fits (is_light T (sum_of es)) _ _ (values_fit es none_row) (none_row, refl)
+    value_fits (multiple c e) = if_fits (is_light T (multiple c e)) _ _ (then_fits (scale_of T.kind c) _ (value_fits e) (λ x. scale_fits T.kind always c x)) (none_row, refl)
+    value_fits (br a b) =
+        if_fits (is_light T (br a b)) _ _ (then_fits (λ x. and_then (λ y. bracket_of T x y) (value_of T b)) _ (value_fits a) (λ x. then_fits (λ y. bracket_of T x y) _ (value_fits b) (λ y. bracket_fits x y)))
+        (none_row, refl)
+
+    pub values_fit : (es : Trees Num) (v : List Num) → DoesFit (values_of T es v)
+    values_fit end v = (v, refl)
+    values_fit (more e es) v =
+        then_fits (λ x. and_then (λ w. values_of T es w) (add_row T.kind v x)) _ (value_fits e) (λ x. then_fits (λ w. values_of T es w) _ (add_row_fits T.kind always v x) (λ w. values_fit es w))
+
+  signed_fits : (pr : Pairing) (c : Num) (v : List Num) → DoesFit (add_signed T pr c v)
+  signed_fits nothing c v = (v, refl)
+  signed_fits (plus i j) c v = add_at_fits T.kind always v (pair_place T i j) c
+  signed_fits (minus i j) c v = add_at_fits T.kind always v (pair_place T i j) (negative_of T.kind c)
+
+  outer_step_fits : (pr : Pairing) (x y : Num) (v : List Num) → DoesFit (add_outer T pr x y v)
+  outer_step_fits nothing x y v = (v, refl)
+  outer_step_fits (plus i j) x y v = then_fits (λ m. add_signed T (plus i j) m v) _ (always Mul x y) (λ m. signed_fits (plus i j) m v)
+  outer_step_fits (minus i j) x y v = then_fits (λ m. add_signed T (minus i j) m v) _ (always Mul x y) (λ m. signed_fits (minus i j) m v)
+
+  outer_with_fits : (i : ℕ) (x : Num) (j : ℕ) (ys v : List Num) → DoesFit (outer_with T i x j ys v)
+  outer_with_fits i x j [] v = (v, refl)
+  outer_with_fits i x j (y ∷ ys) v = then_fits (λ w. outer_with T i x (j + 1) ys w) _ (if_fits _ _ _ (v, refl) (outer_step_fits (pairing T i j) x y v)) (λ w. outer_with_fits i x (j + 1) ys w)
+
+  outer_from_fits : (i : ℕ) (xs y v : List Num) → DoesFit (outer_from T i xs y v)
+  outer_from_fits i [] y v = (v, refl)
+  outer_from_fits i (x ∷ xs) y v = then_fits (λ w. outer_from T (i + 1) xs y w) _ (if_fits _ _ _ (v, refl) (outer_with_fits i x 0 y v)) (λ w. outer_from_fits (i + 1) xs y w)
+
+  abbrev none_symbols : List Num
+  none_symbols = zero_row (length (symbols_in T))
+
+  mutual
+    unfolding weight_of
+
+    pub form_fits : (e : Tree Num) → DoesFit (form_of T e)
+    form_fits (gen g) = add_at_fits T.kind always none_symbols (generator_place T (g - 1)) (residue 1)
+    form_fits none = (none_symbols, refl)
+    form_fits (sum_of es) = forms_fit es none_symbols
+    form_fits (multiple c e) = if_fits (counts T (multiple c e)) _ _ (then_fits (scale_of T.kind c) _ (form_fits e) (λ x. scale_fits T.kind always c x)) (none_symbols, refl)
+    form_fits (br a b) =
+        if_fits (counts T (br a b)) _ _
+        (then_fits (λ x. and_then (λ y. outer_of T x y) (value_of T b)) _ (value_fits a) (λ x. then_fits (λ y. outer_of T x y) _ (value_fits b) (λ y. outer_from_fits 0 x y none_symbols)))
+        (none_symbols, refl)
+
+    pub forms_fit : (es : Trees Num) (v : List Num) → DoesFit (forms_of T es v)
+    forms_fit end v = (v, refl)
+    forms_fit (more e es) v =
+        then_fits (λ w. forms_of T es w) _ (if_fits (counts T e) _ _ (then_fits (λ x. add_row T.kind v x) _ (form_fits e) (λ x. add_row_fits T.kind always v x)) (v, refl)) (λ w. forms_fit es w)
+
+  relation_fits : (q : Equation) → DoesFit (relation_row_of T q)
+  relation_fits q =
+      then_fits (λ x. and_then (λ y. add_row T.kind x (map (negative_of T.kind) y)) (form_of T (plain q.right))) _ (form_fits (plain q.left))
+      (λ x. then_fits (λ y. add_row T.kind x (map (negative_of T.kind) y)) _ (form_fits (plain q.right)) (λ y. add_row_fits T.kind always x (map (negative_of T.kind) y)))
+
+  spread_fits : (step : ℕ → Num → List Num → Result (List Num) Unfit) → ((t : ℕ) (c : Num) (v : List Num) → DoesFit (step t c v)) → (t : ℕ) (cs v : List Num) → DoesFit (spread T step t cs v)
+  spread_fits step each t [] v = (v, refl)
+  spread_fits step each t (c ∷ cs) v = then_fits (λ w. spread T step (t + 1) cs w) _ (if_fits _ _ _ (v, refl) (each t c v)) (λ w. spread_fits step each (t + 1) cs w)
+
+  jacobi_fits : (i j k : ℕ) → DoesFit (jacobi_row_of T i j k)
+  jacobi_fits i j k =
+      then_fits (λ w. spread T (third_terms T i j) 0 (entry_if T i k) w) _
+      (then_fits (λ w. spread T (second_terms T k) 0 (entry_if T i j) w) _ (spread_fits (first_terms T i) (λ t c v. signed_fits (pairing T i t) c v) 0 (entry_if T j k) none_symbols)
+      (λ w. spread_fits (second_terms T k) (λ t c v. signed_fits (pairing T t k) (negative_of T.kind c) v) 0 (entry_if T i j) w))
+      (λ w. spread_fits (third_terms T i j) (λ t c v. signed_fits (pairing T j t) (swapped T (plain_basis T i).parity (plain_basis T j).parity c) v) 0 (entry_if T i k) w)
+
+  cube_fits : (i : ℕ) → DoesFit (cube_row_of T i)
+  cube_fits i = spread_fits (first_terms T i) (λ t c v. signed_fits (pairing T i t) c v) 0 (entry_if T i i) none_symbols
+
+  equation_fits : (qs : List Equation) (r : ℕ) → DoesFit (equation_row T qs r)
+  equation_fits [] r = (none_symbols, refl)
+  equation_fits (q ∷ qs) r = cond_fits (nat_eq r 1) _ _ (relation_fits q) (equation_fits qs (r - 1))
+
+  pub origin_fits : (p : Presentation) (o : Origin) → DoesFit (row_of_origin T p o)
+  origin_fits p (Relation r) = equation_fits p.relations r
+  origin_fits p (Jacobi i j k) = jacobi_fits (i - 1) (j - 1) (k - 1)
+  origin_fits p (Cube i) = cube_fits (i - 1)
+  origin_fits p (Row n) = (none_symbols, refl)

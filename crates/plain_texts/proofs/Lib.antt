@@ -1,0 +1,12 @@
+pub mod Trees
+pub mod Decimals
+pub mod Spelled
+pub mod Coefficients
+pub mod NameSymbols
+pub mod Written
+pub mod Lines
+pub mod Declarations
+pub mod Sizes
+pub mod Costs
+pub mod Expressions
+pub mod Texts
