@@ -3,7 +3,8 @@
 --   weight_degree d   the weight, or none, or two that differ
 --   parity_degree d   the parity, or none, or two that differ
 --   IsUpTo n d        where d is one weight, it is at most n
-use Rattle.std.specs.Prelude.{ℕ, ◌≤◌}
+--   is_exactly w d    whether d is the one weight w
+use Rattle.std.specs.Prelude.{ℕ, ◌≤◌, nat_eq, Bool, false}
 use Rattle.math_algebra.specs.Tree as algebra
 use Rattle.math_algebra.specs.Degrees as algebra_degrees
 use Rattle.fpl_model.specs.declared.degree.Degree as weight
@@ -24,3 +25,8 @@ abbrev pub IsUpTo : ℕ → weight.Degree → Type 0
 IsUpTo n weight.TheVariants.Any = Unit {0}
 IsUpTo n (weight.TheVariants.Exact w) = w ≤ n
 IsUpTo n weight.TheVariants.Mixed = Unit {0}
+
+abbrev pub is_exactly : ℕ → algebra_degrees.Degree ℕ → Bool
+is_exactly w algebra_degrees.any = false
+is_exactly w (algebra_degrees.exact v) = nat_eq v w
+is_exactly w algebra_degrees.mixed = false

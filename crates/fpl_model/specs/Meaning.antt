@@ -9,7 +9,7 @@
 --   equation_in k q     the two sides of an equation, over the field of kind k
 --   presentation_in p   the presentation over the numbers of its field
 --
--- Code and texts count generators from 1, the mathematics counts them from 0. The shift stands in in_field, and nowhere else.
+-- Code and texts count generators from 1, the mathematics counts them from 0: in trees the shift is made by in_field alone.
 use Rattle.std.specs.Prelude.{◌-◌, List, map}
 use Rattle.fpl_numbers.specs.declared.number.Num.{Num}
 use Rattle.fpl_numbers.specs.declared.number.Kind.{Kind}

@@ -3,7 +3,7 @@ ghost use Rattle.math_algebra.specs.Tree.{parity_sum, trees};
 ghost use Rattle.math_algebra.specs.Degrees.{of_both, of_bracket, same_parity, weight_of, weights_of, parity_of, parities_of, weight_of_both};
 ghost use Rattle.fpl_model.specs.Meaning.{plain, tree_in, trees_in, parity_in, presentation_in};
 ghost use Rattle.fpl_model.specs.Sound.{IsTerm, AreTerms, HaveWeights, count_tree, count_trees};
-ghost use Rattle.fpl_model.specs.Degrees.{weight_degree, parity_degree, IsUpTo};
+ghost use Rattle.fpl_model.specs.Degrees.{weight_degree, parity_degree, IsUpTo, is_exactly};
 
 use crate::{Equation, Expr, Exprs, Parity, Presentation};
 
@@ -176,5 +176,19 @@ impl Presentation {
     {
         let left = self.weight_of(&q.left);
         left.both(self.weight_of(&q.right))
+    }
+
+    /// Whether an equation has weight `w`, its two sides taken as one sum.
+    pub fn has_weight(&self, q: &Equation, w: u32) -> bool
+        requires weights { HaveWeights self.now.generators }
+        requires left { IsTerm self.now.field (length self.now.generators) (plain q.now.left) }
+        requires right { IsTerm self.now.field (length self.now.generators) (plain q.now.right) }
+        requires few { count_tree (plain q.now.left) + count_tree (plain q.now.right) < 2 ^ 40 }
+        ensures { result ≡ is_exactly w (weight_of_both (presentation_in self.now) (tree_in self.now.field q.now.left) (tree_in self.now.field q.now.right)) }
+    {
+        match self.equation_weight(q) {
+            Degree::Exact(v) => v == u64::from(w),
+            Degree::Any | Degree::Mixed => false,
+        }
     }
 }

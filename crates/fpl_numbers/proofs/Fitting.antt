@@ -9,7 +9,7 @@ use Rattle.fpl_numbers.specs.declared.number.Kind.TheVariants.{Rational, Prime}
 use Rattle.fpl_numbers.specs.declared.number.Op.{Op}
 use Rattle.fpl_numbers.specs.declared.number.Op.TheVariants.{Add, Mul}
 use Rattle.fpl_numbers.specs.declared.number.Unfit.{Unfit}
-use Rattle.fpl_numbers.specs.Numbers.{Fits, IsSmall, bound, is_within, left_part, right_part, both_parts, shared, common, sum_below, fraction_sum, fraction_product, fraction_fits, fits, negative_of, inverse_of, inverted, result_of, operate}
+use Rattle.fpl_numbers.specs.Numbers.{Fits, IsSmall, most_number, is_within, left_part, right_part, both_parts, shared, common, sum_below, fraction_sum, fraction_product, fraction_fits, fits, negative_of, inverse_of, inverted, result_of, operate}
 use Rattle.fpl_numbers.proofs.Integers.{abs-neg, abs-mul, abs-divided, abs-sum-le}
 
 both_true : (a b : Bool) → (a && b) ≡ true → (a ≡ true) × (b ≡ true)
@@ -43,11 +43,11 @@ from_operate kind op a b c e = go (record { op = op; a = a; b = b }) (fits kind 
 
 sum_fits : (a b : Num) → fraction_fits Add a b ≡ true → Fits Rational (fraction_sum a b)
 sum_fits a b h =
-    let d = both_true (is_within (left_part a b) && is_within (right_part a b) && is_within (both_parts a b)) (nat_le (sum_below a b) bound) h in
+    let d = both_true (is_within (left_part a b) && is_within (right_part a b) && is_within (both_parts a b)) (nat_le (sum_below a b) most_number) h in
     let t = both_true (is_within (left_part a b) && is_within (right_part a b)) (is_within (both_parts a b)) d.0 in
-    let m : unsigned_abs (both_parts a b) ≤ bound = within _ _ t.1 in
+    let m : unsigned_abs (both_parts a b) ≤ most_number = within _ _ t.1 in
     let q : unsigned_abs (both_parts a b) / shared a b ≤ unsigned_abs (both_parts a b) = div-le_self _ _ in
-    (subst (λ w. w ≤ bound) (sym (abs-divided (both_parts a b) (shared a b))) (omega arith), within _ _ d.1)
+    (subst (λ w. w ≤ most_number) (sym (abs-divided (both_parts a b) (shared a b))) (omega arith), within _ _ d.1)
 
 product_fits : (a b : Num) → fraction_fits Mul a b ≡ true → Fits Rational (fraction_product a b)
 product_fits a b h =
@@ -61,12 +61,12 @@ result_fits (Prime p) Add a b h = tt
 result_fits (Prime p) Mul a b h = tt
 
 pub negative_fits : (kind : Kind) (a : Num) → Fits kind a → Fits kind (negative_of kind a)
-negative_fits Rational a h = (subst (λ w. w ≤ bound) (sym (abs-neg a.numerator)) h.0, h.1)
+negative_fits Rational a h = (subst (λ w. w ≤ most_number) (sym (abs-neg a.numerator)) h.0, h.1)
 negative_fits (Prime p) a h = tt
 
-inverted_fits : (n d : ℤ) → unsigned_abs n ≤ bound → unsigned_abs d ≤ bound → Fits Rational (inverted n d)
+inverted_fits : (n d : ℤ) → unsigned_abs n ≤ most_number → unsigned_abs d ≤ most_number → Fits Rational (inverted n d)
 inverted_fits (pos n) d h k = (k, h)
-inverted_fits (negsuc n) d h k = (subst (λ w. w ≤ bound) (sym (abs-neg d)) k, h)
+inverted_fits (negsuc n) d h k = (subst (λ w. w ≤ most_number) (sym (abs-neg d)) k, h)
 
 pub inverse_fits : (kind : Kind) (a : Num) → Fits kind a → Fits kind (inverse_of kind a)
 inverse_fits Rational a h = inverted_fits a.numerator a.denominator h.0 h.1
@@ -83,15 +83,15 @@ small_sum_fits a b h k s =
     all_within (unsigned_abs (left_part a b)) (unsigned_abs (right_part a b)) (unsigned_abs (both_parts a b)) (sum_below a b) u v (abs-sum-le (left_part a b) (right_part a b)) s.1
   where
     all_within : (u v t d : ℕ) → u ≤ (2 ^ 63 - 1) * (2 ^ 63 - 1) → v ≤ (2 ^ 63 - 1) * (2 ^ 63 - 1) → t ≤ u + v → d < 2 ^ 63 →
-        (nat_le u bound && nat_le v bound && nat_le t bound && nat_le d bound) ≡ true
+        (nat_le u most_number && nat_le v most_number && nat_le t most_number && nat_le d most_number) ≡ true
     all_within u v t d p q r s =
-        all_true (is_within_is u bound (omega arith)) (is_within_is v bound (omega arith)) (is_within_is t bound (omega arith)) (is_within_is d bound (omega arith))
+        all_true (is_within_is u most_number (omega arith)) (is_within_is v most_number (omega arith)) (is_within_is t most_number (omega arith)) (is_within_is d most_number (omega arith))
 
 small_product_fits : (a b : Num) → IsSmall (fraction_product a b) → fraction_fits Mul a b ≡ true
 small_product_fits a b s = two_true (small_within (unsigned_abs (fraction_product a b).numerator) s.0) (small_within (unsigned_abs (fraction_product a b).denominator) s.1)
   where
-    small_within : (n : ℕ) → n < 2 ^ 63 → nat_le n bound ≡ true
-    small_within n l = is_within_is n bound (omega arith)
+    small_within : (n : ℕ) → n < 2 ^ 63 → nat_le n most_number ≡ true
+    small_within n l = is_within_is n most_number (omega arith)
 
 -- an operation fits where its operands and its exact result have parts below 2^63
 pub small_fits : (k : Kind) (op : Op) (a b : Num) → IsSmall a → IsSmall b → IsSmall (result_of k op a b) → fits k op a b ≡ true

@@ -9,9 +9,10 @@ use Prim.Native.Nat.{◌∣◌}
 use Rattle.std.proofs.lemmas.Nat.Gcd.{IsGcd-swap}
 use Rattle.math_fields.proofs.Divisors.{divisor_apart, apart-mul, quotients_apart, quotient_positive, lowest_equal}
 use Rattle.fpl_numbers.specs.declared.number.Num.{Num}
-use Rattle.fpl_numbers.specs.Numbers.{IsLowest, gcd, divided, fraction_product}
+use Rattle.math_fields.specs.Gcd.{gcd}
+use Rattle.fpl_numbers.specs.Numbers.{IsLowest, divided, fraction_product}
 use Rattle.fpl_numbers.specs.Kinds.{up_part, down_part}
-use Rattle.fpl_numbers.proofs.Gcd.{gcd_is}
+use Rattle.math_fields.proofs.Gcd.{gcd_is}
 use Rattle.fpl_numbers.proofs.Integers.{abs-mul, abs-divided, up_times, down_times, up-mul, down-mul, int_same}
 use Rattle.fpl_numbers.proofs.Fractions.{size, below, below_positive}
 

@@ -7,15 +7,18 @@ use native.Mathlib.Omega.{arith}
 use native.Mathlib.Nat.{div-mul_cancel, mul-pos, pos_of_dvd_of_pos, eq_of_mul-eq-mul_right}
 use Rattle.std.proofs.lemmas.Nat.Gcd.{IsGcd-swap}
 use Rattle.math_fields.proofs.Divisors.{quotients_apart, quotient_positive, lowest_equal}
-use Rattle.math_fields.proofs.Fractions.{Alike, alike_by, alike_of_lowest, by_product, fraction_normal, lowest, lowest_same_of, ratio_plus, ratio_times, ratio_minus}
-use Rattle.math_fields.proofs.FromNormal.{field_of_normal, number_same, right-plus, right-times}
+use Rattle.math_fields.specs.Ratios.{Alike, lowest, ratio_plus, ratio_times, ratio_minus}
+use Rattle.math_fields.proofs.Fractions.{alike_by, alike_of_lowest, by_product, lowest_same_of}
+use Rattle.math_fields.proofs.FromNormal.{number_same, right-plus, right-times}
 use Rattle.fpl_numbers.specs.declared.number.Num.{Num}
 use Rattle.fpl_numbers.specs.declared.number.Kind.TheVariants.{Rational}
-use Rattle.fpl_numbers.specs.Numbers.{IsLowest, common, left_part, right_part, both_parts, shared, sum_below, fraction_sum, fraction_product, negative_of, inverse_of, inverted, gcd, is_nought, is_zero_int}
+use Rattle.math_fields.specs.Gcd.{gcd}
+use Rattle.fpl_numbers.specs.Numbers.{IsLowest, common, left_part, right_part, both_parts, shared, sum_below, fraction_sum, fraction_product, negative_of, inverse_of, inverted, is_nought, is_zero_int}
+use Rattle.fpl_numbers.specs.Fields.{field_of_normal, fraction_normal}
 use Rattle.fpl_numbers.specs.Kinds.{up_part, down_part, field_of, number_of}
 use Rattle.fpl_numbers.specs.Reads.{ReadsExactly}
 use Rattle.fpl_numbers.proofs.Inverses.{inverse_same}
-use Rattle.fpl_numbers.proofs.Gcd.{gcd_is}
+use Rattle.math_fields.proofs.Gcd.{gcd_is}
 use Rattle.fpl_numbers.proofs.Integers.{abs_is, up-neg, down-neg, abs-neg, sum_parts, up-mul, down-mul, up_times, down_times, abs-divided, zero_int_is, nonzero_int_is, int_same, one_part, positive_is, positive_int}
 use Rattle.fpl_numbers.proofs.Fractions.{up, down, size, below, raw, suc_pred, below_positive, raw_alike}
 use Rattle.fpl_numbers.proofs.FractionSums.{is_g, is_h, h_below, sum_lowest}

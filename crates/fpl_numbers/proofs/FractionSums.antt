@@ -9,7 +9,7 @@ use Rattle.std.proofs.lemmas.Nat.Gcd.{IsGcd-swap}
 use Rattle.math_fields.proofs.Divisors.{gauss, divisor_apart, apart-mul, quotients_apart, quotient_positive}
 use Rattle.fpl_numbers.specs.declared.number.Num.{Num}
 use Rattle.fpl_numbers.specs.Numbers.{IsLowest, common, left_part, right_part, both_parts, shared, sum_below, fraction_sum}
-use Rattle.fpl_numbers.proofs.Gcd.{gcd_is}
+use Rattle.math_fields.proofs.Gcd.{gcd_is}
 use Rattle.fpl_numbers.proofs.Integers.{abs-mul, abs-divided, dvd_left_part, dvd_right_part, positive_int}
 use Rattle.fpl_numbers.proofs.Fractions.{size, below, below_positive}
 

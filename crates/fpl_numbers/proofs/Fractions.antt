@@ -1,7 +1,8 @@
 -- A fraction as the field's fraction that it stands for.
 use Rattle.std.specs.Prelude.{ℕ, zero, suc, pred, ◌≡◌, ◌<◌, ◌+◌, ◌*◌, unsigned_abs}
 use native.Mathlib.Omega.{arith}
-use Rattle.math_fields.proofs.Fractions.{Ratio, Alike, alike_by}
+use Rattle.math_fields.specs.Ratios.{Ratio, Alike}
+use Rattle.math_fields.proofs.Fractions.{alike_by}
 use Rattle.fpl_numbers.specs.declared.number.Num.{Num}
 use Rattle.fpl_numbers.specs.Numbers.{IsLowest}
 use Rattle.fpl_numbers.specs.Kinds.{up_part, down_part}

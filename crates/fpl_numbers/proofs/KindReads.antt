@@ -1,20 +1,18 @@
 -- Each kind that is a field: its prime is prime, and its exact operations are those of its field.
 use Rattle.std.specs.Prelude.{ℕ, ◌≡◌, ◌<◌, Bool, true, false}
 use mathlib.Core.Path.{refl, sym, ap, ◌∙◌, subst}
-use native.Mathlib.Decide.{ℕ_discrete}
-use Rattle.std.proofs.lemmas.List.Elements.{All-contains, All-from_recursion}
 use Rattle.math_fields.specs.Field.{Field}
-use Rattle.math_fields.specs.Residue.{IsPrime}
-use Rattle.fpl_numbers.specs.declared.number.TheConstants.{PRIMES}
+use Rattle.math_fields.specs.Primes.{IsPrime}
 use Rattle.fpl_numbers.specs.declared.number.Num.{Num}
 use Rattle.fpl_numbers.specs.declared.number.Kind.{Kind}
 use Rattle.fpl_numbers.specs.declared.number.Kind.TheVariants.{Rational, Prime}
 use Rattle.fpl_numbers.specs.declared.number.Op.TheVariants.{Add, Mul}
-use Rattle.fpl_numbers.specs.Numbers.{IsListed, IsField, IsElement}
-use Rattle.fpl_numbers.specs.Kinds.{Known, accepted, unknown, known, field_of, field_if, residue_in, number_of}
+use Rattle.fpl_numbers.specs.Numbers.{IsListed, is_listed, IsField, IsElement}
+use Rattle.fpl_numbers.specs.Kinds.{Known, accepted, unknown, known_if, known, field_of, field_if, residue_in, number_of}
 use Rattle.fpl_numbers.specs.Reads.{ReadsExactly, Reads}
 use Rattle.fpl_numbers.proofs.Fitting.{from_operate, result_fits, negative_fits, inverse_fits}
 use Rattle.fpl_numbers.proofs.FractionReads.{fraction_reads}
+use Rattle.fpl_numbers.proofs.Listed.{listed_passes, test_prime}
 use Rattle.fpl_numbers.proofs.Inverses.{inverse-times}
 use Rattle.fpl_numbers.proofs.ResidueReads.{residue_reads}
 
@@ -22,20 +20,16 @@ abbrev pub is_accepted : (p : ℕ) → Known p → Bool
 is_accepted p (accepted h l) = true
 is_accepted p unknown = false
 
-pub listed_known : (p : ℕ) → IsListed p → is_accepted p (known p) ≡ true
-unfolding ℕ_discrete
-listed_known p h =
-    All-contains (λ q. is_accepted q (known q) ≡ true) PRIMES p
-    (All-from_recursion (λ q. is_accepted q (known q) ≡ true) PRIMES (refl, (refl, (refl, (refl, (refl, (refl, (refl, (refl, (refl, (refl, (refl, (refl, (refl, (refl, (refl, tt))))))))))))))))
-    h
+passes_known : (p : ℕ) (b : Bool) (e : is_listed p ≡ b) → b ≡ true → is_accepted p (known_if p b e) ≡ true
+passes_known p true e h = refl
+passes_known p false e h = absurd (let k : ⊥ = cc in k)
 
-accepted_prime : (p : ℕ) (k : Known p) → is_accepted p k ≡ true → IsPrime p × (2 < p)
-accepted_prime p (accepted h l) e = (h, l)
-accepted_prime p unknown e = absurd (let k : ⊥ = cc in k)
+pub listed_known : (p : ℕ) → IsListed p → is_accepted p (known p) ≡ true
+listed_known p h = passes_known p (is_listed p) refl (listed_passes p h)
 
 -- each accepted prime is prime, and odd
 pub listed_prime : (p : ℕ) → IsListed p → IsPrime p × (2 < p)
-listed_prime p h = accepted_prime p (known p) (listed_known p h)
+listed_prime p h = test_prime p (listed_passes p h)
 
 accepted_reads : (p : ℕ) (k : Known p) → is_accepted p k ≡ true → ReadsExactly (Prime p) (field_if p k) (residue_in p k)
 accepted_reads p (accepted h l) e = residue_reads p h l

@@ -1,5 +1,6 @@
 pub mod Integers
-pub mod Gcd
+pub mod Listed
+pub mod Onto
 pub mod Inverses
 pub mod Fractions
 pub mod FractionSums

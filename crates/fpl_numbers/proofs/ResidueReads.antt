@@ -4,12 +4,13 @@ use mathlib.Core.Path.{sym, refl, ap, ◌∙◌, subst}
 use native.Mathlib.Omega.{arith}
 use native.Mathlib.Nat.{mod-mod, add-mod, mod-lt, mod-eq_of_lt, mul_comm, zero-mod}
 use Rattle.std.proofs.lemmas.Nat.{mul-mod, mul-mod_first}
-use Rattle.math_fields.specs.Residue.{IsPrime}
-use Rattle.math_fields.proofs.FromNormal.{field_of_normal, number_same}
-use Rattle.math_fields.proofs.Residues.{residue_normal, inverse_exists}
+use Rattle.math_fields.specs.Primes.{IsPrime}
+use Rattle.math_fields.proofs.FromNormal.{number_same}
+use Rattle.math_fields.proofs.Residues.{inverse_exists}
 use Rattle.fpl_numbers.specs.declared.number.Num.{Num}
 use Rattle.fpl_numbers.specs.declared.number.Kind.TheVariants.{Prime}
 use Rattle.fpl_numbers.specs.Numbers.{IsNumber, residue, residue_of, is_nought, inverse_below, inverse_of}
+use Rattle.fpl_numbers.specs.Fields.{field_of_normal, residue_normal}
 use Rattle.fpl_numbers.specs.Kinds.{accepted, field_if, residue_in}
 use Rattle.fpl_numbers.specs.Reads.{ReadsExactly}
 use Rattle.fpl_numbers.proofs.Integers.{zero_int_is, nonzero_int_is}

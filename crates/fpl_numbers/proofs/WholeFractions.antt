@@ -6,9 +6,10 @@ use native.Mathlib.Nat.{div-one, one-dvd, dvd_refl}
 use Rattle.std.proofs.lemmas.Nat.Gcd.{same_from_IsGcd}
 use Rattle.fpl_numbers.specs.declared.number.Num.{Num}
 use Rattle.fpl_numbers.specs.declared.number.Op.TheVariants.{Add, Mul}
-use Rattle.fpl_numbers.specs.Numbers.{bound, is_within, gcd, divided, left_part, right_part, both_parts, shared, sum_below, fraction_sum, fraction_product, fraction_fits}
+use Rattle.math_fields.specs.Gcd.{gcd}
+use Rattle.fpl_numbers.specs.Numbers.{most_number, is_within, divided, left_part, right_part, both_parts, shared, sum_below, fraction_sum, fraction_product, fraction_fits}
 use Rattle.fpl_numbers.specs.Kinds.{up_part, down_part}
-use Rattle.fpl_numbers.proofs.Gcd.{gcd_is}
+use Rattle.math_fields.proofs.Gcd.{gcd_is}
 use Rattle.fpl_numbers.proofs.Integers.{up-mul, down-mul, up-divided, down-divided, int_same}
 
 pub gcd-one : (n : ℕ) → gcd n 1 ≡ 1
@@ -23,7 +24,7 @@ divided-one z = int_same (divided z 1) z (ap₂ (λ u v. u + v) (up-divided z 1 
 num_same : {n n' d d' : ℤ} → n ≡ n' → d ≡ d' → Path Num (record { numerator = n; denominator = d }) (record { numerator = n'; denominator = d' })
 num_same p q i = record { numerator = p i; denominator = q i }
 
-pub within_true : (n : ℕ) → n ≤ bound → nat_le n bound ≡ true
+pub within_true : (n : ℕ) → n ≤ most_number → nat_le n most_number ≡ true
 within_true n h = grind arith
 
 -- a number over 1
@@ -49,14 +50,14 @@ module _ (n m : ℤ) where
   pub whole_sum_is : fraction_sum (over_one n) (over_one m) ≡ over_one (n +ℤ m)
   whole_sum_is = num_same (ap₂ divided both_is shared_is ∙ divided-one (n +ℤ m)) (ap pos below_is)
 
-  pub whole_sum_fits : unsigned_abs n ≤ bound → unsigned_abs m ≤ bound → fraction_fits Add (over_one n) (over_one m) ≡ is_within (n +ℤ m)
+  pub whole_sum_fits : unsigned_abs n ≤ most_number → unsigned_abs m ≤ most_number → fraction_fits Add (over_one n) (over_one m) ≡ is_within (n +ℤ m)
   whole_sum_fits h k =
       ap₂ (λ x y. x && y)
       (ap₂ (λ x y. x && y) (ap₂ (λ x y. x && y) (ap is_within left_is ∙ within_true (unsigned_abs n) h) (ap is_within right_is ∙ within_true (unsigned_abs m) k)) (ap is_within both_is))
-      (ap (λ w. nat_le w bound) below_is)
+      (ap (λ w. nat_le w most_number) below_is)
       ∙ and_true (is_within (n +ℤ m))
     where
-      and_true : (b : Bool) → (true && true && b && nat_le 1 bound) ≡ b
+      and_true : (b : Bool) → (true && true && b && nat_le 1 most_number) ≡ b
       and_true true = refl
       and_true false = refl
 

@@ -3,13 +3,14 @@ use Rattle.std.specs.Prelude.{ℕ, zero, suc, ◌≡◌, ◌<◌, ◌≤◌, ◌
 use mathlib.Core.Path.{refl, sym, ap, ap₂, ◌∙◌, subst}
 use native.Mathlib.Omega.{arith}
 use native.Mathlib.Nat.{one-dvd, dvd_refl, mod-lt, mod-mod, mod-add-mod, add-mod, add-mul-mod_self_left, div-add-mod}
-use Rattle.math_fields.proofs.Fractions.{fraction_normal, lowest, lowest_same_of, ratio_plus}
-use Rattle.math_fields.proofs.FromNormal.{field_of_normal, number_same, right-plus}
-use Rattle.math_fields.proofs.Residues.{residue_normal}
+use Rattle.math_fields.specs.Ratios.{lowest, ratio_plus}
+use Rattle.math_fields.proofs.Fractions.{lowest_same_of}
+use Rattle.math_fields.proofs.FromNormal.{number_same, right-plus}
 use Rattle.fpl_numbers.specs.declared.number.Num.{Num}
 use Rattle.fpl_numbers.specs.declared.number.Kind.{Kind}
 use Rattle.fpl_numbers.specs.declared.number.Kind.TheVariants.{Rational, Prime}
 use Rattle.fpl_numbers.specs.Numbers.{IsField, IsNumber, IsLowest, is_nought, product_of, inverse_of}
+use Rattle.fpl_numbers.specs.Fields.{field_of_normal, residue_normal, fraction_normal}
 use Rattle.fpl_numbers.specs.Kinds.{Known, accepted, unknown, known, up_part, down_part, field_of, field_if, residue_in, number_of}
 use Rattle.fpl_numbers.specs.Quotients.{residue_below, whole, quotient_of}
 use Rattle.fpl_numbers.proofs.Fractions.{raw, raw_alike}

@@ -1,13 +1,14 @@
 -- Exact numbers of either kind, of any size; which of them fit; and what an operation answers.
 --
---   IsListed p            p is one of the accepted primes
+--   accepted_primes       the accepted primes, ascending
+--   IsListed p            p is one of them
+--   is_listed p           the test for it
 --   IsField kind          the fractions, or the residues modulo an accepted prime
 --   residue n             the residue n as a number
 --   residue_of a          the residue that a number is
---   gcd a b               the greatest common divisor
 --   IsNumber kind a       a is canonical: a residue below the prime, or a fraction in lowest terms over a positive denominator
---   bound                 the greatest magnitude that fits, 2^127 - 1
---   Fits kind a           numerator and denominator are within the bound
+--   most_number           the greatest magnitude that fits, 2^127 - 1
+--   Fits kind a           numerator and denominator are at most that
 --   IsElement kind a      a is canonical, and fits
 --   is_nought a           a is 0
 --   sum_of, product_of    the exact sum and product
@@ -16,9 +17,10 @@
 --   fits kind op a b      the operation fits: a residue's always; a product where its result does; a sum where also what stands on the way does
 --   IsSmall a             numerator and denominator are below 2^63
 --   operate kind op a b   the exact result, or the operation with its operands where it does not fit
-use Rattle.std.specs.Prelude.{◌≡◌, ℕ, zero, suc, ◌+◌, ◌-◌, ◌*◌, ◌%◌, ◌/◌, ◌^◌, ◌<◌, ◌≤◌, Bool, true, false, cond, ◌&&◌, nat_le, nat_eq, if◌then◌else◌, ℤ, pos, negsuc, unsigned_abs, ◌+ℤ◌, ◌*ℤ◌, neg_ℤ, ◌<ℤ◌, Result, Ok, Err, Contains}
+use Rattle.std.specs.Prelude.{◌≡◌, ℕ, zero, suc, ◌+◌, ◌-◌, ◌*◌, ◌%◌, ◌/◌, ◌^◌, ◌<◌, ◌≤◌, Bool, true, false, cond, ◌&&◌, nat_le, nat_eq, if◌then◌else◌, List, [], ◌∷◌, ◌==◌, ℤ, pos, negsuc, unsigned_abs, ◌+ℤ◌, ◌*ℤ◌, neg_ℤ, ◌<ℤ◌, Result, Ok, Err, Contains}
 use Rattle.std.specs.Int.{IsGcd}
-use Rattle.fpl_numbers.specs.declared.number.TheConstants.{PRIMES}
+use Rattle.std.specs.List.{list_any}
+use Rattle.math_fields.specs.Gcd.{gcd}
 use Rattle.fpl_numbers.specs.declared.number.Num.{Num}
 use Rattle.fpl_numbers.specs.declared.number.Kind.{Kind}
 use Rattle.fpl_numbers.specs.declared.number.Kind.TheVariants.{Rational, Prime}
@@ -26,8 +28,14 @@ use Rattle.fpl_numbers.specs.declared.number.Op.{Op}
 use Rattle.fpl_numbers.specs.declared.number.Op.TheVariants.{Add, Mul}
 use Rattle.fpl_numbers.specs.declared.number.Unfit.{Unfit}
 
+abbrev pub accepted_primes : List ℕ
+accepted_primes = 3 ∷ 5 ∷ 7 ∷ 11 ∷ 13 ∷ 17 ∷ 19 ∷ 23 ∷ 29 ∷ 31 ∷ 101 ∷ 251 ∷ 10007 ∷ 32003 ∷ 65521 ∷ []
+
 abbrev pub IsListed : ℕ → Type 0
-IsListed p = Contains PRIMES p
+IsListed p = Contains accepted_primes p
+
+abbrev pub is_listed : ℕ → Bool
+is_listed p = list_any (λ q. p == q) accepted_primes
 
 abbrev pub IsField : Kind → Type 0
 IsField Rational = Unit {0}
@@ -39,14 +47,6 @@ residue n = record { numerator = pos n; denominator = pos 1 }
 abbrev pub residue_of : Num → ℕ
 residue_of a = unsigned_abs a.numerator
 
--- Euclid's algorithm, in at most n turns
-unfoldable pub gcd_within : ℕ → ℕ → ℕ → ℕ
-gcd_within zero a b = a
-gcd_within (suc n) a b = cond (nat_eq b 0) a (gcd_within n b (a % b))
-
-unfoldable pub gcd : ℕ → ℕ → ℕ
-gcd a b = gcd_within (b + 1) a b
-
 -- a fraction in lowest terms over a positive denominator
 pub record IsLowest (a : Num) : Type 0 where
   pub positive : pos 0 <ℤ a.denominator
@@ -56,11 +56,11 @@ abbrev pub IsNumber : Kind → Num → Type 0
 IsNumber Rational a = IsLowest a
 IsNumber (Prime p) a = (residue_of a < p) × (a ≡ residue (residue_of a))
 
-abbrev pub bound : ℕ
-bound = 2 ^ 127 - 1
+abbrev pub most_number : ℕ
+most_number = 2 ^ 127 - 1
 
 abbrev pub Fits : Kind → Num → Type 0
-Fits Rational a = (unsigned_abs a.numerator ≤ bound) × (unsigned_abs a.denominator ≤ bound)
+Fits Rational a = (unsigned_abs a.numerator ≤ most_number) × (unsigned_abs a.denominator ≤ most_number)
 Fits (Prime p) a = Unit {0}
 
 abbrev pub IsElement : Kind → Num → Type 0
@@ -138,10 +138,10 @@ result_of kind Add a b = sum_of kind a b
 result_of kind Mul a b = product_of kind a b
 
 abbrev pub is_within : ℤ → Bool
-is_within n = nat_le (unsigned_abs n) bound
+is_within n = nat_le (unsigned_abs n) most_number
 
 abbrev pub fraction_fits : Op → Num → Num → Bool
-fraction_fits Add a b = is_within (left_part a b) && is_within (right_part a b) && is_within (both_parts a b) && nat_le (sum_below a b) bound
+fraction_fits Add a b = is_within (left_part a b) && is_within (right_part a b) && is_within (both_parts a b) && nat_le (sum_below a b) most_number
 fraction_fits Mul a b = is_within (fraction_product a b).numerator && is_within (fraction_product a b).denominator
 
 abbrev pub fits : Kind → Op → Num → Num → Bool

@@ -1,7 +1,8 @@
 -- Plain numbers that are read as the numbers of a field.
 --
 --   ReadsExactly kind K value   value carries the canonical numbers of the kind, of any size, and their exact operations into K
---   Reads kind K value          the same of the elements, which are canonical and fit, and of operations that fit
+--   IsReadOnto kind K value     each number of K is the value of a canonical number of the kind
+--   Reads kind K value          the same as the first of the elements, which are canonical and fit, and of operations that fit
 use Rattle.std.specs.Prelude.{◌≡◌, ◌≢◌, Ok, true, false}
 use Rattle.math_fields.specs.Field.{Field}
 use Rattle.fpl_numbers.specs.declared.number.Num.{Num}
@@ -17,6 +18,9 @@ pub record ReadsExactly (kind : Kind) (K : Field) (value : Num → K.Carrier) : 
   pub product : (a b : Num) → IsNumber kind a → IsNumber kind b → IsNumber kind (product_of kind a b) × (value (product_of kind a b) ≡ K.times (value a) (value b))
   pub negative : (a : Num) → IsNumber kind a → IsNumber kind (negative_of kind a) × (value (negative_of kind a) ≡ K.minus (value a))
   pub inverse : (a : Num) → IsNumber kind a → is_nought a ≡ false → IsNumber kind (inverse_of kind a) × (value (inverse_of kind a) ≡ K.inverse (value a))
+
+abbrev pub IsReadOnto : (kind : Kind) (K : Field) → (Num → K.Carrier) → Type 0
+IsReadOnto kind K value = (x : K.Carrier) → (a : Num) × IsNumber kind a × (value a ≡ x)
 
 pub record Reads (kind : Kind) (K : Field) (value : Num → K.Carrier) : Type 0 where
   pub zero_is : (a : Num) → IsElement kind a → is_nought a ≡ true → value a ≡ K.nought

@@ -2,15 +2,16 @@
 
 ghost use Rattle.std.specs.Prelude.{◌≡◌, ◌<◌, ◌+ℤ◌, ◌↔◌, ℕ, ℤ, pos, true, Ok, None, IfSome};
 ghost use Rattle.std.specs.Int.{IsGcd};
-ghost use Rattle.math_fields.specs.Residue.{IsPrime};
+ghost use Rattle.math_fields.specs.Primes.{IsPrime};
 ghost use Rattle.fpl_numbers.specs.declared.number.Kind.{Kind};
 ghost use Rattle.fpl_numbers.specs.declared.number.Kind.TheVariants.{Prime};
 ghost use Rattle.fpl_numbers.specs.declared.number.Num.{Num};
 ghost use Rattle.fpl_numbers.specs.declared.number.Op.{Op};
-ghost use Rattle.fpl_numbers.specs.Numbers.{IsListed, IsField, IsNumber, IsSmall, gcd, fits, operate, result_of};
+ghost use Rattle.math_fields.specs.Gcd.{gcd};
+ghost use Rattle.fpl_numbers.specs.Numbers.{IsListed, IsField, IsNumber, IsSmall, fits, operate, result_of};
 ghost use Rattle.fpl_numbers.specs.Kinds.{field_of, number_of};
 ghost use Rattle.fpl_numbers.specs.Quotients.{quotient_of, whole};
-ghost use Rattle.fpl_numbers.specs.Reads.{Reads, ReadsExactly};
+ghost use Rattle.fpl_numbers.specs.Reads.{Reads, ReadsExactly, IsReadOnto};
 
 /// Each accepted prime is prime, and odd.
 pub fn primes_are_prime()
@@ -20,9 +21,11 @@ pub fn primes_are_prime()
 
 /// Canonical numbers of any size stand for the numbers of their field, different ones for
 /// different ones, and their exact sum, product, negative and inverse are canonical and those of
-/// the field. So do numbers that fit, with the operations that fit.
+/// the field. The field has no other numbers. Numbers that fit, with the operations that
+/// fit, stand for them too.
 pub fn numbers_are_of_their_field()
     ensures exact { (k : Kind) → IsField k → ReadsExactly k (field_of k) (number_of k) }
+    ensures every { (k : Kind) → IsField k → IsReadOnto k (field_of k) (number_of k) }
     ensures elements { (k : Kind) → IsField k → Reads k (field_of k) (number_of k) }
 {}
 

@@ -8,4 +8,4 @@ pub use laws::{
     gcd_is_greatest, numbers_are_of_their_field, primes_are_prime, quotients_are_of_their_field,
     residues_fit, small_operations_fit, whole_numbers_are_sums_of_units,
 };
-pub use number::{Fault, Kind, Num, Op, PRIMES, Unfit};
+pub use number::{Fault, Kind, Num, Op, PRIMES, Unfit, is_listed};

@@ -1,3 +1,6 @@
+ghost use Rattle.std.specs.Prelude.{◌≡◌};
+ghost use Rattle.fpl_numbers.specs.Numbers.{is_listed};
+
 use std::alloc::AllocError;
 use thiserror::Error;
 
@@ -55,3 +58,10 @@ impl From<AllocError> for Fault {
 pub const PRIMES: [u32; 15] = [
     3, 5, 7, 11, 13, 17, 19, 23, 29, 31, 101, 251, 10007, 32003, 65521,
 ];
+
+/// Whether `p` is an accepted prime.
+pub fn is_listed(p: u128) -> bool
+    ensures { result ≡ is_listed p }
+{
+    PRIMES.iter().any(|q| p == u128::from(*q))
+}

@@ -172,7 +172,7 @@ module _ {N : Type 0} (P : Presentation N) where
   equation_parity e f h k n = both_parities (parity_of P e) (parity_of P f) e f (parity_means h) (parity_means k) n
 
 -- void expressions, by a test
-either_true : (a b : Bool) → (a || b) ≡ true → (a ≡ true) ⊎ (b ≡ true)
+pub either_true : (a b : Bool) → (a || b) ≡ true → (a ≡ true) ⊎ (b ≡ true)
 either_true true b e = inl refl
 either_true false b e = inr e
 
@@ -194,7 +194,7 @@ mutual
   voids_test void_end = refl
   voids_test (void_more h k) = ap₂ (λ a b. a && b) (void_test h) (voids_test k)
 
-both_true : (a b : Bool) → (a && b) ≡ true → (a ≡ true) × (b ≡ true)
+pub both_true : (a b : Bool) → (a && b) ≡ true → (a ≡ true) × (b ≡ true)
 both_true true b e = (refl, e)
 both_true false b e = absurd (grind arith)
 

@@ -1,9 +1,11 @@
 pub mod Tree
 pub mod Degrees
+pub mod Parities
 pub mod Derives
 pub mod Table
 pub mod Symbols
 pub mod SourceRows
+pub mod Extending
 pub mod Built
 pub mod Standard
 pub mod NextTable

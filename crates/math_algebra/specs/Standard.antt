@@ -12,7 +12,7 @@ use Rattle.math_algebra.specs.Tree.{gen, none, multiple, bracket_of, Presentatio
 use Rattle.math_algebra.specs.Derives.{Derives, Expression, sum_all}
 use Rattle.math_algebra.specs.Table.{Table, weight_at, IsRegular, IsOf}
 use Rattle.math_algebra.specs.Symbols.{symbols, symbol_at, symbol_tree}
-use Rattle.math_algebra.specs.Built.{AreThose, AddsBasis, Keeps, IsEmpty}
+use Rattle.math_algebra.specs.Extending.{AreThose, AddsBasis, Keeps, IsEmpty}
 
 unfoldable pub combined : (K : Field) → (ℕ → Expression K) → ℕ → Vector K → Expression K
 combined K tree zero v = none

@@ -1,46 +1,43 @@
 -- The symbols of a weight, in their order, and the place of each, counted from 0.
 --
---   joined                          the lists f 0, .., f (n - 1), one after the other
---   is_odd, is_regular              the test for an odd element, and for a pair that is a symbol of the weight after the table's
---   generators_of, pairs_of         the generators of the next weight in their order, and the regular pairs of it in lexicographic order
---   symbols                         the symbols of the next weight, generators first
---   symbols_of                      the symbols of any weight
+--   is_odd                          the test for an odd element
+--   is_regular, is_pair_of          the test for a regular pair, and for one of a weight
+--   generators_of, pairs_of         the generators of a weight in their order, and the regular pairs of it in lexicographic order
+--   symbols_of                      the symbols of a weight, generators first
+--   symbols                         those of the weight after the table's
 --   symbol_at                       the symbol at a place
 --   same_symbol, place_of           the first place of a symbol in a list
 --   pair_number, generator_number   the places of a pair and of a generator among the symbols of the next weight
 --   symbol_parity                   the parity of a symbol
 --   symbol_tree                     the expression that a symbol stands for, from those of the basis elements
 --   IsSymbol                        what the symbols of the next weight are
-use Rattle.std.specs.Prelude.{ℕ, zero, suc, List, [], ◌∷◌, ◌++◌, ◌≡◌, ◌+◌, ◌<◌, length, get_or, Bool, true, false, cond, nat_lt, nat_eq, ◌&&◌}
+use Rattle.std.specs.Prelude.{ℕ, suc, List, [], ◌∷◌, ◌++◌, ◌≡◌, ◌+◌, ◌<◌, length, get_or, Bool, true, false, cond, nat_lt, nat_eq, ◌&&◌}
 use Rattle.math_fields.specs.Field.{Field}
+use Rattle.math_linear.specs.Lists.{joined}
 use Rattle.math_algebra.specs.Tree.{Tree, gen, bracket_of, Parity, even, odd, parity_sum, Presentation, generator}
 use Rattle.math_algebra.specs.Table.{Table, Symbol, of_generator, of_pair, weight_at, parity_at, IsRegular}
-
-unfoldable pub joined : ℕ → (ℕ → List Symbol) → List Symbol
-joined zero f = []
-joined (suc n) f = joined n f ++ f n
 
 abbrev pub is_odd : Parity → Bool
 is_odd even = false
 is_odd odd = true
 
 abbrev pub is_regular : {K : Field} → Table K → ℕ → ℕ → Bool
-is_regular T i j = cond (nat_eq (weight_at T i + weight_at T j) (suc T.weight)) (cond (nat_lt i j) true (cond (nat_eq i j) (is_odd (parity_at T i)) false)) false
+is_regular T i j = cond (nat_lt i j) true (cond (nat_eq i j) (is_odd (parity_at T i)) false)
 
-abbrev pub generators_of : {K : Field} → Presentation K.Carrier → Table K → List Symbol
-generators_of P T = joined (length P.generators) (λ g. cond (nat_eq (generator P g).weight (suc T.weight)) (of_generator g ∷ []) [])
+abbrev pub is_pair_of : {K : Field} → Table K → ℕ → ℕ → ℕ → Bool
+is_pair_of T w i j = cond (nat_eq (weight_at T i + weight_at T j) w) (is_regular T i j) false
 
-abbrev pub pairs_of : {K : Field} → Table K → List Symbol
-pairs_of T = joined (length T.basis) (λ i. joined (length T.basis) (λ j. cond (is_regular T i j) (of_pair i j ∷ []) []))
+abbrev pub generators_of : {N : Type 0} → Presentation N → ℕ → List Symbol
+generators_of P w = joined (length P.generators) (λ g. cond (nat_eq (generator P g).weight w) (of_generator g ∷ []) [])
 
-unfoldable pub symbols : {K : Field} → Presentation K.Carrier → Table K → List Symbol
-symbols P T = generators_of P T ++ pairs_of T
+abbrev pub pairs_of : {K : Field} → Table K → ℕ → List Symbol
+pairs_of T w = joined (length T.basis) (λ i. joined (length T.basis) (λ j. cond (is_pair_of T w i j) (of_pair i j ∷ []) []))
 
 unfoldable pub symbols_of : {K : Field} → Presentation K.Carrier → Table K → ℕ → List Symbol
-symbols_of P T w =
-    joined (length P.generators) (λ g. cond (nat_eq (generator P g).weight w) (of_generator g ∷ []) [])
-    ++ joined (length T.basis)
-    (λ i. joined (length T.basis) (λ j. cond (cond (nat_eq (weight_at T i + weight_at T j) w) (cond (nat_lt i j) true (cond (nat_eq i j) (is_odd (parity_at T i)) false)) false) (of_pair i j ∷ []) []))
+symbols_of P T w = generators_of P w ++ pairs_of T w
+
+unfoldable pub symbols : {K : Field} → Presentation K.Carrier → Table K → List Symbol
+symbols P T = symbols_of P T (suc T.weight)
 
 abbrev pub no_symbol : Symbol
 no_symbol = of_generator 0

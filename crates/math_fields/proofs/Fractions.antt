@@ -1,13 +1,14 @@
--- Fractions: (u, (v, d)) stands for (u - v) / (d + 1). The normal ones are in lowest terms.
+-- Laws of fractions as raw numbers, up to their lowest terms.
 use Rattle.std.specs.Prelude.{ℕ, zero, suc, ◌≡◌, ◌≢◌, ◌<◌, ◌≤◌, ◌/◌, ◌+◌, ◌*◌, ◌-◌}
 use Rattle.std.specs.Int.{IsGcd}
 use mathlib.Core.Path.{refl, sym, ap, ap₂, ◌∙◌, subst, subst₂}
-use mathlib.Core.HLevel.{×_discrete}
 use native.Mathlib.Omega.{arith}
 use native.Mathlib.Decide.{ℕ_discrete, dec_le, dec_lt}
-use native.Mathlib.Nat.{add_comm, div-mul_cancel, pos_of_dvd_of_pos, eq_of_mul-eq-mul_right, mul-pos}
-use Rattle.math_fields.specs.Normal.{Normal}
-use Rattle.math_fields.proofs.Divisors.{some_gcd, quotients_apart, quotient_positive, lowest_equal}
+use native.Mathlib.Nat.{zero-div, add_comm, div-mul_cancel, pos_of_dvd_of_pos, eq_of_mul-eq-mul_right, mul-pos}
+use Rattle.math_fields.specs.Gcd.{gcd}
+use Rattle.math_fields.specs.Ratios.{Ratio, Alike, lowest, ratio_plus, ratio_times, ratio_minus, inverse_in, ratio_inverse}
+use Rattle.math_fields.proofs.Gcd.{gcd_is}
+use Rattle.math_fields.proofs.Divisors.{quotients_apart, quotient_positive, lowest_equal}
 
 -- n'/e is n/d in lowest terms
 pub record Lowest (n d n' e : ℕ) : Type 0 where
@@ -33,10 +34,10 @@ lowest_of n d z = (
 )
   where
     g : ℕ
-    g = (some_gcd n d).0
+    g = gcd n d
 
     is : IsGcd n d g
-    is = (some_gcd n d).1
+    is = gcd_is n d
 
     some : 0 < g
     some = pos_of_dvd_of_pos is.1 z
@@ -65,11 +66,8 @@ lowest_same n d n' e m f m' h z z' a b eq = lowest_equal n' e m' h positive a.ap
         turn' : (p g q k : ℕ) → p * g * (q * k) ≡ p * q * (k * g)
         turn' p g q k = omega arith
 
-abbrev pub Ratio : Type 0
-Ratio = ℕ × (ℕ × ℕ)
-
-abbrev pub Alike : Ratio → Ratio → Type 0
-Alike x y = x.0 * (y.1.1 + 1) + y.1.0 * (x.1.1 + 1) ≡ y.0 * (x.1.1 + 1) + x.1.0 * (y.1.1 + 1)
+ratio : {a a' b b' c c' : ℕ} → a ≡ a' → b ≡ b' → c ≡ c' → Path Ratio (a, (b, c)) (a', (b', c'))
+ratio p q r i = (p i, (q i, r i))
 
 past_zero : (n : ℕ) → 0 < n + 1
 past_zero n = omega arith
@@ -78,8 +76,21 @@ lowest_in : (x : Ratio) → Dec (x.1.0 ≤ x.0) → Ratio
 lowest_in x (yes h) = let t = lowest_of (x.0 - x.1.0) (x.1.1 + 1) (past_zero x.1.1) in (t.0, (0, t.1.0))
 lowest_in x (no h) = let t = lowest_of (x.1.0 - x.0) (x.1.1 + 1) (past_zero x.1.1) in (0, (t.0, t.1.0))
 
-pub lowest : Ratio → Ratio
-lowest x = lowest_in x (dec_le x.1.0 x.0)
+-- one of the two differences is 0, so that the lowest terms are those of the other
+lowest_is : (x : Ratio) (d : Dec (x.1.0 ≤ x.0)) → lowest x ≡ lowest_in x d
+unfolding lowest lowest_in lowest_of
+lowest_is x (yes h) = up (x.0 - x.1.0) (x.1.0 - x.0) (x.1.1 + 1) (omega arith)
+  where
+    up : (n m d : ℕ) → m ≡ 0 → Path Ratio (n / gcd (n + m) d, (m / gcd (n + m) d, d / gcd (n + m) d - 1)) (n / gcd n d, (0, d / gcd n d - 1))
+    up n m d e =
+        let f : n + m ≡ n = omega arith in
+        ratio (ap (λ w. n / gcd w d) f) (ap (λ w. w / gcd (n + m) d) e ∙ zero-div _) (ap (λ w. d / gcd w d - 1) f)
+lowest_is x (no h) = down (x.0 - x.1.0) (x.1.0 - x.0) (x.1.1 + 1) (omega arith)
+  where
+    down : (n m d : ℕ) → n ≡ 0 → Path Ratio (n / gcd (n + m) d, (m / gcd (n + m) d, d / gcd (n + m) d - 1)) (0, (m / gcd m d, d / gcd m d - 1))
+    down n m d e =
+        let f : n + m ≡ m = omega arith in
+        ratio (ap (λ w. w / gcd (n + m) d) e ∙ zero-div _) (ap (λ w. m / gcd w d) f) (ap (λ w. d / gcd w d - 1) f)
 
 lowest_in_alike : (x : Ratio) (d : Dec (x.1.0 ≤ x.0)) → Alike (lowest_in x d) x
 unfolding lowest_in
@@ -97,8 +108,7 @@ lowest_in_alike x (no h) =
     go u v d e n g p q = omega (arith, ap (λ w. w * e) p, ap (λ w. n * w) q)
 
 pub lowest_alike : (x : Ratio) → Alike (lowest x) x
-unfolding lowest
-lowest_alike x = lowest_in_alike x (dec_le x.1.0 x.0)
+lowest_alike x = subst (λ w. Alike w x) (sym (lowest_is x (dec_le x.1.0 x.0))) (lowest_in_alike x (dec_le x.1.0 x.0))
 
 -- from what is alike, the differences
 cross : (u v a e u' v' b d : ℕ) → u ≡ v + a → u' ≡ v' + b → u * e + v' * d ≡ u' * d + v * e → a * e ≡ b * d
@@ -135,8 +145,7 @@ lowest_in_same x y (no c) (no d) h =
     ap₂ (λ n m. (0, (n, m))) e.0 k
 
 pub lowest_same_of : (x y : Ratio) → Alike x y → lowest x ≡ lowest y
-unfolding lowest
-lowest_same_of x y h = lowest_in_same x y (dec_le x.1.0 x.0) (dec_le y.1.0 y.0) h
+lowest_same_of x y h = lowest_is x _ ∙ lowest_in_same x y (dec_le x.1.0 x.0) (dec_le y.1.0 y.0) h ∙ sym (lowest_is y _)
 
 -- fractions with one normal form are alike
 pub alike_of_lowest : (x y : Ratio) → lowest x ≡ lowest y → Alike x y
@@ -148,18 +157,6 @@ alike_of_lowest x y e =
       where
         through : (u v d u' v' d' a b e : ℕ) → u * d' + v' * d ≡ u' * d + v * d' → u * e + b * d ≡ a * d + v * e → (u' * e + b * d') * d ≡ (a * d' + v' * e) * d
         through u v d u' v' d' a b e p q = omega (arith, ap (λ w. w * e) p, ap (λ w. w * d') q)
-
-abbrev pub ratio_plus : Ratio → Ratio → Ratio
-ratio_plus x y = (x.0 * (y.1.1 + 1) + y.0 * (x.1.1 + 1), (x.1.0 * (y.1.1 + 1) + y.1.0 * (x.1.1 + 1), x.1.1 * y.1.1 + x.1.1 + y.1.1))
-
-abbrev pub ratio_times : Ratio → Ratio → Ratio
-ratio_times x y = (x.0 * y.0 + x.1.0 * y.1.0, (x.0 * y.1.0 + x.1.0 * y.0, x.1.1 * y.1.1 + x.1.1 + y.1.1))
-
-abbrev pub ratio_minus : Ratio → Ratio
-ratio_minus x = (x.1.0, (x.0, x.1.1))
-
-ratio : {a a' b b' c c' : ℕ} → a ≡ a' → b ≡ b' → c ≡ c' → Path Ratio (a, (b, c)) (a', (b', c'))
-ratio p q r i = (p i, (q i, r i))
 
 -- alike, with the denominators named
 pub alike_by : (x y : Ratio) (d e : ℕ) → x.1.1 + 1 ≡ d → y.1.1 + 1 ≡ e → x.0 * e + y.1.0 * d ≡ y.0 * d + x.1.0 * e → Alike x y
@@ -276,12 +273,6 @@ times-plus x y z =
         ≡ ((a * b + a' * b') * (d * f) + (a * c + a' * c') * (d * e)) * (d * (e * f)) + (a * (b' * f + c' * e) + a' * (b * f + c * e)) * ((d * e) * (d * f))
     go a a' d b b' e c c' f = omega arith
 
--- an inverse, and 0 of 0
-inverse_in : (x : Ratio) → Dec (x.1.0 < x.0) → Dec (x.0 < x.1.0) → Ratio
-inverse_in x (yes h) d = (x.1.1 + 1, (0, x.0 - x.1.0 - 1))
-inverse_in x (no h) (yes k) = (0, (x.1.1 + 1, x.1.0 - x.0 - 1))
-inverse_in x (no h) (no k) = (0, (0, 0))
-
 inverse_in_is : (x : Ratio) (c : Dec (x.1.0 < x.0)) (d : Dec (x.0 < x.1.0)) → x.0 ≢ x.1.0 → Alike (ratio_times x (inverse_in x c d)) (1, (0, 0))
 unfolding inverse_in
 inverse_in_is x (yes h) d n =
@@ -297,9 +288,6 @@ inverse_in_is x (no h) (yes k) n =
     go : (u v d a : ℕ) → v ≡ u + a → (u * 0 + v * d) * 1 + 0 * (d * a) ≡ 1 * (d * a) + (u * d + v * 0) * 1
     go u v d a p = omega (arith, ap (λ w. w * d) p)
 inverse_in_is x (no h) (no k) n = absurd (n (omega arith))
-
-pub ratio_inverse : Ratio → Ratio
-ratio_inverse x = inverse_in x (dec_lt x.1.0 x.0) (dec_lt x.0 x.1.0)
 
 pub times-inverse : (x : Ratio) → lowest x ≢ lowest (0, (0, 0)) → Alike (ratio_times x (ratio_inverse x)) (1, (0, 0))
 unfolding ratio_inverse
@@ -330,31 +318,3 @@ three≢nought e =
   where
     go : (x : Ratio) → x.0 * (0 + 1) + 0 * (x.1.1 + 1) ≡ 3 * (x.1.1 + 1) + x.1.0 * (0 + 1) → x.0 * (0 + 1) + 0 * (x.1.1 + 1) ≡ 0 * (x.1.1 + 1) + x.1.0 * (0 + 1) → ⊥
     go x p q = omega arith
-
-unfoldable pub fraction_normal : Normal
-fraction_normal = record {
-  Raw = Ratio;
-  same = ×_discrete ℕ_discrete (×_discrete ℕ_discrete ℕ_discrete);
-  norm = lowest;
-  nought = (0, (0, 0));
-  unit = (1, (0, 0));
-  plus = ratio_plus;
-  times = ratio_times;
-  minus = ratio_minus;
-  inverse = ratio_inverse;
-  norm_norm = λ x. lowest_same_of _ _ (lowest_alike x);
-  norm-plus = λ x y. lowest_same_of _ _ (plus_alike _ _ y (lowest_alike x));
-  norm-times = λ x y. lowest_same_of _ _ (times_alike _ _ y (lowest_alike x));
-  norm-minus = λ x. lowest_same_of _ _ (minus_alike _ _ (lowest_alike x));
-  plus_assoc = λ x y z. ap lowest (plus_assoc x y z);
-  plus_comm = λ x y. ap lowest (plus_comm x y);
-  plus-nought = λ x. ap lowest (plus-nought x);
-  plus-minus = λ x. lowest_same_of _ _ (plus-minus x);
-  times_assoc = λ x y z. ap lowest (times_assoc x y z);
-  times_comm = λ x y. ap lowest (times_comm x y);
-  times-unit = λ x. ap lowest (times-unit x);
-  times-plus = λ x y z. lowest_same_of _ _ (times-plus x y z);
-  times-inverse = λ x h. lowest_same_of _ _ (times-inverse x h);
-  unit≢nought = unit≢nought;
-  two≢nought = two≢nought;
-}

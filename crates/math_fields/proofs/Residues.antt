@@ -1,12 +1,11 @@
--- The residues modulo a prime are a field.
+-- The residues modulo a prime have the laws of a field.
 use Rattle.std.specs.Prelude.{ℕ, zero, suc, ◌≡◌, ◌≢◌, ◌<◌, ◌%◌, ◌/◌, ◌+◌, ◌*◌, ◌-◌}
 use mathlib.Core.Path.{sym, ap, ◌∙◌}
 use native.Mathlib.Omega.{arith}
 use native.Mathlib.Decide.{ℕ_discrete}
-use native.Mathlib.Nat.{mod-mod, mod-add-mod, add_assoc, add_comm, mul_assoc, mul_comm, mul-one, add-zero, mod-lt, mod-eq_of_lt, div-add-mod, mul-add, add-mul-mod_self_left, mod_self, zero-mod}
+use native.Mathlib.Nat.{mod-add-mod, mod-lt, mod-eq_of_lt, div-add-mod, add-mul-mod_self_left, mod_self, zero-mod}
 use Rattle.std.proofs.lemmas.Nat.{mul-mod_first}
-use Rattle.math_fields.specs.Normal.{Normal}
-use Rattle.math_fields.specs.Residue.{IsPrime}
+use Rattle.math_fields.specs.Primes.{IsPrime}
 
 -- a number x with a * x ≡ 1 modulo p
 abbrev pub InverseOf : ℕ → ℕ → Type 0
@@ -50,44 +49,16 @@ module _ (p : ℕ) (prime : IsPrime p) where
   pub residue_inverse : (x : ℕ) → (y : ℕ) × (x % p ≢ 0 → x * y % p ≡ 1)
   residue_inverse x = inverse_in x (ℕ_discrete (x % p) 0)
 
-  unfoldable pub residue_normal : 2 < p → Normal
-  residue_normal past_two = record {
-    Raw = ℕ;
-    same = ℕ_discrete;
-    norm = λ x. x % p;
-    nought = 0;
-    unit = 1;
-    plus = λ x y. x + y;
-    times = λ x y. x * y;
-    minus = λ x. p - x % p;
-    inverse = λ x. (residue_inverse x).0;
-    norm_norm = λ x. mod-mod x p;
-    norm-plus = λ x y. mod-add-mod x p y;
-    norm-times = λ x y. mul-mod_first x y p;
-    norm-minus = λ x. ap (λ w. (p - w) % p) (mod-mod x p);
-    plus_assoc = λ x y z. ap (λ w. w % p) (add_assoc x y z);
-    plus_comm = λ x y. ap (λ w. w % p) (add_comm x y);
-    plus-nought = λ x. ap (λ w. w % p) (add-zero x);
-    plus-minus = λ x. plus_minus x;
-    times_assoc = λ x y z. ap (λ w. w % p) (mul_assoc x y z);
-    times_comm = λ x y. ap (λ w. w % p) (mul_comm x y);
-    times-unit = λ x. ap (λ w. w % p) (mul-one x);
-    times-plus = λ x y z. ap (λ w. w % p) (mul-add x y z);
-    times-inverse = λ x h. is_inverse x h;
-    unit≢nought = λ e. one_not_zero e;
-    two≢nought = λ e. two_not_zero e;
-  }
-    where
-      plus_minus : (x : ℕ) → (x + (p - x % p)) % p ≡ 0 % p
-      plus_minus x =
-          sym (mod-add-mod x p (p - x % p))
-          ∙ ap (λ w. w % p) (let l : x % p < p = mod-lt x (omega (arith, prime.past_one)) in let e : x % p + (p - x % p) ≡ p = omega arith in e) ∙ mod_self p ∙ sym (zero-mod p)
+  pub residue_plus-minus : (x : ℕ) → (x + (p - x % p)) % p ≡ 0 % p
+  residue_plus-minus x =
+      sym (mod-add-mod x p (p - x % p))
+      ∙ ap (λ w. w % p) (let l : x % p < p = mod-lt x (omega (arith, prime.past_one)) in let e : x % p + (p - x % p) ≡ p = omega arith in e) ∙ mod_self p ∙ sym (zero-mod p)
 
-      is_inverse : (x : ℕ) → x % p ≢ 0 % p → x * (residue_inverse x).0 % p ≡ 1 % p
-      is_inverse x h = (residue_inverse x).1 (λ e. h (e ∙ sym (zero-mod p))) ∙ sym (mod-eq_of_lt prime.past_one)
+  pub residue_is_inverse : (x : ℕ) → x % p ≢ 0 % p → x * (residue_inverse x).0 % p ≡ 1 % p
+  residue_is_inverse x h = (residue_inverse x).1 (λ e. h (e ∙ sym (zero-mod p))) ∙ sym (mod-eq_of_lt prime.past_one)
 
-      one_not_zero : 1 % p ≢ 0 % p
-      one_not_zero e = let d = sym (mod-eq_of_lt prime.past_one) ∙ e ∙ zero-mod p in absurd (omega (arith, d))
+  pub one_not_zero : 1 % p ≢ 0 % p
+  one_not_zero e = let d = sym (mod-eq_of_lt prime.past_one) ∙ e ∙ zero-mod p in absurd (omega (arith, d))
 
-      two_not_zero : 2 % p ≢ 0 % p
-      two_not_zero e = let d = sym (mod-eq_of_lt past_two) ∙ e ∙ zero-mod p in absurd (omega (arith, d))
+  pub two_not_zero : 2 < p → 2 % p ≢ 0 % p
+  two_not_zero past_two e = let d = sym (mod-eq_of_lt past_two) ∙ e ∙ zero-mod p in absurd (omega (arith, d))

@@ -1,3 +1,5 @@
 pub mod Field
 pub mod Normal
-pub mod Residue
+pub mod Primes
+pub mod Gcd
+pub mod Ratios

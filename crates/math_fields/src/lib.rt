@@ -5,7 +5,7 @@
 
 ghost use Rattle.std.specs.Prelude.{◌≡◌, ◌≢◌, ◌<◌, ◌≤◌, ◌+◌, ◌*◌, ◌%◌, ℕ};
 ghost use Rattle.std.specs.Int.{IsGcd};
-ghost use Rattle.math_fields.specs.Residue.{IsPrime};
+ghost use Rattle.math_fields.specs.Primes.{IsPrime};
 
 /// A number above 1 is prime where no number up to its root divides it.
 pub fn primes_by_trial()

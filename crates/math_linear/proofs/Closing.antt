@@ -5,40 +5,34 @@ use mathlib.Core.Logic.{inl, inr}
 use native.Mathlib.Omega.{arith}
 use native.Mathlib.Decide.{ℕ_discrete, dec_lt}
 use Rattle.math_fields.specs.Field.{Field}
-use Rattle.math_linear.specs.Vector.{Vector, vzero, vplus, scale}
-use Rattle.math_linear.specs.Span.{Spanned, combination, InSpan, IsRowOf, SpansKind}
+use Rattle.math_linear.specs.Vector.{Vector, vzero, vplus, scale, EndsAt}
+use Rattle.math_linear.specs.Span.{Spanned, combination, InSpan, IsRowOf}
 use Rattle.math_linear.specs.Span.Spanned.{span_kind, span_sum, span_multiple}
-use Rattle.math_linear.specs.Closed.{IsClosed}
+use Rattle.math_linear.specs.Closed.{IsClosed, ClosedForm}
 use Rattle.math_linear.proofs.Numbers.{times-nought, nought-times}
 use Rattle.math_linear.proofs.Vectors.{vplus_assoc, vplus-vzero, scale_scale, scale-unit, minus-vplus}
 use Rattle.math_linear.proofs.Span.{spanned_more, spanned_total, span_vplus, span_scale, span_total, in_span}
 use Rattle.math_linear.proofs.Closed.{combination_none, span_swept, at_pivot}
 use Rattle.math_linear.proofs.Places.{less_at, zero_at}
 
-pub record Closing (K : Field) (m : ℕ) (Kind : Vector K → Type 0) : Type 0 where
-  pub n : ℕ
-  pub row : ℕ → Vector K
-  pub pivot : ℕ → ℕ
-  pub closed : IsClosed K n row pivot
-  pub spans : SpansKind K Kind n row
-  pub short : (i s : ℕ) → i < n → m ≤ s → row i s ≡ K.nought
-
-pub closing_same : (K : Field) (m : ℕ) (A B : Vector K → Type 0) → ((x : Vector K) → A x → B x) → ((x : Vector K) → B x → A x) → Closing K m A → Closing K m B
+pub closing_same : (K : Field) (m : ℕ) (A B : Vector K → Type 0) → ((x : Vector K) → A x → B x) → ((x : Vector K) → B x → A x) → ClosedForm K m A → ClosedForm K m B
 closing_same K m A B h k c = record {
   n = c.n;
   row = c.row;
   pivot = c.pivot;
-  closed = c.closed;
-  spans = record { each = λ v b. c.spans.each v (k v b); from = λ i l. spanned_more K A B h (c.row i) (c.spans.from i l) };
-  short = c.short;
+  form = record {
+    closed = c.form.closed;
+    spans = record { each = λ v b. c.form.spans.each v (k v b); from = λ i l. spanned_more K A B h (c.row i) (c.form.spans.from i l) };
+    ends = c.form.ends;
+  };
 }
 
 -- the greatest place that isn't 0, where there is one
-greatest : (K : Field) (w : Vector K) (k : ℕ) → ((s : ℕ) → k ≤ s → w s ≡ K.nought) → (w ≡ vzero K) ⊎ ((q : ℕ) × (q < k) × (w q ≢ K.nought) × ((s : ℕ) → q < s → w s ≡ K.nought))
+greatest : (K : Field) (w : Vector K) (k : ℕ) → EndsAt K k w → (w ≡ vzero K) ⊎ ((q : ℕ) × (q < k) × (w q ≢ K.nought) × ((s : ℕ) → q < s → w s ≡ K.nought))
 greatest K w zero h = inl (fun_ext (λ s. h s (omega arith) ∙ sym (zero_at K s)))
 greatest K w (suc k) h = go (K.same (w k) K.nought) (greatest K w k)
   where
-    go : Dec (w k ≡ K.nought) → (((s : ℕ) → k ≤ s → w s ≡ K.nought) → (w ≡ vzero K) ⊎ ((q : ℕ) × (q < k) × (w q ≢ K.nought) × ((s : ℕ) → q < s → w s ≡ K.nought))) →
+    go : Dec (w k ≡ K.nought) → (EndsAt K k w → (w ≡ vzero K) ⊎ ((q : ℕ) × (q < k) × (w q ≢ K.nought) × ((s : ℕ) → q < s → w s ≡ K.nought))) →
         (w ≡ vzero K) ⊎ ((q : ℕ) × (q < suc k) × (w q ≢ K.nought) × ((s : ℕ) → q < s → w s ≡ K.nought))
     go (no d) r = inr (k, omega arith, d, (λ s l. h s (omega arith)))
     go (yes e) r = wider (r (λ s l. elim (ℕ_discrete s k) [ yes f ↦ ap w f ∙ e | no f ↦ h s (omega arith) ]))
@@ -207,7 +201,7 @@ module _ (K : Field) (n : ℕ) (row : ℕ → Vector K) (pivot : ℕ → ℕ) (c
   plus_in c x h = span_vplus K (suc n) new_row _ _ (span_scale K (suc n) new_row c u u_in) (span_in x h)
 
 -- one vector more
-module _ (K : Field) (m : ℕ) (A : Vector K → Type 0) (c : Closing K m A) (v : Vector K) (short_v : (s : ℕ) → m ≤ s → v s ≡ K.nought) where
+module _ (K : Field) (m : ℕ) (A : Vector K → Type 0) (c : ClosedForm K m A) (v : Vector K) (short_v : EndsAt K m v) where
   taken : Vector K
   taken = combination K c.n c.row (λ i. v (c.pivot i))
 
@@ -218,34 +212,33 @@ module _ (K : Field) (m : ℕ) (A : Vector K → Type 0) (c : Closing K m A) (v 
   w : Vector K
   w = vplus K v (scale K (K.minus K.unit) taken)
 
-  w_short : (s : ℕ) → m ≤ s → w s ≡ K.nought
+  w_short : EndsAt K m w
   unfolding w taken
-  w_short s l = less_at K v _ s (combination_none K c.n c.row _ s (λ i k. c.short i s k l) ∙ sym (short_v s l))
+  w_short s l = less_at K v _ s (combination_none K c.n c.row _ s (λ i k. c.form.ends i k s l) ∙ sym (short_v s l))
 
   w_off : (i : ℕ) → i < c.n → w (c.pivot i) ≡ K.nought
   unfolding w taken
-  w_off i l = less_at K v _ (c.pivot i) (at_pivot K c.n c.row c.pivot c.closed (λ i. v (c.pivot i)) i l)
+  w_off i l = less_at K v _ (c.pivot i) (at_pivot K c.n c.row c.pivot c.form.closed (λ i. v (c.pivot i)) i l)
 
   abbrev More : Vector K → Type 0
   More x = A x ⊎ (x ≡ v)
 
-  nothing_new : w ≡ vzero K → Closing K m More
+  nothing_new : w ≡ vzero K → ClosedForm K m More
   unfolding w taken
   nothing_new e = record {
     n = c.n;
     row = c.row;
     pivot = c.pivot;
-    closed = c.closed;
-    spans = record {
-      each = λ x h. each x h;
-      from = λ i l. spanned_more K A More (λ x a. inl a) (c.row i) (c.spans.from i l);
+    form = record {
+      closed = c.form.closed;
+      spans = record { each = λ x h. each x h; from = λ i l. spanned_more K A More (λ x a. inl a) (c.row i) (c.form.spans.from i l) };
+      ends = c.form.ends;
     };
-    short = c.short;
   }
     where
       each : (x : Vector K) → A x ⊎ (x ≡ v) → InSpan K c.n c.row x
-      each x (inl a) = c.spans.each x a
-      each x (inr d) = subst (InSpan K c.n c.row) (sym d) (span_swept K c.n c.row c.pivot c.closed v e)
+      each x (inl a) = c.form.spans.each x a
+      each x (inr d) = subst (InSpan K c.n c.row) (sym d) (span_swept K c.n c.row c.pivot c.form.closed v e)
 
   module _ (q : ℕ) (below : q < m) (not_zero : w q ≢ K.nought) (w_past : (s : ℕ) → q < s → w s ≡ K.nought) where
     u : Vector K
@@ -267,14 +260,14 @@ module _ (K : Field) (m : ℕ) (A : Vector K → Type 0) (c : Closing K m A) (v 
     no_pivot i l e = not_zero (ap w (sym e) ∙ w_off i l)
 
     place_q : (p : ℕ) × (p ≤ c.n) × ((i : ℕ) → i < p → c.pivot i < q) × ((i : ℕ) → p ≤ i → i < c.n → q < c.pivot i)
-    place_q = position c.n c.pivot q c.closed.ascend no_pivot
+    place_q = position c.n c.pivot q c.form.closed.ascend no_pivot
 
     v_is : vplus K (scale K (w q) u) taken ≡ v
     unfolding w
     v_is = ap (λ a. vplus K a taken) back_w ∙ vplus_assoc K _ _ _ ∙ ap (vplus K v) (minus-vplus K taken) ∙ vplus-vzero K v
 
     row_of : (i : ℕ) → i < c.n → Spanned K More (c.row i)
-    row_of i l = spanned_more K A More (λ x a. inl a) (c.row i) (c.spans.from i l)
+    row_of i l = spanned_more K A More (λ x a. inl a) (c.row i) (c.form.spans.from i l)
 
     u_of : Spanned K More u
     unfolding u w taken
@@ -282,17 +275,17 @@ module _ (K : Field) (m : ℕ) (A : Vector K → Type 0) (c : Closing K m A) (v 
         span_multiple _ _
         (span_sum _ _ (span_kind v (inr refl)) (span_multiple _ _ (spanned_total K More c.n _ (λ i l. span_multiple _ _ (row_of i l)))))
 
-    one_new : Closing K m More
+    one_new : ClosedForm K m More
     one_new = record {
       n = suc c.n;
-      row = new_row K c.n c.row c.pivot c.closed u q place_q.0 u_one u_past u_off place_q.1 place_q.2 place_q.3;
-      pivot = new_pivot K c.n c.row c.pivot c.closed u q place_q.0 u_one u_past u_off place_q.1 place_q.2 place_q.3;
-      closed = closed_more K c.n c.row c.pivot c.closed u q place_q.0 u_one u_past u_off place_q.1 place_q.2 place_q.3;
-      spans = record {
-        each = λ x h. each x h;
-        from = λ i l. each_new K c.n c.row c.pivot c.closed u q place_q.0 u_one u_past u_off place_q.1 place_q.2 place_q.3 (Spanned K More) u_of reduced_of i l;
+      row = new_row K c.n c.row c.pivot c.form.closed u q place_q.0 u_one u_past u_off place_q.1 place_q.2 place_q.3;
+      pivot = new_pivot K c.n c.row c.pivot c.form.closed u q place_q.0 u_one u_past u_off place_q.1 place_q.2 place_q.3;
+      form = record {
+        closed = closed_more K c.n c.row c.pivot c.form.closed u q place_q.0 u_one u_past u_off place_q.1 place_q.2 place_q.3;
+        spans = record { each = λ x h. each x h; from = λ i l. each_new K c.n c.row c.pivot c.form.closed u q place_q.0 u_one u_past u_off place_q.1 place_q.2 place_q.3 (Spanned K More) u_of reduced_of i l };
+        ends = λ i l s k.
+            each_new K c.n c.row c.pivot c.form.closed u q place_q.0 u_one u_past u_off place_q.1 place_q.2 place_q.3 (λ x. x s ≡ K.nought) (u_zero s (w_short s k)) (λ i l. reduced_short i s l k) i l;
       };
-      short = λ i s l k. each_new K c.n c.row c.pivot c.closed u q place_q.0 u_one u_past u_off place_q.1 place_q.2 place_q.3 (λ x. x s ≡ K.nought) (u_zero s (w_short s k)) (λ i l. reduced_short i s l k) i l;
     }
       where
         u_past : (s : ℕ) → q < s → u s ≡ K.nought
@@ -301,30 +294,30 @@ module _ (K : Field) (m : ℕ) (A : Vector K → Type 0) (c : Closing K m A) (v 
         u_off : (i : ℕ) → i < c.n → u (c.pivot i) ≡ K.nought
         u_off i l = u_zero (c.pivot i) (w_off i l)
 
-        each : (x : Vector K) → A x ⊎ (x ≡ v) → InSpan K (suc c.n) (new_row K c.n c.row c.pivot c.closed u q place_q.0 u_one u_past u_off place_q.1 place_q.2 place_q.3) x
-        each x (inl a) = span_in K c.n c.row c.pivot c.closed u q place_q.0 u_one u_past u_off place_q.1 place_q.2 place_q.3 x (c.spans.each x a)
+        each : (x : Vector K) → A x ⊎ (x ≡ v) → InSpan K (suc c.n) (new_row K c.n c.row c.pivot c.form.closed u q place_q.0 u_one u_past u_off place_q.1 place_q.2 place_q.3) x
+        each x (inl a) = span_in K c.n c.row c.pivot c.form.closed u q place_q.0 u_one u_past u_off place_q.1 place_q.2 place_q.3 x (c.form.spans.each x a)
         each x (inr d) =
-            subst (InSpan K (suc c.n) (new_row K c.n c.row c.pivot c.closed u q place_q.0 u_one u_past u_off place_q.1 place_q.2 place_q.3)) (v_is ∙ sym d)
-            (plus_in K c.n c.row c.pivot c.closed u q place_q.0 u_one u_past u_off place_q.1 place_q.2 place_q.3 (w q) taken taken_in)
+            subst (InSpan K (suc c.n) (new_row K c.n c.row c.pivot c.form.closed u q place_q.0 u_one u_past u_off place_q.1 place_q.2 place_q.3)) (v_is ∙ sym d)
+            (plus_in K c.n c.row c.pivot c.form.closed u q place_q.0 u_one u_past u_off place_q.1 place_q.2 place_q.3 (w q) taken taken_in)
 
-        reduced_of : (i : ℕ) → i < c.n → Spanned K More (reduced K c.n c.row c.pivot c.closed u q place_q.0 u_one u_past u_off place_q.1 place_q.2 place_q.3 i)
+        reduced_of : (i : ℕ) → i < c.n → Spanned K More (reduced K c.n c.row c.pivot c.form.closed u q place_q.0 u_one u_past u_off place_q.1 place_q.2 place_q.3 i)
         reduced_of i l = unfold reduced in (span_sum _ _ (row_of i l) (span_multiple _ _ (span_multiple _ _ u_of)))
 
-        reduced_short : (i s : ℕ) → i < c.n → m ≤ s → reduced K c.n c.row c.pivot c.closed u q place_q.0 u_one u_past u_off place_q.1 place_q.2 place_q.3 i s ≡ K.nought
-        reduced_short i s l k = keeps K c.n c.row c.pivot c.closed u q place_q.0 u_one u_past u_off place_q.1 place_q.2 place_q.3 i s (u_zero s (w_short s k)) ∙ c.short i s l k
+        reduced_short : (i s : ℕ) → i < c.n → m ≤ s → reduced K c.n c.row c.pivot c.form.closed u q place_q.0 u_one u_past u_off place_q.1 place_q.2 place_q.3 i s ≡ K.nought
+        reduced_short i s l k = keeps K c.n c.row c.pivot c.form.closed u q place_q.0 u_one u_past u_off place_q.1 place_q.2 place_q.3 i s (u_zero s (w_short s k)) ∙ c.form.ends i l s k
 
-  pub insert : Closing K m More
+  pub insert : ClosedForm K m More
   insert = go (greatest K w m w_short)
     where
-      go : (w ≡ vzero K) ⊎ ((q : ℕ) × (q < m) × (w q ≢ K.nought) × ((s : ℕ) → q < s → w s ≡ K.nought)) → Closing K m More
+      go : (w ≡ vzero K) ⊎ ((q : ℕ) × (q < m) × (w q ≢ K.nought) × ((s : ℕ) → q < s → w s ≡ K.nought)) → ClosedForm K m More
       go (inl e) = nothing_new e
       go (inr f) = one_new f.0 f.1 f.2 f.3
 
 -- kinds that can be added
 abbrev pub Finite : (K : Field) → ℕ → (Vector K → Type 0) → Type 1
-Finite K m B = (A : Vector K → Type 0) → Closing K m A → Closing K m (λ x. A x ⊎ B x)
+Finite K m B = (A : Vector K → Type 0) → ClosedForm K m A → ClosedForm K m (λ x. A x ⊎ B x)
 
-pub finite_if : (K : Field) (m : ℕ) (X : Type 0) (v : Vector K) → Dec X → (X → (s : ℕ) → m ≤ s → v s ≡ K.nought) → Finite K m (λ x. X × (x ≡ v))
+pub finite_if : (K : Field) (m : ℕ) (X : Type 0) (v : Vector K) → Dec X → (X → EndsAt K m v) → Finite K m (λ x. X × (x ≡ v))
 finite_if K m X v (yes h) short A c =
     closing_same K m (λ x. A x ⊎ (x ≡ v)) (λ x. A x ⊎ (X × (x ≡ v))) (λ x a. there x a) (λ x a. back x a) (insert K m A c v (short h))
   where
@@ -360,21 +353,23 @@ finite_loop K m (suc N) B h A c =
     back x (inl a) = inl (inl a)
     back x (inr e) = elim (ℕ_discrete e.0 N) [ yes d ↦ inr (subst (λ i. B i x) d e.2) | no d ↦ inl (inr (e.0, omega (arith, e.1, d), e.2)) ]
 
-pub no_rows : (K : Field) (m : ℕ) → Closing K m (λ x. ⊥)
+pub no_rows : (K : Field) (m : ℕ) → ClosedForm K m (λ x. ⊥)
 no_rows K m = record {
   n = 0;
   row = λ i. vzero K;
   pivot = λ i. 0;
-  closed = record { leads = λ i l. absurd (omega arith); above = λ i s l k. absurd (omega arith); ascend = λ i j l k. absurd (omega arith); apart = λ i j l k d. absurd (omega arith) };
-  spans = record { each = λ v h. absurd h; from = λ i l. absurd (omega arith) };
-  short = λ i s l k. absurd (omega arith);
+  form = record {
+    closed = record { leads = λ i l. absurd (omega arith); above = λ i s l k. absurd (omega arith); ascend = λ i j l k. absurd (omega arith); apart = λ i j l k d. absurd (omega arith) };
+    spans = record { each = λ v h. absurd h; from = λ i l. absurd (omega arith) };
+    ends = λ i l. absurd (omega arith);
+  };
 }
 
 -- the vectors that n rows span have a closed list
-pub rows_closing : (K : Field) (m n : ℕ) (row : ℕ → Vector K) → ((i s : ℕ) → i < n → m ≤ s → row i s ≡ K.nought) → Closing K m (IsRowOf K n row)
+pub rows_closing : (K : Field) (m n : ℕ) (row : ℕ → Vector K) → ((i : ℕ) → i < n → EndsAt K m (row i)) → ClosedForm K m (IsRowOf K n row)
 rows_closing K m n row short =
     closing_same K m _ (IsRowOf K n row) there (λ x h. inr (h.0, h.1, (refl, h.2)))
-    (finite_loop K m n (λ i x. (i ≡ i) × (x ≡ row i)) (λ i l. finite_if K m (i ≡ i) (row i) (yes refl) (λ e s. short i s l)) (λ x. ⊥) (no_rows K m))
+    (finite_loop K m n (λ i x. (i ≡ i) × (x ≡ row i)) (λ i l. finite_if K m (i ≡ i) (row i) (yes refl) (λ e. short i l)) (λ x. ⊥) (no_rows K m))
   where
     there : (x : Vector K) → ⊥ ⊎ ((i : ℕ) × (i < n) × ((i ≡ i) × (x ≡ row i))) → IsRowOf K n row x
     there x (inl a) = absurd a

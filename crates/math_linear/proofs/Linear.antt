@@ -5,12 +5,9 @@ use Rattle.math_fields.specs.Field.{Field}
 use Rattle.math_linear.specs.Vector.{Vector, vzero, vplus, scale, place, total, bilinear}
 use Rattle.math_linear.specs.Span.{combination}
 use Rattle.math_linear.specs.Closed.{swept}
+use Rattle.math_linear.specs.Linear.{IsLinear}
 use Rattle.math_linear.proofs.Numbers.{plus_times, times_left_comm}
 use Rattle.math_linear.proofs.Vectors.{vplus_assoc, vplus_comm, vplus_left_comm, vplus-vzero, scale-vplus, plus-scale, scale_scale, scale_comm, scale-nought, scale-vzero, total_same, total_vplus, total_scale, total_place}
-
-pub record IsLinear (K : Field) (f : Vector K → Vector K) : Type 0 where
-  pub of_plus : (x y : Vector K) → f (vplus K x y) ≡ vplus K (f x) (f y)
-  pub of_scale : (c : K.Carrier) (x : Vector K) → f (scale K c x) ≡ scale K c (f x)
 
 module _ (K : Field) where
   -- linear functions

@@ -8,7 +8,8 @@ use Rattle.math_fields.specs.Field.{Field}
 use Rattle.math_linear.specs.Vector.{Vector, vzero, vplus, scale, place, total}
 use Rattle.math_linear.proofs.Numbers.{times-nought}
 use Rattle.math_linear.proofs.Vectors.{vplus_comm, minus-vplus, from_places, by_members, scale-nought, place_other}
-use Rattle.math_linear.proofs.Linear.{IsLinear, linear_vzero}
+use Rattle.math_linear.specs.Linear.{IsLinear}
+use Rattle.math_linear.proofs.Linear.{linear_vzero}
 
 pub zero_at : (K : Field) (s : ℕ) → vzero K s ≡ K.nought
 unfolding vzero

@@ -4,7 +4,7 @@ use mathlib.Core.Path.{sym, refl, ap, ◌∙◌, fun_ext}
 use native.Mathlib.Decide.{ℕ_discrete, dec_lt}
 use native.Mathlib.Omega.{arith}
 use Rattle.math_fields.specs.Field.{Field}
-use Rattle.math_linear.specs.Vector.{Vector, vzero, vplus, scale, place, total}
+use Rattle.math_linear.specs.Vector.{Vector, vzero, vplus, scale, place, total, EndsAt}
 use Rattle.math_linear.proofs.Numbers.{nought-plus, plus_left_comm, plus_times, times-nought, nought-times, unit-times}
 
 module _ (K : Field) where
@@ -131,7 +131,7 @@ module _ (K : Field) where
           ap (λ w. K.plus w (K.times (x n) (place K n s))) (h.0 (omega arith)) ∙ ap (λ w. K.plus (x s) (K.times (x n) w)) (place_other n s d)
           ∙ ap (K.plus (x s)) (times-nought K _) ∙ K.plus-nought _
 
-  pub from_places : (n : ℕ) (x : Vector K) → ((s : ℕ) → n ≤ s → x s ≡ K.nought) → x ≡ total K n (λ i. scale K (x i) (place K i))
+  pub from_places : (n : ℕ) (x : Vector K) → EndsAt K n x → x ≡ total K n (λ i. scale K (x i) (place K i))
   from_places n x h = fun_ext (λ s. by_cases s (dec_lt s n))
     where
       by_cases : (s : ℕ) → Dec (s < n) → x s ≡ total K n (λ i. scale K (x i) (place K i)) s

@@ -5,9 +5,9 @@
 --   free_at       what the solution of the free place f has at a place with a row, and at one without
 --   free_row      the solution of a free place f: 1 at f, 0 at the other free places, and at each pivot minus what its row has at f
 --   IsFree        the solution of some place below n that has no row
-use Rattle.std.specs.Prelude.{ℕ, zero, suc, ◌≡◌, ◌<◌, ◌≤◌, Option, Some, None}
+use Rattle.std.specs.Prelude.{ℕ, zero, suc, ◌≡◌, ◌<◌, Option, Some, None}
 use Rattle.math_fields.specs.Field.{Field}
-use Rattle.math_linear.specs.Vector.{Vector, place}
+use Rattle.math_linear.specs.Vector.{Vector, place, EndsAt}
 use Rattle.math_linear.specs.Echelon.{Pivots}
 
 unfoldable pub product_sum : (K : Field) → ℕ → Vector K → Vector K → K.Carrier
@@ -15,7 +15,7 @@ product_sum K zero u x = K.nought
 product_sum K (suc n) u x = K.plus (product_sum K n u x) (K.times (u n) (x n))
 
 pub record IsSolution (K : Field) (n : ℕ) (S : Vector K → Type 0) (x : Vector K) : Type 0 where
-  pub past : (s : ℕ) → n ≤ s → x s ≡ K.nought
+  pub past : EndsAt K n x
   pub solves : (u : Vector K) → S u → product_sum K n u x ≡ K.nought
 
 unfoldable pub free_at : (K : Field) → Option (Vector K) → ℕ → ℕ → K.Carrier

@@ -1,4 +1,5 @@
 pub mod Vector
+pub mod Linear
 pub mod Span
 pub mod Closed
 pub mod Echelon

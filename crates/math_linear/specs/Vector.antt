@@ -6,8 +6,9 @@
 --   scale      a multiple of a vector
 --   place      1 at a place, and 0 elsewhere
 --   total      the sum of n vectors
+--   EndsAt     a vector that is 0 from place n on
 --   bilinear   a bilinear function, from its values at pairs of places below n
-use Rattle.std.specs.Prelude.{ℕ, zero, suc, cond, nat_eq}
+use Rattle.std.specs.Prelude.{ℕ, zero, suc, ◌≡◌, ◌≤◌, cond, nat_eq}
 use Rattle.math_fields.specs.Field.{Field}
 
 abbrev pub Vector : Field → Type 0
@@ -29,6 +30,9 @@ place K i s = cond (nat_eq i s) K.unit K.nought
 unfoldable pub total : (K : Field) → ℕ → (ℕ → Vector K) → Vector K
 total K zero f = vzero K
 total K (suc n) f = vplus K (total K n f) (f n)
+
+abbrev pub EndsAt : (K : Field) → ℕ → Vector K → Type 0
+EndsAt K n v = (s : ℕ) → n ≤ s → v s ≡ K.nought
 
 -- the sum of x i * y j times form i j, for i and j below n
 unfoldable pub bilinear : (K : Field) → ℕ → (ℕ → ℕ → Vector K) → Vector K → Vector K → Vector K

@@ -14,9 +14,10 @@ use Rattle.math_algebra.specs.Table.{Table, Symbol, of_generator, of_pair, Basis
 use Rattle.math_algebra.proofs.Within.{along, within_derives, derives_within, combined_over}
 use Rattle.math_algebra.specs.Tree.IsOver.{over_gen, over_bracket}
 use Rattle.math_algebra.specs.Standard.{combined, IsCombination, IsStandardNext, IsStandard}
-use Rattle.math_algebra.specs.Symbols.{joined, is_odd, symbols, symbol_at, symbol_parity, symbol_tree, IsSymbol, no_symbol}
+use Rattle.math_linear.specs.Lists.{joined}
+use Rattle.math_algebra.specs.Symbols.{is_odd, symbols, symbol_at, symbol_parity, symbol_tree, IsSymbol, no_symbol, symbols_of}
 use Rattle.math_algebra.specs.Symbols.IsSymbol.{is_generator, is_pair}
-use Rattle.math_algebra.specs.Built.{Agree}
+use Rattle.math_algebra.specs.Extending.{Agree}
 use Rattle.math_algebra.specs.Standard.IsStandard.{standard_start, standard_next}
 use Rattle.math_linear.proofs.Span.{apart_zero}
 use Rattle.math_linear.proofs.Closed.{Same, same_below}
@@ -27,7 +28,7 @@ use Rattle.math_linear.proofs.Places.{only_vplus, only_scale, zero_at}
 use Rattle.math_standard.proofs.Next.{longer, trees_same}
 use Rattle.math_standard.proofs.BuiltFacts.{other_side, combined_suc}
 
-split_add : (n c k : ℕ) → k < n + c → (k < n) ⊎ ((i : ℕ) × (i < c) × (k ≡ n + i))
+pub split_add : (n c k : ℕ) → k < n + c → (k < n) ⊎ ((i : ℕ) × (i < c) × (k ≡ n + i))
 split_add n c k l = go (dec_lt k n)
   where
     go : Dec (k < n) → (k < n) ⊎ ((i : ℕ) × (i < c) × (k ≡ n + i))
@@ -155,7 +156,7 @@ pair_if b c w i j = cond (cond (nat_eq (b.weight + c.weight) (suc w)) (cond (nat
 
 module _ (K : Field) (P : Presentation K.Carrier) (T S : Table K) (tree twig : ℕ → Expression K) (twins : Twins K P T S tree twig) where
   pub symbols_same : symbols P T ≡ symbols P S
-  unfolding symbols
+  unfolding symbols symbols_of
   symbols_same =
       ap₂ (λ a b. a ++ b)
       (ap (λ w. joined (length P.generators) (λ g. cond (nat_eq (generator P g).weight (suc w)) (of_generator g ∷ []) [])) twins.agree.weight)

@@ -13,7 +13,8 @@ use Rattle.math_algebra.proofs.Freely.{DerivesFreely}
 use Rattle.math_algebra.specs.Derives.{Expression}
 use Rattle.math_algebra.proofs.Freely.DerivesFreely.{same, back, then, multiple_unit}
 use Rattle.math_algebra.specs.Table.{Table, product, val, IsIn, IsOf, weight_at, IsRegular}
-use Rattle.math_algebra.specs.Built.{meaning_of, slot_of, IsNext, IsEmpty, Built}
+use Rattle.math_algebra.specs.Extending.{IsEmpty}
+use Rattle.math_algebra.specs.Built.{meaning_of, slot_of, IsNext, Built}
 use Rattle.math_algebra.specs.Standard.{combined, IsCombination, IsStandardNext, IsStandard}
 use Rattle.math_algebra.specs.Symbols.{symbols, symbol_at, pair_number, symbol_tree}
 use Rattle.math_algebra.proofs.Homogeneous.{IsHomogeneous}
@@ -110,8 +111,8 @@ module _ (K : Field) (P : Presentation K.Carrier) (hom : IsHomogeneous P) (T T' 
   -- a symbol that is no pivot is no combination of smaller symbols
   free_apart : (s : ℕ) → s < m → ((i : ℕ) → i < next.number_of_rows → next.pivot i ≢ s) → IsCombination K P T tree s → ⊥
   free_apart s l free c =
-      standard K P symbol' m tree' (length T'.basis) next.number_of_rows next.row next.pivot next.closed (slot_of n next.count next.slot)
-      (row_none K P hom T T' tree facts next) next.short (free_place K P hom T T' tree facts next)
+      standard K P symbol' m tree' (length T'.basis) next.number_of_rows next.row next.pivot next.form.closed (slot_of n next.count next.slot)
+      (row_none K P hom T T' tree facts next) next.form.ends (free_place K P hom T T' tree facts next)
       (val K T') (one_value K P T' tree' facts') (value_is K P hom T T' tree facts next)
       (λ s l h. let f = next.free.all s l h in (n + f.0, slot_new n next.count next.slot f.0 f.1 ∙ ap Some f.2))
       s l free (cut K P s c.what) (λ t h. cut_past K P s t c.what h)
@@ -128,7 +129,7 @@ module _ (K : Field) (P : Presentation K.Carrier) (hom : IsHomogeneous P) (T T' 
   }
     where
       past : (s : ℕ) → suc (next.pivot i) ≤ s → next.row i s ≡ K.nought
-      past s k = next.closed.above i s l (omega arith)
+      past s k = next.form.closed.above i s l (omega arith)
 
       shorter : DerivesFreely K P (combined K symbol' (suc (next.pivot i)) (next.row i)) none
       shorter =
@@ -140,7 +141,7 @@ module _ (K : Field) (P : Presentation K.Carrier) (hom : IsHomogeneous P) (T T' 
       zero_sum =
           then
           (of_path K P _ _
-          (ap (λ w. both K P (combined K symbol' (next.pivot i) (next.row i)) (multiple w (symbol' (next.pivot i)))) (sym (next.closed.leads i l))
+          (ap (λ w. both K P (combined K symbol' (next.pivot i) (next.row i)) (multiple w (symbol' (next.pivot i)))) (sym (next.form.closed.leads i l))
           ∙ sym (combined_suc K P symbol' (next.pivot i) (next.row i))))
           shorter
 

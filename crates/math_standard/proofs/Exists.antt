@@ -5,7 +5,7 @@ use mathlib.Core.Logic.{inl, inr}
 use native.Mathlib.Omega.{arith}
 use native.Mathlib.Decide.{ℕ_discrete, dec_le}
 use Rattle.math_fields.specs.Field.{Field}
-use Rattle.math_linear.specs.Vector.{Vector, vzero, bilinear}
+use Rattle.math_linear.specs.Vector.{Vector, vzero, bilinear, EndsAt}
 use Rattle.math_algebra.specs.Tree.{Tree, Trees, Parity, even, odd, Presentation, left, right}
 use Rattle.math_algebra.specs.Degrees.{Degree, any, exact, mixed, weight_of_both}
 use Rattle.math_algebra.specs.Derives.{three, Expression}
@@ -24,7 +24,8 @@ use Rattle.math_values.proofs.Facts.{Facts}
 use Rattle.math_values.proofs.SourceRows.{generators_numbered, outer_place_short, row_void}
 use Rattle.math_standard.proofs.BuiltFacts.{built_whole}
 use Rattle.math_standard.proofs.NextTables.{next_is, weight_next}
-use Rattle.math_linear.proofs.Closing.{Closing, closing_same, Finite, finite_if, finite_loop, no_rows}
+use Rattle.math_linear.proofs.Closing.{closing_same, Finite, finite_if, finite_loop, no_rows}
+use Rattle.math_linear.specs.Closed.{ClosedForm}
 
 abbrev weight_in : Degree ℕ → ℕ
 weight_in any = 0
@@ -87,7 +88,7 @@ module _ (K : Field) (P : Presentation K.Carrier) (hom : IsHomogeneous P) (T : T
     rows_short weight_end w = only_vzero K _
     rows_short (weight_more h k) w = only_vplus K _ _ _ (row_short h w) (rows_short k w)
 
-  past : (x : Vector K) → Short x → (s : ℕ) → m ≤ s → x s ≡ K.nought
+  past : (x : Vector K) → Short x → EndsAt K m x
   past x h s l = go (h s)
     where
       go : (x s ≡ K.nought) ⊎ (s < m) → x s ≡ K.nought
@@ -131,7 +132,7 @@ module _ (K : Field) (P : Presentation K.Carrier) (hom : IsHomogeneous P) (T : T
       (λ i l. finite_if K m _ _ (all_dec (K.same _ _) (odd_dec _) (ℕ_discrete _ _)) (λ h. past _ (outer_short _ _)))
 
   -- closed rows of the source rows
-  pub source_closing : Closing K m (IsSource K P T)
+  pub source_closing : ClosedForm K m (IsSource K P T)
   source_closing =
       closing_same K m (λ x. ((⊥ ⊎ Relations x) ⊎ Triples x) ⊎ Cubes x) (IsSource K P T) there back
       (cubes_finite _ (triples_finite _ (relations_finite _ (no_rows K m))))
@@ -159,4 +160,4 @@ built_exists K P hom (suc d) = more_weight (built_exists K P hom d)
     more_weight r =
         let w = built_whole K P hom r.0 r.1 in
         let c = source_closing K P hom r.0 w.tree w.facts in
-        (next_table K P r.0 c.n c.row c.pivot, built_next r.1 (next_is K P r.0 c.n c.row c.pivot c.closed c.spans c.short), weight_next K P r.0 c.n c.row c.pivot ∙ ap (λ a. suc a) r.2)
+        (next_table K P r.0 c.n c.row c.pivot, built_next r.1 (next_is K P r.0 c.n c.row c.pivot c.form), weight_next K P r.0 c.n c.row c.pivot ∙ ap (λ a. suc a) r.2)

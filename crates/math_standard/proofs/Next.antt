@@ -23,7 +23,7 @@ use Rattle.math_algebra.specs.Symbols.{symbols, pair_number, generator_number, s
 use Rattle.math_algebra.specs.Symbols.IsSymbol.{is_generator}
 use Rattle.math_algebra.specs.SourceRows.IsSource.{of_relation, of_triple, of_cube}
 use Rattle.math_linear.proofs.Vectors.{scale-nought, place_same, place_other}
-use Rattle.math_linear.proofs.Linear.{IsLinear}
+use Rattle.math_linear.specs.Linear.{IsLinear}
 use Rattle.math_values.proofs.Products.{bracket_places}
 use Rattle.math_values.proofs.Parts.{in_vzero, product_past, void_val}
 use Rattle.math_algebra.proofs.Derived.{of_path, both, both_same, both_none, none_both, multiple_none, combined_vzero, combined_vplus, combined_scale}
@@ -201,9 +201,9 @@ module _ (K : Field) (P : Presentation K.Carrier) (hom : IsHomogeneous P) (T T' 
   -- the closed rows lie in one parity each, and so do meanings
   pub rows_only : (i : ℕ) → i < next.number_of_rows → Only K (λ s. parity_of K P T tree facts s ≡ parity_of K P T tree facts (next.pivot i)) (next.row i)
   rows_only =
-      row_parity K (parity_of K P T tree facts) next.number_of_rows next.row next.pivot next.closed
+      row_parity K (parity_of K P T tree facts) next.number_of_rows next.row next.pivot next.form.closed
       (λ t i l.
-      part_span K (parity_of K P T tree facts) next.number_of_rows next.row next.pivot next.closed t (IsSource K P T) next.spans.each (source_only K P T tree facts hom) (next.row i) (next.spans.from i l))
+      part_span K (parity_of K P T tree facts) next.number_of_rows next.row next.pivot next.form.closed t (IsSource K P T) next.form.spans.each (source_only K P T tree facts hom) (next.row i) (next.form.spans.from i l))
 
   pub swept_only : (t : Parity) (v : Vector K) → Only K (λ s. parity_of K P T tree facts s ≡ t) v → Only K (λ s. parity_of K P T tree facts s ≡ t) (swept K next.number_of_rows next.row next.pivot v)
   swept_only t v h = only_vplus K _ _ _ h (only_scale K _ _ _ (only_total K _ _ _ (λ i l. term i l (h (next.pivot i)))))
@@ -302,7 +302,7 @@ module _ (K : Field) (P : Presentation K.Carrier) (hom : IsHomogeneous P) (T T' 
 
   -- source rows mean 0
   pub source_zero : (v : Vector K) → IsSource K P T v → meaning v ≡ vzero K
-  source_zero v h = meaning_zero K slot next.number_of_rows next.row next.pivot next.closed v (next.spans.each v h)
+  source_zero v h = meaning_zero K slot next.number_of_rows next.row next.pivot next.form.closed v (next.form.spans.each v h)
 
   pub jacobis' : (i j k : ℕ) → i ≤ j → j ≤ k → k < length T'.basis → HasJacobi K T' i j k
   jacobis' =

@@ -5,7 +5,7 @@ use mathlib.Core.Logic.{inl, inr}
 use native.Mathlib.Omega.{arith}
 use native.Mathlib.Decide.{dec_le, dec_lt}
 use Rattle.math_fields.specs.Field.{Field}
-use Rattle.math_linear.specs.Vector.{Vector, vplus, scale, place, total}
+use Rattle.math_linear.specs.Vector.{Vector, vplus, scale, place, total, EndsAt}
 use Rattle.math_algebra.specs.Tree.{Tree, gen, none, bracket_of, Presentation, generator, IsOver}
 use Rattle.math_algebra.specs.Degrees.{HasParity}
 use Rattle.math_algebra.specs.Tree.IsOver.{over_gen, over_bracket}
@@ -20,12 +20,12 @@ use Rattle.math_algebra.proofs.Homogeneous.{WeightIs, IsHomogeneous}
 use Rattle.math_algebra.specs.Built.{relabel, meaning_of, slot_of, IsNext}
 use Rattle.math_algebra.proofs.Homogeneous.WeightIs.{weight_gen, weight_bracket}
 use Rattle.math_algebra.specs.Standard.{combined}
-use Rattle.math_linear.specs.Closed.{swept}
 use Rattle.math_algebra.specs.Symbols.{symbols, symbol_at, place_of, pair_number, generator_number, symbol_parity, symbol_tree, IsSymbol}
 use Rattle.math_algebra.specs.Symbols.IsSymbol.{is_generator, is_pair}
 use Rattle.math_algebra.specs.SourceRows.IsSource.{of_relation, of_triple, of_cube}
-use Rattle.math_linear.proofs.Vectors.{vplus-vzero, scale-vzero, scale-nought, place_other, total_none, from_places}
-use Rattle.math_linear.proofs.Linear.{IsLinear, linear_vzero, linear_total}
+use Rattle.math_linear.proofs.Vectors.{from_places}
+use Rattle.math_linear.specs.Linear.{IsLinear}
+use Rattle.math_linear.proofs.Linear.{linear_vzero, linear_total}
 use Rattle.math_values.proofs.Products.{bracket_places}
 use Rattle.math_algebra.proofs.Derived.{of_path, both_same, combined_vzero, combined_vplus, combined_scale, combined_place}
 use Rattle.math_standard.proofs.Sweeps.{swept_free}
@@ -141,7 +141,7 @@ module _ (K : Field) (P : Presentation K.Carrier) (hom : IsHomogeneous P) (T T' 
   below_m u (suc k) l = ap₂ (vplus K) (below_m u k (omega arith)) (ap (scale K (u k)) (value_symbol k (omega arith)) ∙ sym (linear'.of_scale (u k) (place K k)))
 
   -- the value of a combination of symbols is what it means
-  pub value_is : (u : Vector K) → ((s : ℕ) → m ≤ s → u s ≡ K.nought) → val K T' (combined K symbol' m u) ≡ means u
+  pub value_is : (u : Vector K) → EndsAt K m u → val K T' (combined K symbol' m u) ≡ means u
   value_is u h =
       val_combined K T' symbol' m u ∙ below_m u m (omega arith)
       ∙ sym (linear_total K means linear' m (λ s. scale K (u s) (place K s))) ∙ ap means (sym (from_places K m u h))
@@ -187,7 +187,7 @@ module _ (K : Field) (P : Presentation K.Carrier) (hom : IsHomogeneous P) (T T' 
       (cube (tree i) c (subst (HasParity P (tree i)) o (facts.tree_parity i l)))
 
   pub row_none : (i : ℕ) → i < next.number_of_rows → DerivesFreely K P (combined K symbol' m (next.row i)) none
-  row_none i l = span_derived K P symbol' m (IsSource K P T) source_none (next.row i) (next.spans.from i l)
+  row_none i l = span_derived K P symbol' m (IsSource K P T) source_none (next.row i) (next.form.spans.from i l)
 
   pub free_place : (s : ℕ) → s < m → ((i : ℕ) → i < next.number_of_rows → next.pivot i ≢ s) →
       (k : ℕ) × (k < length T'.basis) × (relabel K (slot_of n next.count next.slot) (place K s) ≡ place K k) × (tree_next k ≡ symbol' s)
@@ -202,7 +202,7 @@ module _ (K : Field) (P : Presentation K.Carrier) (hom : IsHomogeneous P) (T T' 
   -- a symbol is derivably equal to the combination that it means
   pub symbol_means : (s : ℕ) → s < m → DerivesFreely K P (symbol' s) (combined K tree_next (length T'.basis) (means (place K s)))
   symbol_means =
-      symbol_sound K P symbol' m tree_next (length T'.basis) next.number_of_rows next.row next.pivot next.closed (slot_of n next.count next.slot) row_none next.short free_place
+      symbol_sound K P symbol' m tree_next (length T'.basis) next.number_of_rows next.row next.pivot next.form.closed (slot_of n next.count next.slot) row_none next.form.ends free_place
 
   pub combination_means : (u : Vector K) → Only K (λ s. s < m) u → DerivesFreely K P (combined K symbol' m u) (combined K tree_next (length T'.basis) (means u))
   combination_means u h =

@@ -8,11 +8,11 @@ use Rattle.math_fields.specs.Field.{Field}
 use Rattle.math_linear.specs.Vector.{Vector, vzero, place}
 use Rattle.math_algebra.specs.Tree.{Presentation, generator}
 use Rattle.math_algebra.specs.Table.{Table, basis_at, no_basis, weight_at}
-use Rattle.math_linear.specs.Closed.{IsClosed}
+use Rattle.math_linear.specs.Closed.{IsClosedForm}
 use Rattle.math_algebra.specs.Symbols.{symbols, pair_number, generator_number}
 use Rattle.math_algebra.specs.SourceRows.{IsSource}
-use Rattle.math_linear.specs.Span.{SpansKind}
-use Rattle.math_algebra.specs.Built.{AreThose, IsNext}
+use Rattle.math_algebra.specs.Extending.{AreThose}
+use Rattle.math_algebra.specs.Built.{IsNext}
 use Rattle.math_algebra.specs.NextTable.{is_pivot, free_places, new_basis, free_list, means_next, next_table}
 
 pub pivot_is : (n : ℕ) (pivot : ℕ → ℕ) (s : ℕ) → is_pivot n pivot s ≡ true → (i : ℕ) × (i < n) × (pivot i ≡ s)
@@ -135,16 +135,14 @@ module _ (K : Field) (P : Presentation K.Carrier) (T : Table K) (n : ℕ) (row :
   unfolding next_table
   weight_next = refl
 
-  pub next_is : IsClosed K n row pivot → SpansKind K (IsSource K P T) n row → ((i s : ℕ) → i < n → length (symbols P T) ≤ s → row i s ≡ K.nought) → IsNext K P T (next_table K P T n row pivot)
-  next_is closed spans short = record {
+  pub next_is : IsClosedForm K (length (symbols P T)) (IsSource K P T) n row pivot → IsNext K P T (next_table K P T n row pivot)
+  next_is form = record {
     number_of_rows = n;
     row = row;
     pivot = pivot;
     count = length (free_list K P T n row pivot);
     slot = λ i. get_or (free_list K P T n row pivot) i 0;
-    closed = closed;
-    spans = spans;
-    short = short;
+    form = form;
     free = free_are (length (symbols P T)) n pivot;
     basis = record { weight = weight_next; more = basis_more; old = basis_old; added = basis_new };
     keeps = record { images = λ g l w. image_kept g w; entries = λ i j l k r w. entry_kept i j w; past = λ g l w. image_past g w };

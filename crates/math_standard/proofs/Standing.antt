@@ -4,16 +4,18 @@ use mathlib.Core.Path.{sym, refl, ap, ap₂, ◌∙◌, fun_ext}
 use mathlib.Core.Logic.{inl, inr}
 use native.Mathlib.Omega.{arith}
 use Rattle.math_fields.specs.Field.{Field}
-use Rattle.math_linear.specs.Vector.{Vector, vzero}
+use Rattle.math_linear.specs.Vector.{Vector, vzero, EndsAt}
 use Rattle.math_algebra.specs.Tree.{none, Presentation, generator}
 use Rattle.math_algebra.proofs.Freely.{DerivesFreely}
 use Rattle.math_algebra.specs.Derives.{Expression}
 use Rattle.math_algebra.specs.Table.{Table, Symbol, of_generator, of_pair, Basis, basis_at, val, weight_at}
-use Rattle.math_algebra.specs.Built.{relabel, meaning_of, at_slot, slot_of, IsNext, Built, IsLower}
+use Rattle.math_algebra.specs.Extending.{IsLower}
+use Rattle.math_algebra.specs.Built.{relabel, meaning_of, at_slot, slot_of, IsNext, Built}
 use Rattle.math_algebra.specs.Standard.{combined}
 use Rattle.math_linear.specs.Closed.{swept}
 use Rattle.math_linear.specs.Span.{InSpan}
-use Rattle.math_algebra.specs.Symbols.{joined, is_odd, symbols, symbols_of, symbol_at, symbol_tree}
+use Rattle.math_linear.specs.Lists.{joined}
+use Rattle.math_algebra.specs.Symbols.{is_odd, symbols, symbols_of, symbol_at, symbol_tree}
 use Rattle.math_algebra.proofs.Homogeneous.{IsHomogeneous}
 use Rattle.math_algebra.specs.SourceRows.{IsSource}
 use Rattle.math_linear.proofs.Closed.{span_swept}
@@ -44,9 +46,9 @@ module _ (K : Field) (P : Presentation K.Carrier) (hom : IsHomogeneous P) (T T' 
   symbol' s = symbol_tree tree (symbol_at P T s)
 
   -- a vector over the symbols is derivably 0 exactly where it is in the span of the closed rows
-  zero_in_span : (v : Vector K) → ((s : ℕ) → m ≤ s → v s ≡ K.nought) → DerivesFreely K P (combined K symbol' m v) none → InSpan K next.number_of_rows next.row v
+  zero_in_span : (v : Vector K) → EndsAt K m v → DerivesFreely K P (combined K symbol' m v) none → InSpan K next.number_of_rows next.row v
   unfolding meaning_of
-  zero_in_span v short h = span_swept K next.number_of_rows next.row next.pivot next.closed v (fun_ext (λ s. at s (stands s) ∙ sym (zero_at K s)))
+  zero_in_span v short h = span_swept K next.number_of_rows next.row next.pivot next.form.closed v (fun_ext (λ s. at s (stands s) ∙ sym (zero_at K s)))
     where
       means_zero : meaning_of K (slot_of n next.count next.slot) next.number_of_rows next.row next.pivot v ≡ vzero K
       means_zero =
@@ -54,8 +56,8 @@ module _ (K : Field) (P : Presentation K.Carrier) (hom : IsHomogeneous P) (T T' 
 
       stands : (s : ℕ) → (swept K next.number_of_rows next.row next.pivot v s ≡ K.nought) ⊎ ((s < m) × ((i : ℕ) → i < next.number_of_rows → next.pivot i ≢ s))
       stands =
-          swept_stands K P symbol' m (tree_next K P hom T T' tree facts next) (length T'.basis) next.number_of_rows next.row next.pivot next.closed (slot_of n next.count next.slot)
-          (row_none K P hom T T' tree facts next) next.short (free_place K P hom T T' tree facts next) v short
+          swept_stands K P symbol' m (tree_next K P hom T T' tree facts next) (length T'.basis) next.number_of_rows next.row next.pivot next.form.closed (slot_of n next.count next.slot)
+          (row_none K P hom T T' tree facts next) next.form.ends (free_place K P hom T T' tree facts next) v short
 
       at : (s : ℕ) → (swept K next.number_of_rows next.row next.pivot v s ≡ K.nought) ⊎ ((s < m) × ((i : ℕ) → i < next.number_of_rows → next.pivot i ≢ s)) →
           swept K next.number_of_rows next.row next.pivot v s ≡ K.nought
@@ -68,9 +70,9 @@ module _ (K : Field) (P : Presentation K.Carrier) (hom : IsHomogeneous P) (T T' 
   span_zero : (v : Vector K) → InSpan K next.number_of_rows next.row v → DerivesFreely K P (combined K symbol' m v) none
   span_zero v h =
       span_derived K P symbol' m (IsSource K P T) (source_none K P hom T T' tree facts next) v
-      (span_of_kind K (IsSource K P T) next.number_of_rows next.row next.spans v h)
+      (span_of_kind K (IsSource K P T) next.number_of_rows next.row next.form.spans v h)
 
-  pub rows_exact : (v : Vector K) → ((s : ℕ) → m ≤ s → v s ≡ K.nought) → (DerivesFreely K P (combined K symbol' m v) none) ↔ InSpan K next.number_of_rows next.row v
+  pub rows_exact : (v : Vector K) → EndsAt K m v → (DerivesFreely K P (combined K symbol' m v) none) ↔ InSpan K next.number_of_rows next.row v
   rows_exact v short = (zero_in_span v short, span_zero v)
 
 -- symbols of every weight

@@ -12,7 +12,8 @@ use Rattle.math_algebra.specs.Table.{Table, parity_at, product, val, weight_at, 
 use Rattle.math_algebra.specs.SourceRows.{outer_place, outer, jacobi_row, cube_row}
 use Rattle.math_algebra.proofs.Homogeneous.{WeightIs, IsHomogeneous}
 use Rattle.math_algebra.specs.Symbols.{pair_number}
-use Rattle.math_algebra.specs.Built.{IsNext, Built, Agree, IsLower}
+use Rattle.math_algebra.specs.Extending.{Agree, IsLower}
+use Rattle.math_algebra.specs.Built.{IsNext, Built}
 use Rattle.math_algebra.specs.Built.Built.{built_start, built_next}
 use Rattle.math_linear.proofs.Vectors.{scale_scale, total_same, total_scale, total_place}
 use Rattle.math_values.proofs.Products.{bracket_places}
@@ -82,9 +83,7 @@ module _ (K : Field) (P : Presentation K.Carrier) (T T' S : Table K) (next : IsN
     pivot = next.pivot;
     count = next.count;
     slot = next.slot;
-    closed = next.closed;
-    spans = next.spans;
-    short = next.short;
+    form = next.form;
     free = next.free;
     basis = record {
       weight = sym agree.weight ∙ next.basis.weight;

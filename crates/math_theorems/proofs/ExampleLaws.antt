@@ -1,52 +1,24 @@
--- Proofs of the small theorems: two tables through weight 2 that obey the law, and short derivations.
-use Rattle.std.specs.Prelude.{ℕ, zero, suc, [], ◌∷◌, ◌≡◌, ◌≢◌, ◌⊎◌, ◌<◌, ◌≤◌, ◌+◌, length}
+-- Proofs of the small theorems: two tables through weight 2 that obey the law.
+use Rattle.std.specs.Prelude.{ℕ, zero, suc, [], ◌∷◌, ◌≡◌, ◌⊎◌, ◌<◌, ◌≤◌, ◌+◌, length}
 use mathlib.Core.Path.{sym, refl, ap, ap₂, ◌∙◌, subst}
 use native.Mathlib.Omega.{arith}
 use native.Mathlib.Decide.{dec_le, dec_lt}
 use Rattle.math_fields.specs.Field.{Field}
 use Rattle.math_linear.specs.Vector.{Vector, vzero, vplus, scale, place, bilinear}
-use Rattle.math_linear.proofs.Numbers.{minus_unique, minus_minus, nought-plus, times-nought}
 use Rattle.math_linear.proofs.Vectors.{vplus-vzero, scale-vzero, place_same, total_none}
 use Rattle.math_linear.proofs.Linear.{zero_linear}
 use Rattle.math_linear.proofs.Places.{Only, place_stands, only_vzero, only_scale, only_place, bilinear_agree, zero_at}
-use Rattle.math_algebra.specs.Tree.{Parity, none, multiple, bracket_of, even, odd, parity_sum, Presentation, generator}
+use Rattle.math_algebra.specs.Tree.{Parity, none, bracket_of, even, odd, parity_sum, Presentation, generator}
 use Rattle.math_algebra.specs.Tree.IsOver.{over_gen, over_none, over_bracket}
 use Rattle.math_algebra.specs.Degrees.{IsSoundPresentation, top, is_void}
-use Rattle.math_algebra.specs.Degrees.HasParity.{parity_gen, parity_bracket}
-use Rattle.math_algebra.specs.Derives.{Derives, Expression, sign, three}
+use Rattle.math_algebra.specs.Derives.{sign}
 use Rattle.math_algebra.specs.Table.{Table, of_generator, of_pair, weight_at, parity_at, with_itself, product, bracket, val, IsIn, IsOf, ObeysLaw}
-use Rattle.math_algebra.proofs.Freely.{DerivesFreely}
-use Rattle.math_algebra.proofs.Freely.DerivesFreely.{same, back, then, in_multiple, multiple_multiple, multiple_unit, multiple_nought, multiple_plus, exchange, jacobi, cube}
-use Rattle.math_algebra.proofs.Derived.{of_path, both_same}
-use Rattle.math_algebra.proofs.Within.{derives_within, within_derives}
+use Rattle.math_algebra.proofs.Within.{within_derives}
 use Rattle.math_values.proofs.Products.{bracket_places, bracket_linear_left, bracket_linear_right}
 use Rattle.math_values.proofs.Parts.{product_past, product_below, product_above, product_itself, product_exchange}
 use Rattle.math_values.proofs.Sound.{sound}
-use Rattle.math_theorems.specs.Examples.{two_even, one_odd, x, y, u, PairIsFree, EvenSquareIsZero, OddSquareIsFree, OddCubeIsZero, OddCubeIsZeroByCube, ZeroBracketsFail}
+use Rattle.math_theorems.specs.Examples.{two_even, one_odd, x, y, u, PairIsFree, OddSquareIsFree, ZeroBracketsFail}
 use Rattle.math_theorems.proofs.StandardLaws.{headline, standard_is_built}
-
--- an expression that is derivably a multiple of itself, other than once, is derivably 0
-module _ (K : Field) (P : Presentation K.Carrier) where
-  pub self_multiple : (e : Expression K) (c : K.Carrier) → c ≢ K.unit → DerivesFreely K P e (multiple c e) → DerivesFreely K P e none
-  self_multiple e c n h =
-      then (back (multiple_unit e))
-      (then (of_path K P _ _ (ap (λ w. multiple w e) (sym (K.times_comm _ _ ∙ K.times-inverse d apart))))
-      (then (back (multiple_multiple (K.inverse d) d e))
-      (then (in_multiple (K.inverse d) less)
-      (then (in_multiple (K.inverse d) (back (multiple_nought e)))
-      (then (multiple_multiple _ _ e) (then (of_path K P _ _ (ap (λ w. multiple w e) (times-nought K _))) (multiple_nought e)))))))
-    where
-      d : K.Carrier
-      d = K.plus K.unit (K.minus c)
-
-      apart : d ≢ K.nought
-      apart e = n (sym (minus_minus K c) ∙ sym (minus_unique K (K.minus c) K.unit (K.plus_comm _ _ ∙ e)))
-
-      less : DerivesFreely K P (multiple d e) none
-      less =
-          then (back (multiple_plus K.unit (K.minus c) e))
-          (then (both_same K P (then (multiple_unit e) h) same)
-          (then (multiple_plus c (K.minus c) e) (then (of_path K P _ _ (ap (λ w. multiple w e) (K.plus-minus c))) (multiple_nought e))))
 
 -- tables of weight 2 whose basis elements have weight 1 or more
 module _ (K : Field) (P : Presentation K.Carrier) (free : length P.relations ≡ 0) (T : Table K) (two : T.weight ≡ 2)
@@ -231,46 +203,8 @@ module _ (K : Field) where
       val_none : (T : Table K) → val K T none ≡ vzero K
       val_none T = unfold val in refl
 
-  -- short derivations
   no_relations : (P : Presentation K.Carrier) → length P.relations ≡ 0 → {A : Type 0} (k : ℕ) → k < length P.relations → A
   no_relations P e k l = absurd (omega (arith, e, l))
-
-  minus_one : K.minus K.unit ≢ K.unit
-  minus_one e = K.two≢nought (ap (K.plus K.unit) (sym e) ∙ K.plus-minus K.unit)
-
-  pub even_square_is_zero : EvenSquareIsZero K
-  even_square_is_zero =
-      derives_within K (two_even K) (λ k l. no_relations (two_even K) refl k l) _ _ (over_bracket (over_gen 0 (omega arith)) (over_gen 0 (omega arith))) over_none
-      (self_multiple K (two_even K) _ (K.minus K.unit) minus_one (exchange even even (x K) (x K) (parity_gen 0 (omega arith)) (parity_gen 0 (omega arith))))
-
-  abbrev square : Expression K
-  square = bracket_of (u K) (u K)
-
-  abbrev whole_cube : Expression K
-  whole_cube = bracket_of (u K) square
-
-  -- [u, [u, u]] = [[u, u], u] - [u, [u, u]] = -2 [u, [u, u]]
-  cube_twice : DerivesFreely K (one_odd K) whole_cube (multiple (K.plus (K.minus K.unit) (K.minus K.unit)) whole_cube)
-  cube_twice =
-      then (jacobi odd odd odd (u K) (u K) (u K) (parity_gen 0 (omega arith)) (parity_gen 0 (omega arith)) (parity_gen 0 (omega arith)))
-      (then (both_same K (one_odd K) (exchange even odd square (u K) (parity_bracket (parity_gen 0 (omega arith)) (parity_gen 0 (omega arith))) (parity_gen 0 (omega arith))) same)
-      (multiple_plus (K.minus K.unit) (K.minus K.unit) whole_cube))
-
-  minus_two : three K ≢ K.nought → K.plus (K.minus K.unit) (K.minus K.unit) ≢ K.unit
-  minus_two n e =
-      n (ap (K.plus (K.plus K.unit K.unit)) (sym e)
-      ∙ K.plus_assoc K.unit K.unit _ ∙ ap (K.plus K.unit) (sym (K.plus_assoc K.unit _ _) ∙ ap (λ w. K.plus w (K.minus K.unit)) (K.plus-minus K.unit) ∙ nought-plus K _) ∙ K.plus-minus K.unit)
-
-  cube_over : (e : Expression K) → DerivesFreely K (one_odd K) whole_cube none → Derives K (one_odd K) whole_cube none
-  cube_over e h =
-      derives_within K (one_odd K) (λ k l. no_relations (one_odd K) refl k l) _ _
-      (over_bracket (over_gen 0 (omega arith)) (over_bracket (over_gen 0 (omega arith)) (over_gen 0 (omega arith)))) over_none h
-
-  pub odd_cube_is_zero : OddCubeIsZero K
-  odd_cube_is_zero n = cube_over none (self_multiple K (one_odd K) whole_cube _ (minus_two n) cube_twice)
-
-  pub odd_cube_by_cube : OddCubeIsZeroByCube K
-  odd_cube_by_cube e = cube_over none (cube (u K) e (parity_gen 0 (omega arith)))
 
   two_even_sound : IsSoundPresentation (two_even K)
   two_even_sound = record {

@@ -37,18 +37,7 @@ module _ (K : Field) where
   sweeps_pivots n row pivot closed v i l = less_at K v _ (pivot i) (at_pivot K n row pivot closed (λ i. v (pivot i)) i l)
 
   pub some_closed_list : SomeClosedList K
-  some_closed_list m n row short =
-      let c = rows_closing K m n row short in
-      record {
-        count = c.n;
-        closed_row = c.row;
-        pivot = c.pivot;
-        closed = c.closed;
-        spans = λ v.
-            let a = kind_span_iff K (IsRowOf K n row) c.n c.row c.spans v in
-            let b = kind_span_iff K (IsRowOf K n row) n row (rows_span K n row) v in ((λ h. b.0 (a.1 h)), (λ h. a.0 (b.1 h)));
-        short = c.short;
-      }
+  some_closed_list m n row ends = rows_closing K m n row ends
 
   pub one_closed_list : OneClosedList K
   one_closed_list n m row row' pivot pivot' a b same =

@@ -1,9 +1,9 @@
 -- Proofs of the theorems on built tables and the standard table.
-use Rattle.std.specs.Prelude.{ℕ, ◌≡◌, ◌<◌, ◌≤◌, ◌↔◌, length}
+use Rattle.std.specs.Prelude.{ℕ, ◌≡◌, ◌<◌, ◌↔◌, length}
 use mathlib.Core.Path.{sym, refl, ap₂}
 use native.Mathlib.Omega.{arith}
 use Rattle.math_fields.specs.Field.{Field}
-use Rattle.math_linear.specs.Vector.{Vector}
+use Rattle.math_linear.specs.Vector.{Vector, EndsAt}
 use Rattle.math_linear.specs.Span.{Spanned, InSpan}
 use Rattle.math_linear.proofs.Span.{kind_span_iff}
 use Rattle.math_algebra.specs.Tree.{Presentation, IsOver, none, bracket_of}
@@ -73,7 +73,7 @@ module _ (K : Field) where
   agreeing_is_built P s T S b a = built_same K P (sound_homogeneous P s) T S b a
 
   pub closed_rows_build : ClosedRowsBuild K
-  closed_rows_build P T b n row pivot closed spans short = built_next b (next_is K P T n row pivot closed spans short)
+  closed_rows_build P T b n row pivot form = built_next b (next_is K P T n row pivot form)
 
 -- the standard table with given expressions of its basis elements
 module _ (K : Field) (P : Presentation K.Carrier) (s : IsSoundPresentation P) (T : Table K) (tree : ℕ → Expression K) (standard : IsStandard K P T tree) where
@@ -114,7 +114,7 @@ module _ (K : Field) (P : Presentation K.Carrier) (s : IsSoundPresentation P) (T
   same_symbols v =
       trees_same K P (λ s. symbol_tree tree (symbol_at P T s)) (λ s. symbol_tree whole.tree (symbol_at P T s)) (length (symbols P T)) v (λ k l. symbol_same K P T T whole.tree tree twins k l)
 
-  pub closed_rows_zero : (T' : Table K) (next : IsNext K P T T') (v : Vector K) → ((t : ℕ) → length (symbols P T) ≤ t → v t ≡ K.nought) → Derives K P (over_symbols K P T tree v) none ↔ InSpan K next.number_of_rows next.row v
+  pub closed_rows_zero : (T' : Table K) (next : IsNext K P T T') (v : Vector K) → EndsAt K (length (symbols P T)) v → Derives K P (over_symbols K P T tree v) none ↔ InSpan K next.number_of_rows next.row v
   closed_rows_zero T' next v short =
       let r = rows_exact K P hom T T' whole.tree whole.facts next v short in (
         (λ h. r.0 (then (of_path K P _ _ (same_symbols v)) (within_derives K P h))),
@@ -126,12 +126,12 @@ module _ (K : Field) (P : Presentation K.Carrier) (s : IsSoundPresentation P) (T
           combined_over K P (λ s. symbol_tree whole.tree (symbol_at P T s)) (length (symbols P T)) v
           (λ t l. symbol_over K P T whole.tree whole.facts.tree_over (symbol_at P T t) (place_symbol K P T t l))
 
-  pub rows_zero : (v : Vector K) → ((t : ℕ) → length (symbols P T) ≤ t → v t ≡ K.nought) → Derives K P (over_symbols K P T tree v) none ↔ Spanned K (IsSource K P T) v
+  pub rows_zero : (v : Vector K) → EndsAt K (length (symbols P T)) v → Derives K P (over_symbols K P T tree v) none ↔ Spanned K (IsSource K P T) v
   rows_zero v short =
       let c = source_closing K P hom T whole.tree whole.facts in
-      let next = next_is K P T c.n c.row c.pivot c.closed c.spans c.short in
+      let next = next_is K P T c.n c.row c.pivot c.form in
       let a = closed_rows_zero (next_table K P T c.n c.row c.pivot) next v short in
-      let b = kind_span_iff K (IsSource K P T) next.number_of_rows next.row next.spans v in ((λ h. b.1 (a.0 h)), (λ h. a.1 (b.0 h)))
+      let b = kind_span_iff K (IsSource K P T) next.number_of_rows next.row next.form.spans v in ((λ h. b.1 (a.0 h)), (λ h. a.1 (b.0 h)))
 
 module _ (K : Field) where
   pub standard_is_sound : StandardIsSound K

@@ -6,12 +6,12 @@ use native.Mathlib.Decide.{ℕ_discrete}
 use native.Mathlib.Nat.{mod-eq_of_lt, zero-mod}
 use Rattle.math_algebra.specs.Derives.{three}
 use Rattle.math_fields.specs.Normal.{Normal}
-use Rattle.math_fields.specs.Residue.{IsPrime}
-use Rattle.math_fields.proofs.FromNormal.{field_of_normal, number_same, right-plus}
-use Rattle.math_fields.proofs.Residues.{residue_normal}
-use Rattle.math_fields.proofs.Fractions.{fraction_normal, three≢nought}
+use Rattle.math_fields.specs.Primes.{IsPrime}
+use Rattle.math_fields.proofs.FromNormal.{number_same, right-plus}
+use Rattle.math_fields.proofs.Fractions.{three≢nought}
 use Rattle.fpl_numbers.specs.declared.number.Kind.{Kind}
 use Rattle.fpl_numbers.specs.declared.number.Kind.TheVariants.{Rational, Prime}
+use Rattle.fpl_numbers.specs.Fields.{field_of_normal, residue_normal, fraction_normal}
 use Rattle.fpl_numbers.specs.Kinds.{field_of, known, Known, accepted, unknown, field_if}
 use Rattle.math_theorems.specs.Values.{CubesModuloThree}
 

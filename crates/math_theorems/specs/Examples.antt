@@ -3,16 +3,13 @@
 --   two_even, one_odd       two even generators x and y; one odd generator u
 --   x, y, u                 these generators
 --   PairIsFree              [x, y] isn't derivably 0
---   EvenSquareIsZero        [x, x] is
 --   OddSquareIsFree         [u, u] isn't derivably 0
---   OddCubeIsZero           [u, [u, u]] is, by the Jacobi identity where 3 isn't 0
---   OddCubeIsZeroByCube     and by the cube rule where 3 is 0
 --   ZeroBracketsFail        a table with every bracket 0 isn't the standard table of two even generators through a weight of 2 or more
-use Rattle.std.specs.Prelude.{ℕ, [], ◌∷◌, ◌≡◌, ◌≢◌, ◌<◌, ◌≤◌, length}
+use Rattle.std.specs.Prelude.{ℕ, [], ◌∷◌, ◌≡◌, ◌<◌, ◌≤◌, length}
 use Rattle.math_fields.specs.Field.{Field}
 use Rattle.math_linear.specs.Vector.{vzero}
 use Rattle.math_algebra.specs.Tree.{gen, none, bracket_of, even, odd, Presentation}
-use Rattle.math_algebra.specs.Derives.{Derives, Expression, three}
+use Rattle.math_algebra.specs.Derives.{Derives, Expression}
 use Rattle.math_algebra.specs.Table.{Table, product}
 use Rattle.math_algebra.specs.Standard.{IsStandard}
 
@@ -34,17 +31,8 @@ u K = gen 0
 abbrev pub PairIsFree : Field → Type 0
 PairIsFree K = Derives K (two_even K) (bracket_of (x K) (y K)) none → ⊥
 
-abbrev pub EvenSquareIsZero : Field → Type 0
-EvenSquareIsZero K = Derives K (two_even K) (bracket_of (x K) (x K)) none
-
 abbrev pub OddSquareIsFree : Field → Type 0
 OddSquareIsFree K = Derives K (one_odd K) (bracket_of (u K) (u K)) none → ⊥
-
-abbrev pub OddCubeIsZero : Field → Type 0
-OddCubeIsZero K = three K ≢ K.nought → Derives K (one_odd K) (bracket_of (u K) (bracket_of (u K) (u K))) none
-
-abbrev pub OddCubeIsZeroByCube : Field → Type 0
-OddCubeIsZeroByCube K = three K ≡ K.nought → Derives K (one_odd K) (bracket_of (u K) (bracket_of (u K) (u K))) none
 
 abbrev pub ZeroBracketsFail : Field → Type 0
 ZeroBracketsFail K =

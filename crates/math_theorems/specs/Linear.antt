@@ -13,11 +13,11 @@
 --   ReducedIsClosed        the rows of a reduced echelon, in the order of their places, are a closed list
 --   FreeRowsSolve          the solutions of a reduced echelon are what its free rows span
 --   KernelOfRows           and so are the solutions of any rows with its span
-use Rattle.std.specs.Prelude.{ℕ, ◌≡◌, ◌<◌, ◌≤◌, ◌↔◌, ◌⊎◌, None}
+use Rattle.std.specs.Prelude.{ℕ, ◌≡◌, ◌<◌, ◌↔◌, ◌⊎◌, None}
 use Rattle.math_fields.specs.Field.{Field}
-use Rattle.math_linear.specs.Vector.{Vector, vzero, vplus, scale}
+use Rattle.math_linear.specs.Vector.{Vector, vzero, vplus, scale, EndsAt}
 use Rattle.math_linear.specs.Span.{Spanned, InSpan, IsRowOf}
-use Rattle.math_linear.specs.Closed.{IsClosed, swept}
+use Rattle.math_linear.specs.Closed.{IsClosed, swept, ClosedForm}
 use Rattle.math_linear.specs.Echelon.{Pivots, IsRow, IsEchelon, IsReduced, AreRowsOf, reduce, put, close}
 use Rattle.math_linear.specs.Kernel.{IsSolution, IsFree}
 
@@ -33,16 +33,8 @@ SweepsInSpan K = (n : ℕ) (row : ℕ → Vector K) (pivot : ℕ → ℕ) (v : V
 abbrev pub SweepsPivots : Field → Type 0
 SweepsPivots K = (n : ℕ) (row : ℕ → Vector K) (pivot : ℕ → ℕ) → IsClosed K n row pivot → (v : Vector K) (i : ℕ) → i < n → swept K n row pivot v (pivot i) ≡ K.nought
 
-pub record ClosedListOf (K : Field) (m n : ℕ) (row : ℕ → Vector K) : Type 0 where
-  pub count : ℕ
-  pub closed_row : ℕ → Vector K
-  pub pivot : ℕ → ℕ
-  pub closed : IsClosed K count closed_row pivot
-  pub spans : (v : Vector K) → InSpan K count closed_row v ↔ InSpan K n row v
-  pub short : (i s : ℕ) → i < count → m ≤ s → closed_row i s ≡ K.nought
-
 abbrev pub SomeClosedList : Field → Type 0
-SomeClosedList K = (m n : ℕ) (row : ℕ → Vector K) → ((i s : ℕ) → i < n → m ≤ s → row i s ≡ K.nought) → ClosedListOf K m n row
+SomeClosedList K = (m n : ℕ) (row : ℕ → Vector K) → ((i : ℕ) → i < n → EndsAt K m (row i)) → ClosedForm K m (IsRowOf K n row)
 
 abbrev pub OneClosedList : Field → Type 0
 OneClosedList K =

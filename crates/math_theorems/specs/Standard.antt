@@ -17,16 +17,17 @@
 --   ClosedRowsBuild       closed rows that span the source rows give the next table
 use Rattle.std.specs.Prelude.{ℕ, ◌≡◌, ◌<◌, ◌≤◌, ◌+◌, ◌↔◌, length}
 use Rattle.math_fields.specs.Field.{Field}
-use Rattle.math_linear.specs.Vector.{Vector, vzero}
-use Rattle.math_linear.specs.Span.{Spanned, InSpan, SpansKind}
-use Rattle.math_linear.specs.Closed.{IsClosed}
+use Rattle.math_linear.specs.Vector.{Vector, vzero, EndsAt}
+use Rattle.math_linear.specs.Span.{Spanned, InSpan}
+use Rattle.math_linear.specs.Closed.{IsClosedForm}
 use Rattle.math_algebra.specs.Tree.{Presentation, IsOver, gen, none, bracket_of, generator}
 use Rattle.math_algebra.specs.Degrees.{top, IsSoundPresentation}
 use Rattle.math_algebra.specs.Derives.{Derives, Expression}
 use Rattle.math_algebra.specs.Table.{Table, weight_at, product, val, ObeysLaw}
 use Rattle.math_algebra.specs.Symbols.{symbols, symbols_of, symbol_at, symbol_tree}
 use Rattle.math_algebra.specs.SourceRows.{IsSource}
-use Rattle.math_algebra.specs.Built.{Built, IsNext, Agree, IsLower}
+use Rattle.math_algebra.specs.Extending.{Agree, IsLower}
+use Rattle.math_algebra.specs.Built.{Built, IsNext}
 use Rattle.math_algebra.specs.Standard.{combined, IsStandard}
 use Rattle.math_algebra.specs.NextTable.{next_table}
 
@@ -58,7 +59,7 @@ pub record IsSoundTable (K : Field) (P : Presentation K.Carrier) (T : Table K) (
   pub entries : (i j : ℕ) → i < length T.basis → j < length T.basis → weight_at T i + weight_at T j ≤ T.weight →
       Derives K P (bracket_of (tree i) (tree j)) (combined K tree (length T.basis) (product K T i j))
   pub expressions : (e : Expression K) → IsOver P e → top P e ≤ T.weight → Derives K P e (combined K tree (length T.basis) (val K T e))
-  pub unique : (e : Expression K) (v : Vector K) → ((i : ℕ) → length T.basis ≤ i → v i ≡ K.nought) → Derives K P e (combined K tree (length T.basis) v) → v ≡ val K T e
+  pub unique : (e : Expression K) (v : Vector K) → EndsAt K (length T.basis) v → Derives K P e (combined K tree (length T.basis) v) → v ≡ val K T e
 
 abbrev pub StandardIsSound : Field → Type 0
 StandardIsSound K = (P : Presentation K.Carrier) → IsSoundPresentation P → (T : Table K) (tree : ℕ → Expression K) → IsStandard K P T tree → IsSoundTable K P T tree
@@ -73,13 +74,13 @@ over_symbols K P T tree v = combined K (λ s. symbol_tree tree (symbol_at P T s)
 
 abbrev pub RowsAreZero : Field → Type 0
 RowsAreZero K =
-    (P : Presentation K.Carrier) → IsSoundPresentation P → (T : Table K) (tree : ℕ → Expression K) → IsStandard K P T tree → (v : Vector K) → ((s : ℕ) → length (symbols P T) ≤ s → v s ≡ K.nought) →
+    (P : Presentation K.Carrier) → IsSoundPresentation P → (T : Table K) (tree : ℕ → Expression K) → IsStandard K P T tree → (v : Vector K) → EndsAt K (length (symbols P T)) v →
     Derives K P (over_symbols K P T tree v) none ↔ Spanned K (IsSource K P T) v
 
 abbrev pub ClosedRowsAreZero : Field → Type 0
 ClosedRowsAreZero K =
     (P : Presentation K.Carrier) → IsSoundPresentation P → (T : Table K) (tree : ℕ → Expression K) → IsStandard K P T tree → (T' : Table K) (next : IsNext K P T T') (v : Vector K) →
-    ((s : ℕ) → length (symbols P T) ≤ s → v s ≡ K.nought) → Derives K P (over_symbols K P T tree v) none ↔ InSpan K next.number_of_rows next.row v
+    EndsAt K (length (symbols P T)) v → Derives K P (over_symbols K P T tree v) none ↔ InSpan K next.number_of_rows next.row v
 
 abbrev pub LowerIsBuilt : Field → Type 0
 LowerIsBuilt K =
@@ -90,5 +91,5 @@ AgreeingIsBuilt K = (P : Presentation K.Carrier) → IsSoundPresentation P → (
 
 abbrev pub ClosedRowsBuild : Field → Type 0
 ClosedRowsBuild K =
-    (P : Presentation K.Carrier) (T : Table K) → Built K P T → (n : ℕ) (row : ℕ → Vector K) (pivot : ℕ → ℕ) → IsClosed K n row pivot → SpansKind K (IsSource K P T) n row →
-    ((i s : ℕ) → i < n → length (symbols P T) ≤ s → row i s ≡ K.nought) → Built K P (next_table K P T n row pivot)
+    (P : Presentation K.Carrier) (T : Table K) → Built K P T → (n : ℕ) (row : ℕ → Vector K) (pivot : ℕ → ℕ) → IsClosedForm K (length (symbols P T)) (IsSource K P T) n row pivot →
+    Built K P (next_table K P T n row pivot)

@@ -4,8 +4,8 @@
 ghost use Rattle.fpl_numbers.specs.declared.number.Kind.{Kind};
 ghost use Rattle.fpl_numbers.specs.Kinds.{field_of};
 ghost use Rattle.math_theorems.specs.Linear.{ClosesReduced, FreeRowsSolve, KernelOfRows, OneClosedList, OneReduced, PutSpansMore, ReducedIsClosed, ReducesToZero, SomeClosedList, SpansAreOne, SweepsInSpan, SweepsPivots, SweepsToZero};
-ghost use Rattle.math_theorems.specs.Values.{CubesModuloThree, DerivesOverP, OrderedTriplesSuffice, ParityAsWritten, ValuesRespectDerivation, WeightBoundsTop};
-ghost use Rattle.math_theorems.specs.Examples.{EvenSquareIsZero, OddCubeIsZero, OddCubeIsZeroByCube, OddSquareIsFree, PairIsFree, ZeroBracketsFail};
+ghost use Rattle.math_theorems.specs.Values.{CubesInParts, CubesModuloThree, DerivesOverP, EvenSquaresAreZero, ExchangeInParts, JacobiInParts, OddCubesAreZero, OrderedTriplesSuffice, ParityAsWritten, ParityIsTested, SquaresInParts, ValuesInParts, ValuesRespectDerivation, VoidIsZero, WeightBoundsTop};
+ghost use Rattle.math_theorems.specs.Examples.{OddSquareIsFree, PairIsFree, ZeroBracketsFail};
 ghost use Rattle.math_theorems.specs.Standard.{AgreeingIsBuilt, BuiltIsStandard, BuiltObeys, ClosedRowsAreZero, ClosedRowsBuild, Headline, ImagesPastAreZero, LowerIsBuilt, OneStandard, RowsAreZero, SomeStandard, StandardIsBuilt, StandardIsSound};
 
 /// Closed lists: what finitely many rows span has exactly one, and sweeping by it leaves 0 exactly in the span.
@@ -33,18 +33,36 @@ pub fn kernels()
     ensures rows { (k : Kind) → KernelOfRows (field_of k) }
 {}
 
-/// Derivability and values: a table that obeys the law gives one value to what is derivably equal, and ordered triples suffice for the Jacobi identity.
+/// Derivability and values: a table that obeys the law gives one value to what is derivably equal, in the part of its parity, and ordered triples suffice
+/// for the Jacobi identity.
 pub fn values()
     ensures over { (k : Kind) → DerivesOverP (field_of k) }
     ensures one_value { (k : Kind) → ValuesRespectDerivation (field_of k) }
+    ensures parts { (k : Kind) → ValuesInParts (field_of k) }
+    ensures void { (k : Kind) → VoidIsZero (field_of k) }
     ensures triples { (k : Kind) → OrderedTriplesSuffice (field_of k) }
     ensures cubes { (k : Kind) → CubesModuloThree k }
 {}
 
-/// Weights and parities as written: they bound the greatest written weight, and are parities that the expression has.
+/// The axioms for all vectors with a parity, in each characteristic: it is enough that the law holds at basis elements.
+pub fn vectors()
+    ensures exchange { (k : Kind) → ExchangeInParts (field_of k) }
+    ensures jacobi { (k : Kind) → JacobiInParts (field_of k) }
+    ensures squares { (k : Kind) → SquaresInParts (field_of k) }
+    ensures cubes { (k : Kind) → CubesInParts (field_of k) }
+{}
+
+/// Squares of even expressions and cubes of odd ones are derivably 0, in each characteristic.
+pub fn squares_and_cubes()
+    ensures squares { (k : Kind) → EvenSquaresAreZero (field_of k) }
+    ensures cubes { (k : Kind) → OddCubesAreZero (field_of k) }
+{}
+
+/// Weights and parities as written: they bound the greatest written weight, and are parities that the expression has; a test for these.
 pub fn degrees()
     ensures weight { (k : Kind) → WeightBoundsTop (field_of k) }
     ensures parity { (k : Kind) → ParityAsWritten (field_of k) }
+    ensures test { (k : Kind) → ParityIsTested (field_of k) }
 {}
 
 /// Built tables: they obey the law, and give equal values exactly where derivably equal.
@@ -72,13 +90,10 @@ pub fn rows()
     ensures closed { (k : Kind) → ClosedRowsAreZero (field_of k) }
 {}
 
-/// Small presentations, whose answers show that the definitions mean something: of two even generators the bracket isn't 0 and the square is; of an odd
-/// generator the square isn't 0 and the cube is, modulo 3 by the cube rule; and a table with every bracket 0 isn't the standard one.
+/// Small presentations, whose answers show that the definitions mean something: of two even generators the bracket isn't 0; of an odd generator the square
+/// isn't 0; and a table with every bracket 0 isn't the standard one.
 pub fn small_presentations()
     ensures pair { (k : Kind) → PairIsFree (field_of k) }
-    ensures even_square { (k : Kind) → EvenSquareIsZero (field_of k) }
     ensures odd_square { (k : Kind) → OddSquareIsFree (field_of k) }
-    ensures odd_cube { (k : Kind) → OddCubeIsZero (field_of k) }
-    ensures cube_rule { (k : Kind) → OddCubeIsZeroByCube (field_of k) }
     ensures zero_table { (k : Kind) → ZeroBracketsFail (field_of k) }
 {}

@@ -5,7 +5,8 @@ use Rattle.math_fields.specs.Field.{Field}
 use Rattle.math_linear.specs.Vector.{Vector, vzero, vplus, scale, place}
 use Rattle.math_algebra.specs.Tree.{Parity}
 use Rattle.math_algebra.specs.Table.{Table, product, bracket, IsIn, parity_at}
-use Rattle.math_linear.proofs.Linear.{IsLinear, linear_vzero, bilinear_left, bilinear_right, bilinear_places}
+use Rattle.math_linear.specs.Linear.{IsLinear}
+use Rattle.math_linear.proofs.Linear.{linear_vzero, bilinear_left, bilinear_right, bilinear_places}
 use Rattle.math_linear.proofs.Places.{by_places, linear_agree}
 
 module _ (K : Field) (T : Table K) where

@@ -18,7 +18,8 @@ use Rattle.math_algebra.proofs.Homogeneous.WeightIs.{weight_void, weight_gen, we
 use Rattle.math_algebra.proofs.Homogeneous.WeightsAre.{weight_end, weight_more}
 use Rattle.math_linear.proofs.Vectors.{vplus-vzero, scale-vzero}
 use Rattle.math_linear.proofs.Numbers.{times-nought}
-use Rattle.math_linear.proofs.Linear.{IsLinear, linear_vzero, bilinear_left, bilinear_right}
+use Rattle.math_linear.specs.Linear.{IsLinear}
+use Rattle.math_linear.proofs.Linear.{linear_vzero, bilinear_left, bilinear_right}
 use Rattle.math_values.proofs.Products.{bracket_places, bracket-vplus, vplus-bracket, bracket-scale, scale-bracket, bracket-vzero, vzero-bracket}
 use Rattle.math_values.proofs.Parts.{void_val}
 use Rattle.math_linear.proofs.Places.{by_places}

@@ -13,7 +13,8 @@ use Rattle.math_algebra.proofs.Freely.{DerivesFreely}
 use Rattle.math_algebra.proofs.Freely.DerivesFreely.{same, back, then, in_sum, in_multiple, in_left, in_right, sum_swap, sum_rest, sum_flat, sum_none, sum_empty, sum_one, multiple_multiple, multiple_unit, multiple_nought, multiple_plus, multiple_sum, left_sum, right_sum, left_multiple, right_multiple, exchange, jacobi, relation, cube}
 use Rattle.math_linear.proofs.Numbers.{minus_minus}
 use Rattle.math_linear.proofs.Vectors.{vplus_assoc, vplus_comm, vplus_left_comm, vplus-vzero, vzero-vplus, scale-vplus, plus-scale, scale_scale, scale-unit, scale-nought, scale-vzero, minus-vplus}
-use Rattle.math_linear.proofs.Linear.{IsLinear, linear_vzero, linear_itself, linear_scale, linear_vplus}
+use Rattle.math_linear.specs.Linear.{IsLinear}
+use Rattle.math_linear.proofs.Linear.{linear_vzero, linear_itself, linear_scale, linear_vplus}
 use Rattle.math_values.proofs.Products.{bracket_linear_left, bracket_linear_right, linear_left, linear_right, linear_same, by_part, bracket-vplus, vplus-bracket, bracket-scale, scale-bracket, vzero-bracket}
 use Rattle.math_values.proofs.Parts.{void_val, in_place, in_vzero, in_vplus, in_scale, in_bracket, exchange_parts}
 
@@ -75,7 +76,7 @@ module _ (K : Field) (P : Presentation K.Carrier) (T : Table K) (law : ObeysLaw 
       cancels u v =
           ap (λ w. vplus K w (vplus K v u)) (sym (scale-vplus K _ u v) ∙ ap (scale K (K.minus K.unit)) (vplus_comm K u v)) ∙ minus-vplus K (vplus K v u)
 
-  pub cube_of : Vector K → Vector K
+  unfoldable pub cube_of : Vector K → Vector K
   cube_of x = bracket K T x (bracket K T x x)
 
   pub cube_vplus : (x y : Vector K) → IsIn K T odd x → IsIn K T odd y → cube_of (vplus K x y) ≡ vplus K (cube_of x) (cube_of y)

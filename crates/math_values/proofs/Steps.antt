@@ -11,7 +11,8 @@ use Rattle.math_algebra.specs.Derives.{sign}
 use Rattle.math_algebra.specs.Table.{basis_at, IsRegular, Table, signed, product, parity_at, bracket, HasJacobi, with_itself, weight_at, IsOf}
 use Rattle.math_algebra.specs.SourceRows.{outer_place, outer, jacobi_row}
 use Rattle.math_linear.proofs.Vectors.{scale-vzero, vplus-vzero}
-use Rattle.math_linear.proofs.Linear.{IsLinear, linear_vzero, bilinear_left, bilinear_right, bilinear_places, zero_linear, linear_after}
+use Rattle.math_linear.specs.Linear.{IsLinear}
+use Rattle.math_linear.proofs.Linear.{linear_vzero, bilinear_left, bilinear_right, bilinear_places, zero_linear, linear_after}
 use Rattle.math_values.proofs.Products.{bracket_places, bracket_linear_left, bracket_linear_right}
 use Rattle.math_linear.proofs.Span.{apart_zero}
 use Rattle.math_linear.proofs.Places.{bilinear_agree, place_stands}

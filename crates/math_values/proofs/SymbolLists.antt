@@ -8,7 +8,8 @@ use Rattle.std.proofs.lemmas.List.{length-append, get_or_append_left, get_or-app
 use Rattle.math_fields.specs.Field.{Field}
 use Rattle.math_algebra.specs.Tree.{Parity, even, odd, Presentation, generator}
 use Rattle.math_algebra.specs.Table.{Table, Symbol, of_generator, of_pair, parity_at, weight_at}
-use Rattle.math_algebra.specs.Symbols.{joined, is_regular, generators_of, pairs_of, symbols, no_symbol, symbol_at, same_symbol, place_of, IsSymbol}
+use Rattle.math_linear.specs.Lists.{joined}
+use Rattle.math_algebra.specs.Symbols.{is_pair_of, generators_of, pairs_of, symbols, symbols_of, no_symbol, symbol_at, same_symbol, place_of, IsSymbol}
 use Rattle.math_algebra.specs.Symbols.IsSymbol.{is_generator, is_pair}
 
 abbrev pub At : List Symbol → ℕ → Symbol → Type 0
@@ -108,7 +109,7 @@ at_place_of (y ∷ ys) k x h = go (same_symbol x y) refl (λ k. at_place_of ys k
     go false e t = later e t k h
 
 module _ (K : Field) (P : Presentation K.Carrier) (T : Table K) where
-  regular_is : (i j : ℕ) → is_regular T i j ≡ true → (weight_at T i + weight_at T j ≡ suc T.weight) × ((i < j) ⊎ ((i ≡ j) × (parity_at T i ≡ odd)))
+  regular_is : (i j : ℕ) → is_pair_of T (suc T.weight) i j ≡ true → (weight_at T i + weight_at T j ≡ suc T.weight) × ((i < j) ⊎ ((i ≡ j) × (parity_at T i ≡ odd)))
   regular_is i j e = go (ℕ_discrete (weight_at T i + weight_at T j) (suc T.weight)) (dec_lt i j) (ℕ_discrete i j) (parity_at T i) refl
     where
       go : Dec (weight_at T i + weight_at T j ≡ suc T.weight) → Dec (i < j) → Dec (i ≡ j) → (s : Parity) → parity_at T i ≡ s →
@@ -119,46 +120,46 @@ module _ (K : Field) (P : Presentation K.Carrier) (T : Table K) where
       go (yes a) (no b) (no c) s p = absurd (grind arith)
       go (no a) b c s p = absurd (grind arith)
 
-  is_regular_pair : (i j : ℕ) → weight_at T i + weight_at T j ≡ suc T.weight → (i < j) ⊎ ((i ≡ j) × (parity_at T i ≡ odd)) → is_regular T i j ≡ true
+  is_regular_pair : (i j : ℕ) → weight_at T i + weight_at T j ≡ suc T.weight → (i < j) ⊎ ((i ≡ j) × (parity_at T i ≡ odd)) → is_pair_of T (suc T.weight) i j ≡ true
   is_regular_pair i j a (inl b) = grind arith
   is_regular_pair i j a (inr b) = let e = b.0 in let f = b.1 in grind arith
 
   abbrev row_of_pairs : ℕ → List Symbol
-  row_of_pairs i = joined (length T.basis) (λ j. cond (is_regular T i j) (of_pair i j ∷ []) [])
+  row_of_pairs i = joined (length T.basis) (λ j. cond (is_pair_of T (suc T.weight) i j) (of_pair i j ∷ []) [])
 
   -- each symbol stands in the list
   pub symbol_stands : (x : Symbol) → IsSymbol P T x → (k : ℕ) × At (symbols P T) k x
-  unfolding symbols
+  unfolding symbols symbols_of
   symbol_stands _ (is_generator g l e) =
       let r = joined_at (length P.generators) (λ g. cond (nat_eq (generator P g).weight (suc T.weight)) (of_generator g ∷ []) []) g 0 (of_generator g) l (if_one _ (of_generator g) (grind arith)) in
-      (r.0, at_left (generators_of P T) (pairs_of T) r.0 (of_generator g) r.1)
+      (r.0, at_left (generators_of P (suc T.weight)) (pairs_of T (suc T.weight)) r.0 (of_generator g) r.1)
   symbol_stands _ (is_pair i j l m a b) =
-      let r = joined_at (length T.basis) (λ j. cond (is_regular T i j) (of_pair i j ∷ []) []) j 0 (of_pair i j) m (if_one _ (of_pair i j) (is_regular_pair i j a b)) in
+      let r = joined_at (length T.basis) (λ j. cond (is_pair_of T (suc T.weight) i j) (of_pair i j ∷ []) []) j 0 (of_pair i j) m (if_one _ (of_pair i j) (is_regular_pair i j a b)) in
       let t = joined_at (length T.basis) row_of_pairs i r.0 (of_pair i j) l r.1 in
-      (length (generators_of P T) + t.0, at_right (generators_of P T) (pairs_of T) t.0 (of_pair i j) t.1)
+      (length (generators_of P (suc T.weight)) + t.0, at_right (generators_of P (suc T.weight)) (pairs_of T (suc T.weight)) t.0 (of_pair i j) t.1)
 
-  in_generators : (x : Symbol) (k : ℕ) → At (generators_of P T) k x → (g : ℕ) × (g < length P.generators) × ((generator P g).weight ≡ suc T.weight) × (x ≡ of_generator g)
+  in_generators : (x : Symbol) (k : ℕ) → At (generators_of P (suc T.weight)) k x → (g : ℕ) × (g < length P.generators) × ((generator P g).weight ≡ suc T.weight) × (x ≡ of_generator g)
   in_generators x k h =
       let r = at_joined (length P.generators) (λ g. cond (nat_eq (generator P g).weight (suc T.weight)) (of_generator g ∷ []) []) k x h in
       let t = one_if _ (of_generator r.0) x r.2 r.3 in
       (r.0, r.1, (let e = t.0 in grind arith), t.1)
 
-  in_row : (i : ℕ) (x : Symbol) (k : ℕ) → At (row_of_pairs i) k x → (j : ℕ) × (j < length T.basis) × (is_regular T i j ≡ true) × (x ≡ of_pair i j)
+  in_row : (i : ℕ) (x : Symbol) (k : ℕ) → At (row_of_pairs i) k x → (j : ℕ) × (j < length T.basis) × (is_pair_of T (suc T.weight) i j ≡ true) × (x ≡ of_pair i j)
   in_row i x k h =
-      let r = at_joined (length T.basis) (λ j. cond (is_regular T i j) (of_pair i j ∷ []) []) k x h in
+      let r = at_joined (length T.basis) (λ j. cond (is_pair_of T (suc T.weight) i j) (of_pair i j ∷ []) []) k x h in
       let t = one_if _ (of_pair i r.0) x r.2 r.3 in (r.0, r.1, t.0, t.1)
 
-  in_pairs : (x : Symbol) (k : ℕ) → At (pairs_of T) k x → (i : ℕ) × (i < length T.basis) × (j : ℕ) × (j < length T.basis) × (is_regular T i j ≡ true) × (x ≡ of_pair i j)
+  in_pairs : (x : Symbol) (k : ℕ) → At (pairs_of T (suc T.weight)) k x → (i : ℕ) × (i < length T.basis) × (j : ℕ) × (j < length T.basis) × (is_pair_of T (suc T.weight) i j ≡ true) × (x ≡ of_pair i j)
   in_pairs x k h =
       let r = at_joined (length T.basis) row_of_pairs k x h in
       let t = in_row r.0 x r.2 r.3 in (r.0, r.1, t.0, t.1, t.2, t.3)
 
   -- what stands in the list is a symbol
   pub is_symbol : (x : Symbol) (k : ℕ) → At (symbols P T) k x → IsSymbol P T x
-  unfolding symbols
-  is_symbol x k h = go (at_either (generators_of P T) (pairs_of T) k x h)
+  unfolding symbols symbols_of
+  is_symbol x k h = go (at_either (generators_of P (suc T.weight)) (pairs_of T (suc T.weight)) k x h)
     where
-      go : (At (generators_of P T) k x) ⊎ ((k' : ℕ) × (At (pairs_of T) k' x) × (k ≡ length (generators_of P T) + k')) → IsSymbol P T x
+      go : (At (generators_of P (suc T.weight)) k x) ⊎ ((k' : ℕ) × (At (pairs_of T (suc T.weight)) k' x) × (k ≡ length (generators_of P (suc T.weight)) + k')) → IsSymbol P T x
       go (inl a) = let r = in_generators x k a in subst (IsSymbol P T) (sym r.3) (is_generator r.0 r.1 r.2)
       go (inr a) = let r = in_pairs x a.0 a.1 in let t = regular_is r.0 r.2 r.4 in subst (IsSymbol P T) (sym r.5) (is_pair r.0 r.2 r.1 r.3 t.0 t.1)
 
@@ -179,9 +180,9 @@ module _ (K : Field) (P : Presentation K.Carrier) (T : Table K) where
 
   -- no symbol stands twice
   pub symbols_once : Once (symbols P T)
-  unfolding symbols first_of_pair second_of_pair is_pair_symbol
+  unfolding symbols symbols_of first_of_pair second_of_pair is_pair_symbol
   symbols_once =
-      once_append (generators_of P T) (pairs_of T)
+      once_append (generators_of P (suc T.weight)) (pairs_of T (suc T.weight))
       (once_joined (length P.generators) _ (λ g. once_if _ (of_generator g))
       (λ g h k k' x a b. generator_injective g h (sym (one_if _ (of_generator g) x k a).1 ∙ (one_if _ (of_generator h) x k' b).1)))
       (once_joined (length T.basis) row_of_pairs

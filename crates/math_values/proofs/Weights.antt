@@ -1,11 +1,11 @@
 -- A new weight: what the symbols mean by its closed rows, and that closed rows lie in one parity, are derivably 0, and give the standard basis.
-use Rattle.std.specs.Prelude.{ℕ, zero, suc, ◌≡◌, ◌≢◌, ◌⊎◌, ◌<◌, ◌≤◌, Option, Some, None}
+use Rattle.std.specs.Prelude.{ℕ, zero, suc, ◌≡◌, ◌≢◌, ◌⊎◌, ◌<◌, Option, Some, None}
 use mathlib.Core.Path.{sym, refl, ap, ap₂, ◌∙◌, fun_ext, subst}
 use mathlib.Core.Logic.{inl, inr}
 use native.Mathlib.Omega.{arith}
 use native.Mathlib.Decide.{ℕ_discrete, dec_lt}
 use Rattle.math_fields.specs.Field.{Field}
-use Rattle.math_linear.specs.Vector.{Vector, vzero, vplus, scale, place, total}
+use Rattle.math_linear.specs.Vector.{Vector, vzero, vplus, scale, place, total, EndsAt}
 use Rattle.math_algebra.specs.Tree.{Presentation, none, Parity, even, odd}
 use Rattle.math_algebra.proofs.Freely.{DerivesFreely}
 use Rattle.math_algebra.specs.Derives.{Expression}
@@ -16,7 +16,8 @@ use Rattle.math_algebra.specs.Built.{at_slot, relabel, meaning_of}
 use Rattle.math_algebra.specs.Standard.{combined}
 use Rattle.math_linear.proofs.Vectors.{place_other, place_same, vplus_comm, minus-vplus}
 use Rattle.math_linear.proofs.Numbers.{times-nought, nought-times}
-use Rattle.math_linear.proofs.Linear.{IsLinear, linear_vzero, swept_linear}
+use Rattle.math_linear.specs.Linear.{IsLinear}
+use Rattle.math_linear.proofs.Linear.{linear_vzero, swept_linear}
 use Rattle.math_linear.proofs.Places.{zero_at, less_at, Only, Stands, by_places}
 use Rattle.math_linear.proofs.Span.{span_vzero, span_vplus, span_scale, by_span, apart_zero, in_span, span_less}
 use Rattle.math_linear.proofs.Closed.{combination_none, find_pivot, zero_at_pivots, swept_span, span_swept, pivot_of, at_pivot}
@@ -167,7 +168,7 @@ module _ (K : Field) (parity : ℕ → Parity) where
 module _ (K : Field) (P : Presentation K.Carrier) (symbol : ℕ → Expression K) (m : ℕ) (tree : ℕ → Expression K) (n' : ℕ)
     (n : ℕ) (row : ℕ → Vector K) (pivot : ℕ → ℕ) (closed : IsClosed K n row pivot) (slot : ℕ → Option ℕ)
     (zero_rows : (i : ℕ) → i < n → DerivesFreely K P (combined K symbol m (row i)) none)
-    (rows_below : (i s : ℕ) → i < n → m ≤ s → row i s ≡ K.nought)
+    (rows_below : (i : ℕ) → i < n → EndsAt K m (row i))
     (free : (s : ℕ) → s < m → ((i : ℕ) → i < n → pivot i ≢ s) → (k : ℕ) × (k < n') × (relabel K slot (place K s) ≡ place K k) × (tree k ≡ symbol s)) where
   abbrev pub meaning : Vector K → Vector K
   meaning v = meaning_of K slot n row pivot v
@@ -194,11 +195,11 @@ module _ (K : Field) (P : Presentation K.Carrier) (symbol : ℕ → Expression K
       (then (combined_vplus K P symbol m v _)
       (then (both_same K P same (then (combined_scale K P symbol m (K.minus K.unit) _) (then (in_multiple _ (span_zero _ ((λ i. v (pivot i)), refl))) (multiple_none K P _)))) (both_none K P _)))
 
-  pub swept_stands : (v : Vector K) → ((s : ℕ) → m ≤ s → v s ≡ K.nought) → Stands K m Free (swept K n row pivot v)
+  pub swept_stands : (v : Vector K) → EndsAt K m v → Stands K m Free (swept K n row pivot v)
   swept_stands v h s = go (dec_lt s m) (find_pivot n pivot s)
     where
       go : Dec (s < m) → ((i : ℕ) × (i < n) × (pivot i ≡ s)) ⊎ ((i : ℕ) → i < n → pivot i ≢ s) → (swept K n row pivot v s ≡ K.nought) ⊎ ((s < m) × Free s)
-      go (no l) d = inl (less_at K v _ s (combination_none K n row _ s (λ i k. rows_below i s k (omega arith)) ∙ sym (h s (omega arith))))
+      go (no l) d = inl (less_at K v _ s (combination_none K n row _ s (λ i k. rows_below i k s (omega arith)) ∙ sym (h s (omega arith))))
       go (yes l) (inl f) = inl (subst (λ w. swept K n row pivot v w ≡ K.nought) f.2 (less_at K v _ (pivot f.0) (at_pivot K n row pivot closed (λ i. v (pivot i)) f.0 f.1)))
       go (yes l) (inr f) = inr (l, f)
 
@@ -223,16 +224,16 @@ module _ (K : Field) (P : Presentation K.Carrier) (symbol : ℕ → Expression K
   -- The standard basis: a symbol that is no pivot isn't derivably equal to a combination of smaller ones, where derivably equal expressions have one value
   -- and each combination of symbols has its meaning for a value.
   module _ (value : Expression K → Vector K) (one_value : (e f : Expression K) → DerivesFreely K P e f → value e ≡ value f)
-      (value_is : (u : Vector K) → ((s : ℕ) → m ≤ s → u s ≡ K.nought) → value (combined K symbol m u) ≡ meaning u)
+      (value_is : (u : Vector K) → EndsAt K m u → value (combined K symbol m u) ≡ meaning u)
       (slots : (s : ℕ) → s < m → Free s → (k : ℕ) × (slot k ≡ Some s)) where
-    pub standard : (s : ℕ) → s < m → Free s → (u : Vector K) → ((t : ℕ) → s ≤ t → u t ≡ K.nought) → DerivesFreely K P (symbol s) (combined K symbol m u) → ⊥
+    pub standard : (s : ℕ) → s < m → Free s → (u : Vector K) → EndsAt K s u → DerivesFreely K P (symbol s) (combined K symbol m u) → ⊥
     unfolding meaning_of relabel
     standard s l f u small e = go (pivot_of K n row pivot closed d s (span_swept K n row pivot closed d zero) one past)
       where
         d : Vector K
         d = vplus K (place K s) (scale K (K.minus K.unit) u)
 
-        far : (t : ℕ) → m ≤ t → d t ≡ K.nought
+        far : EndsAt K m d
         far t h = less_at K (place K s) u t (small t (omega arith) ∙ sym (place_other K s t (omega arith)))
 
         one : d s ≡ K.unit

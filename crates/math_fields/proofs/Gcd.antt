@@ -5,7 +5,7 @@ use mathlib.Core.Path.{refl}
 use native.Mathlib.Omega.{arith}
 use native.Mathlib.Nat.{mod-lt}
 use Rattle.std.proofs.lemmas.Nat.Gcd.{IsGcd-from_zero, IsGcd-from_mod}
-use Rattle.fpl_numbers.specs.Numbers.{gcd_within, gcd}
+use Rattle.math_fields.specs.Gcd.{gcd_within, gcd}
 
 is_zero : (b : ℕ) → nat_eq b 0 ≡ true → b ≡ 0
 is_zero b e = grind arith

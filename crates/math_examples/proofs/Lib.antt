@@ -1,0 +1,4 @@
+pub mod SmallTables
+pub mod OddPair
+pub mod Doubled
+pub mod Both

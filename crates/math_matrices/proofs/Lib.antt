@@ -1,0 +1,4 @@
+mod Supers
+mod Products
+mod Commutators
+pub mod Main

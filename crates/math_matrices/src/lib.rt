@@ -1,0 +1,19 @@
+//! Supermatrices, and that what is derivable holds for them where the relations do.
+//!
+//! Each function does nothing: what it ensures is a law.
+#![tactic(auto)]
+
+ghost use Rattle.fpl_numbers.specs.declared.number.Kind.{Kind};
+ghost use Rattle.fpl_numbers.specs.Kinds.{field_of};
+ghost use Rattle.math_matrices.specs.Matrices.{BracketIsCommutator, BracketIsSuper, MatricesRespect};
+
+/// Matrices that respect the relations of P give one matrix to what is derivably equal, with no bound on weight.
+pub fn matrices_respect()
+    ensures { (k : Kind) → MatricesRespect (field_of k) }
+{}
+
+/// The bracket of matrices: the super commutator, which is a super Lie bracket.
+pub fn bracket_of_matrices()
+    ensures commutator { (k : Kind) → BracketIsCommutator (field_of k) }
+    ensures laws { (k : Kind) → BracketIsSuper (field_of k) }
+{}

@@ -1,0 +1,3 @@
+pub mod Centre
+pub mod Series
+pub mod Rounds
