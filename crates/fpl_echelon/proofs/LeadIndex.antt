@@ -1,12 +1,12 @@
 -- The index of closed rows by lead: one row more, from the last back.
-use Rattle.std.specs.Prelude.{◌≡◌, ◌≢◌, ℕ, zero, suc, ◌+◌, ◌-◌, ◌<◌, ◌≤◌, List, [], ◌∷◌, length, replicate, drop, slice_get, slice_set, slice_index_or, Option, Some, None, Bool, true, false, cond}
+use Rattle.std.specs.Prelude.{◌≡◌, ◌≢◌, ℕ, zero, suc, ◌+◌, ◌-◌, ◌≤◌, List, [], ◌∷◌, length, replicate, drop, slice_get, slice_set, Option, Some, None, Bool, true, false, cond}
 use Rattle.std.specs.Option.{option_and_then}
 use Rattle.std.specs.List.{find}
 use mathlib.Core.Path.{refl, sym, ap, ◌∙◌, subst}
 use native.Mathlib.Omega.{arith}
 use native.Mathlib.Decide.{ℕ_discrete}
 use Rattle.std.proofs.lemmas.Bool.Decides.{nat_tests}
-use Rattle.std.proofs.Common.{length-set, get_or-set_same, get_or-set_other}
+use Rattle.std.proofs.Common.{get_or-set_same, get_or-set_other}
 use Rattle.fpl_numbers.specs.declared.number.Num.{Num}
 use Rattle.fpl_rows.specs.Positions.{lead_of}
 use Rattle.fpl_log.proofs.TermsTaken.{drop_next}

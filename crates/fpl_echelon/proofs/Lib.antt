@@ -1,5 +1,5 @@
-pub mod IndexLemmas
 pub mod Contracts
+pub mod IndexLemmas
 pub mod LeadIndex
-pub mod PlaceSweeps
 pub mod Passing
+pub mod PlaceSweeps

@@ -1,5 +1,5 @@
 -- A sweep passes over the places where the row is 0.
-use Rattle.std.specs.Prelude.{ℕ, zero, suc, ◌≡◌, ◌<◌, ◌≤◌, ◌+◌, List, slice_index_or, Option, Some, None, Result, Ok, true, false}
+use Rattle.std.specs.Prelude.{ℕ, zero, suc, ◌≡◌, ◌<◌, ◌≤◌, ◌+◌, List, Option, Some, None, Result, Ok, true}
 use Rattle.std.specs.List.{find}
 use Rattle.std.proofs.Common.{get_or, ◌-◌, sub-one}
 use mathlib.Core.Path.{refl, sym, ap, ◌∙◌}

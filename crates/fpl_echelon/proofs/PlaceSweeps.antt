@@ -1,5 +1,5 @@
 -- A row swept by walking it: closed rows whose leads it doesn't meet leave it as it is, so what is left is what all closed rows leave.
-use Rattle.std.specs.Prelude.{◌≡◌, ◌≢◌, ℕ, zero, suc, ◌+◌, ◌-◌, ◌<◌, ◌≤◌, List, [], ◌∷◌, length, get_or, drop, slice_get, Option, Some, None, IfSome, Result, Ok, Bool, true, false, cond, nat_eq, unwrap_or, if◌then◌else◌}
+use Rattle.std.specs.Prelude.{◌≡◌, ℕ, zero, suc, ◌-◌, ◌<◌, ◌≤◌, List, [], ◌∷◌, length, get_or, drop, slice_get, Option, Some, None, IfSome, Result, Ok, Bool, true, false, cond, unwrap_or}
 use Rattle.std.specs.List.{find}
 use mathlib.Core.Path.{refl, sym, ap, ◌∙◌, subst}
 use native.Mathlib.Omega.{arith}

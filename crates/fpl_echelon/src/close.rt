@@ -1,11 +1,12 @@
-ghost use Rattle.std.specs.Prelude.{◌≡◌, ◌<◌, ◌≤◌, ◌+◌, ◌^◌, [], length, All, OnOk};
+ghost use Rattle.std.specs.Prelude.{◌≡◌, ◌<◌, ◌≤◌, ◌+◌, ◌^◌, [], length, replicate, All, OnOk};
+ghost use Rattle.fpl_numbers.specs.Numbers.{residue};
 ghost use Rattle.fpl_numbers.specs.Results.{Gives, GivesBy};
 ghost use Rattle.plain_elimination.specs.Plain.{IsPivotRow, close_at, close_to};
 
 use crate::pivots::{Pivot, Pivots};
-use crate::sweeping::sweep_below;
+use crate::working::{gathered, sweep_work};
 use fpl_log::{Step, StepList, Terms};
-use fpl_rows::Rows;
+use fpl_rows::{Rows, Work};
 use fpl_scalar::{Fault, Field};
 use std::alloc::Global;
 
@@ -16,29 +17,36 @@ pub struct Closed<F: Field> {
     pub rows: Rows<F>,
 }
 
-/// Sweeps the pivot row at position `s + 1` by the closed rows below, and adds it to these.
+/// Sweeps the pivot row at position `s + 1` by the closed rows below, in an empty row in work,
+/// and adds it to these.
 pub fn close_place<F: Field>(
     alloc: Global,
     field: &F,
     pivots: &Pivots<F>,
-    size: u32,
     s: u32,
     closed: &mut Pivots<F>,
     steps: &mut StepList,
+    work: &mut Work<F>,
 ) -> Result<(), Fault>
-    requires place { s < size }
-    requires pivots { All (IsPivotRow (F.kind_of field.now) size) pivots.now }
-    requires closed { All (IsPivotRow (F.kind_of field.now) size) closed.old }
+    requires kind { work.old.kind ≡ F.kind_of field.now }
+    requires zeros { work.old.row ≡ replicate (length work.old.row) (residue 0) }
+    requires place { s < length work.old.row }
+    requires fits { s + 1 < 2 ^ 32 }
+    requires pivots { All (IsPivotRow (F.kind_of field.now) (length work.old.row)) pivots.now }
+    requires closed { All (IsPivotRow (F.kind_of field.now) (length work.old.row)) closed.old }
     ensures value { Gives result (record { pivots = closed.new; steps = steps.new }) (close_at (F.kind_of field.now) pivots.now s (record { pivots = closed.old; steps = steps.old })) }
+    ensures emptied { OnOk result (work.new ≡ work.old) }
 {
     match pivots.find(s + 1) {
         None => Ok(()),
         Some(pivot) => {
-            let mut row = pivot.row().copy(alloc)?;
+            work.load(pivot.row());
             let mut terms = Terms::new(alloc);
-            sweep_below(field, closed, s, &mut row, &mut terms)?;
+            sweep_work(field, closed, s, work, &mut terms)?;
+            let row = gathered(alloc, field, work)?;
+            work.clear();
             let step = steps.len() as u64 + 1;
-            closed.push(Pivot::of(s + 1, step, row.pack(alloc, field)))?;
+            closed.push(Pivot::of(s + 1, step, row))?;
             let of = pivot.step();
             steps.push(Step::Close { of, terms })?;
             Ok(())
@@ -58,8 +66,9 @@ pub fn close_all<F: Field>(
     ensures value { GivesBy (λ closed. record { pivots = closed; steps = steps.new }) result (close_to (F.kind_of field.now) pivots.now size (record { pivots = []; steps = steps.old })) }
 {
     let mut closed = Pivots::new(alloc);
+    let mut work = Work::new(alloc, *field, size)?;
     for s in 0..size {
-        match close_place(alloc, field, pivots, size, s, &mut closed, steps) {
+        match close_place(alloc, field, pivots, s, &mut closed, steps, &mut work) {
             Ok(()) => {}
             Err(fault) => return Err(fault),
         }

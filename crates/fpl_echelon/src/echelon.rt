@@ -1,5 +1,5 @@
-ghost use Rattle.std.specs.Prelude.{◌≡◌, ◌<◌, ◌≤◌, ◌+◌, [], length, IfOk, OnErr};
-ghost use Rattle.fpl_numbers.specs.Numbers.{IsField};
+ghost use Rattle.std.specs.Prelude.{◌≡◌, ◌<◌, ◌≤◌, ◌+◌, [], length, replicate, IfOk, OnErr};
+ghost use Rattle.fpl_numbers.specs.Numbers.{IsField, residue};
 ghost use Rattle.fpl_numbers.specs.Results.{GivesBy, map_ok};
 ghost use Rattle.fpl_scalar.specs.Vectors.{AreElements};
 ghost use Rattle.plain_elimination.specs.Plain.{inserted_as, insert_of, close_of, rows_of};
@@ -10,8 +10,9 @@ use crate::close::{Closed, close_all};
 use crate::keep::put_in;
 use crate::outcome::Outcome;
 use crate::pivots::Pivots;
+use crate::putting::put_work;
 use fpl_log::{Origin, StepList};
-use fpl_rows::Row;
+use fpl_rows::{Row, Work};
 use fpl_scalar::{Fault, Field};
 use fpl_steps::Steps;
 use std::alloc::{AllocError, Global};
@@ -81,6 +82,38 @@ impl<F: Field> Echelon<F> {
             row,
             origin,
         )
+    }
+
+    /// As `insert`, of a row in work, which is emptied, also where it ends in a `Fault`.
+    pub fn insert_work<L: Ledger>(
+        &mut self,
+        work: &mut Work<F>,
+        origin: Origin,
+        steps: &mut Steps<L>,
+    ) -> Result<Outcome, Fault>
+        requires size { length work.old.row ≡ self.old.size }
+        requires kind { work.old.kind ≡ self.old.kind }
+        ensures value { GivesBy (λ outcome. inserted_as (lead_in outcome) self.new.held) result (insert_of self.old work.old.row origin) }
+        ensures kind { self.new.kind ≡ self.old.kind }
+        ensures size { self.new.size ≡ self.old.size }
+        ensures unchanged { OnErr result (self.new ≡ self.old) }
+        ensures spans { IfOk result (λ outcome. SpansWith self.old work.old.row self.new.held.pivots (lead_in outcome)) }
+        ensures emptied { work.new ≡ record { kind = work.old.kind; row = replicate (length work.old.row) (residue 0) } }
+        ensures step { steps.new ≡ steps.old + 1 }
+    {
+        // its clauses say that the numbers are elements
+        let _count = work.len();
+        steps.tick();
+        let outcome = put_work(
+            self.alloc,
+            &self.field,
+            &mut self.pivots,
+            &mut self.steps,
+            work,
+            origin,
+        );
+        work.clear();
+        outcome
     }
 
     /// The closed rows of the same span by ascending pivot, and all steps: the Inserts first,

@@ -7,8 +7,10 @@ mod keep;
 mod leads;
 mod outcome;
 mod pivots;
+mod putting;
 mod remainder;
 mod sweeping;
+mod working;
 
 pub use close::Closed;
 pub use echelon::Echelon;

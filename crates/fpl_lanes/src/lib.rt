@@ -5,4 +5,4 @@ mod kernels;
 #[cfg(test)]
 mod tests;
 
-pub use kernels::{axpy, first_nonzero, less_once, remainder, scale, share_of};
+pub use kernels::{axpy, first_nonzero, less_once, remainder, scale, share_of, sum_below};

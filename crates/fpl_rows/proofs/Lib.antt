@@ -1,8 +1,13 @@
 pub mod AtPositions
+pub mod Bits
+pub mod CellLoops
 pub mod Fillings
 pub mod Firsts
 pub mod Fits
+pub mod Gains
+pub mod Gatherings
 pub mod Leads
+pub mod Markings
 pub mod Noughts
 pub mod Ones
 pub mod Packings
@@ -10,3 +15,5 @@ pub mod Readings
 pub mod SpreadLeads
 pub mod SpreadSums
 pub mod Spreads
+pub mod Units
+pub mod Workings

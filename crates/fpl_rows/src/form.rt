@@ -4,9 +4,12 @@ ghost use Rattle.fpl_numbers.specs.Results.{Answers};
 ghost use Rattle.fpl_scalar.specs.Vectors.{AreElements, axpy_of};
 ghost use Rattle.fpl_rows.specs.Forms.{numbers_in};
 ghost use Rattle.fpl_rows.specs.Packing.{IsPacking, spread};
+ghost use Rattle.fpl_rows.specs.Working.{IsWorking};
 
+use crate::marks::Marks;
 use crate::packed::{Packed, spread_out};
 use crate::places;
+use crate::sums::gain_each;
 use fpl_scalar::{Field, Kind, Unfit};
 use std::alloc::{AllocError, Global};
 
@@ -81,6 +84,27 @@ impl<F: Field> Form<F> {
         match self {
             Form::Dense(other) => places::axpy(field, row, c, other),
             Form::Sparse(packed) => packed.axpy_to(field, row, c),
+        }
+    }
+
+    /// As `axpy_to`, to sums with marks.
+    pub fn gain_to(
+        &self,
+        field: &F,
+        sums: &mut [F::Sum],
+        marks: &mut Marks,
+        c: F::Elem,
+    ) -> Result<(), Unfit>
+        requires at_most { length (numbers_in F.number self.now) ≤ length sums.old }
+        requires working { IsWorking (F.kind_of field.now) (F.has_room field.now) (F.summed field.now) marks.old sums.old }
+        requires factor { IsElement (F.kind_of field.now) (F.number c) }
+        requires other { AreElements (F.kind_of field.now) (numbers_in F.number self.now) }
+        ensures working { IsWorking (F.kind_of field.now) (F.has_room field.now) (F.summed field.now) marks.new sums.new }
+        ensures value { Answers (λ _. map (F.summed field.now) sums.new) result (axpy_of (F.kind_of field.now) (map (F.summed field.now) sums.old) (F.number c) (numbers_in F.number self.now)) }
+    {
+        match self {
+            Form::Dense(other) => gain_each(field, sums, marks, c, other),
+            Form::Sparse(packed) => packed.gain_to(field, sums, marks, c),
         }
     }
 }

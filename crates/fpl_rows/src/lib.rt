@@ -2,10 +2,14 @@
 #![tactic(auto)]
 
 mod form;
+mod marks;
 mod packed;
 mod places;
 mod row;
 mod rows;
+mod sums;
+mod work;
 
 pub use row::Row;
 pub use rows::Rows;
+pub use work::Work;

@@ -4,8 +4,11 @@ ghost use Rattle.fpl_numbers.specs.Results.{Answers};
 ghost use Rattle.fpl_scalar.specs.Vectors.{AreElements, axpy_of};
 ghost use Rattle.fpl_rows.specs.Positions.{lead_below, next_of};
 ghost use Rattle.fpl_rows.specs.Packing.{IsPacking, filled_numbers, filled_places, spread};
+ghost use Rattle.fpl_rows.specs.Working.{IsWorking};
 
+use crate::marks::Marks;
 use crate::places;
+use crate::sums::gain_at;
 use fpl_scalar::{Field, Unfit};
 use std::alloc::{AllocError, Global};
 use std::marker::Model;
@@ -188,6 +191,26 @@ impl<F: Field> Packed<F> {
         })
     }
 
+    /// As `spread`, of lists that are given.
+    pub fn of_parts(size: u32, places: Vec<u32>, numbers: Vec<F::Elem>) -> Packed<F>
+        requires { IsPacking size places.items (length numbers.items) }
+        ensures { result ≡ spread size places.items (map F.number numbers.items) }
+    {
+        Packed {
+            size,
+            places,
+            numbers,
+        }
+    }
+
+    /// The places, and the numbers at them.
+    pub fn cells(&self) -> (&[u32], &[F::Elem])
+        ensures packing { IsPacking (length self.now) result.0.now (length result.1.now) }
+        ensures value { spread (length self.now) result.0.now (map F.number result.1.now) ≡ self.now }
+    {
+        (&self.places, &self.numbers)
+    }
+
     pub fn copy(&self, alloc: Global) -> Result<Packed<F>, AllocError>
         ensures { IfOk result (λ packed. packed ≡ self.now) }
     {
@@ -246,6 +269,24 @@ impl<F: Field> Packed<F> {
         ensures value { Answers (λ _. map F.number row.new) result (axpy_of (F.kind_of field.now) (map F.number row.old) (F.number c) self.now) }
     {
         axpy_at(field, row, c, self.size, &self.places, &self.numbers)
+    }
+
+    /// As `axpy_to`, to sums with marks.
+    pub fn gain_to(
+        &self,
+        field: &F,
+        sums: &mut [F::Sum],
+        marks: &mut Marks,
+        c: F::Elem,
+    ) -> Result<(), Unfit>
+        requires at_most { length self.now ≤ length sums.old }
+        requires working { IsWorking (F.kind_of field.now) (F.has_room field.now) (F.summed field.now) marks.old sums.old }
+        requires factor { IsElement (F.kind_of field.now) (F.number c) }
+        requires other { AreElements (F.kind_of field.now) self.now }
+        ensures working { IsWorking (F.kind_of field.now) (F.has_room field.now) (F.summed field.now) marks.new sums.new }
+        ensures value { Answers (λ _. map (F.summed field.now) sums.new) result (axpy_of (F.kind_of field.now) (map (F.summed field.now) sums.old) (F.number c) self.now) }
+    {
+        gain_at(field, sums, marks, c, &self.places, &self.numbers)
     }
 
     /// The number at each place.

@@ -1,12 +1,13 @@
-ghost use Rattle.std.specs.Prelude.{◌≡◌, ◌≤◌, ◌<◌, ◌+◌, ◌-◌, ◌^◌, List, length, IfOk, IfErr, OnOk, OnErr, IsTrue, ◌↔◌, None, slice_index_or, replicate, map, vec_len};
+ghost use Rattle.std.specs.Prelude.{◌≡◌, ◌≤◌, ◌<◌, ◌+◌, ◌-◌, ◌^◌, List, length, IfOk, IfSome, IfErr, OnOk, OnErr, IsTrue, ◌↔◌, None, slice_index_or, replicate, map, vec_len};
 ghost use Rattle.fpl_numbers.specs.Numbers.{IsElement, residue};
 ghost use Rattle.fpl_numbers.specs.Results.{Gives};
 ghost use Rattle.fpl_scalar.specs.Vectors.{AreElements, axpy_of, scale_of};
 ghost use Rattle.fpl_rows.specs.Positions.{lead_below, lead_of, next_of, added_at};
+ghost use Rattle.fpl_rows.specs.Forms.{numbers_in};
 ghost use Rattle.fpl_rows.specs.Packing.{IsPacking, spread};
 
 use crate::form::Form;
-use crate::packed::zeros;
+use crate::packed::{Packed, zeros};
 use crate::places;
 use fpl_scalar::{Fault, Field};
 use std::alloc::{AllocError, Global};
@@ -72,6 +73,36 @@ impl<F: Field> Row<F> {
             field: *field,
             form: Form::spread(alloc, field, size, places, numbers)?,
         })
+    }
+
+    /// The row of `size` positions that has these numbers at these places, and 0 elsewhere, packed.
+    pub(crate) fn packed_of(field: &F, size: u32, places: Vec<u32>, numbers: Vec<F::Elem>) -> Row<F>
+        requires { IsPacking size places.items (length numbers.items) }
+        ensures { result ≡ spread size places.items (map F.number numbers.items) }
+    {
+        Row {
+            field: *field,
+            form: Form::Sparse(Packed::of_parts(size, places, numbers)),
+        }
+    }
+
+    /// Where the row is packed: some of its places, ascending, and the numbers at them. All others
+    /// are 0.
+    pub fn cells(&self) -> Option<(&[u32], &[F::Elem])>
+        ensures packing { IfSome result (λ c. IsPacking (length self.now) c.0.now (length c.1.now)) }
+        ensures value { IfSome result (λ c. spread (length self.now) c.0.now (map F.number c.1.now) ≡ self.now) }
+    {
+        match &self.form {
+            Form::Dense(_) => None,
+            Form::Sparse(packed) => Some(packed.cells()),
+        }
+    }
+
+    /// How the row keeps its numbers.
+    pub(crate) fn form(&self) -> &Form<F>
+        ensures { numbers_in F.number result.now ≡ self.now }
+    {
+        &self.form
     }
 
     pub fn copy(&self, alloc: Global) -> Result<Row<F>, AllocError>

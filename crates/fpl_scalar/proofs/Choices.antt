@@ -5,7 +5,7 @@ use Rattle.std.proofs.Common.{to_z, of_z}
 use Rattle.std.proofs.lemmas.Int.{to_z-of_z, ints}
 use mathlib.Core.Path.{refl, ap}
 use native.Mathlib.Omega.{arith}
-use Rattle.fpl_numbers.specs.Numbers.{bound}
+use Rattle.fpl_numbers.specs.Numbers.{most_number}
 
 abbrev held : {T : Type 0} → T → Option T → T
 held d (Some x) = x
@@ -38,12 +38,12 @@ pub true_both : (a b : Bool) → a ≡ true → b ≡ true → (a && b) ≡ true
 true_both true b h e = e
 true_both false b h e = h
 
-pub within_is : (n : ℕ) → nat_le n bound ≡ true → n ≤ bound
+pub within_is : (n : ℕ) → nat_le n most_number ≡ true → n ≤ most_number
 within_is n h = grind arith
 
 -- a number within the bound
-fits : (z : ℤ) → unsigned_abs z ≤ bound → FitsSigned w128 z
+fits : (z : ℤ) → unsigned_abs z ≤ most_number → FitsSigned w128 z
 fits z h = omega (arith, ints)
 
-pub back : (z : ℤ) → unsigned_abs z ≤ bound → to_z w128 (of_z w128 z) ≡ z
+pub back : (z : ℤ) → unsigned_abs z ≤ most_number → to_z w128 (of_z w128 z) ≡ z
 back z h = to_z-of_z w128 z (fits z h)

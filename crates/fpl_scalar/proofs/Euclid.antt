@@ -11,8 +11,8 @@ use Rattle.std.proofs.Common.{add-one}
 use Rattle.std.proofs.Math.Nat.{pow-suc}
 use Rattle.std.proofs.lemmas.Nat.{mul-lt}
 use Rattle.std.proofs.lemmas.Nat.Gcd.{IsGcd-from_mod, IsGcd-from_zero, same_from_IsGcd}
-use Rattle.fpl_numbers.specs.Numbers.{gcd}
-use Rattle.fpl_numbers.proofs.Gcd.{gcd_is}
+use Rattle.math_fields.specs.Gcd.{gcd}
+use Rattle.math_fields.proofs.Gcd.{gcd_is}
 
 -- what is known of the two numbers after t turns
 pub record AfterTurns (a b x y t : ℕ) : Type 0 where

@@ -6,7 +6,7 @@ use native.Mathlib.Omega.{arith}
 use Rattle.fpl_numbers.specs.declared.number.Num.{Num}
 use Rattle.fpl_numbers.specs.declared.number.Kind.TheVariants.{Rational}
 use Rattle.fpl_numbers.specs.declared.number.Op.TheVariants.{Add, Mul}
-use Rattle.fpl_numbers.specs.Numbers.{IsElement, bound, is_nought, fraction_fits, fraction_sum, fraction_product, inverse_of, inverted}
+use Rattle.fpl_numbers.specs.Numbers.{IsElement, most_number, is_nought, fraction_fits, fraction_sum, fraction_product, inverse_of, inverted}
 use Rattle.fpl_numbers.proofs.Fitting.{result_fits, negative_fits, inverse_fits}
 use Rattle.fpl_numbers.proofs.KindReads.{kind_reads_exactly}
 use Rattle.fpl_scalar.proofs.Choices.{back, chosen}
@@ -22,7 +22,7 @@ product_element a b c is_a is_b e =
     let f = chosen (fraction_fits Mul a b) (fraction_product a b) c e in
     subst (IsElement Rational) (sym f.1) (((kind_reads_exactly Rational tt).product a b is_a.0 is_b.0).0, result_fits Rational Mul a b f.0)
 
-neg_back : (z : ℤ) → unsigned_abs z ≤ bound → wrapped (pos 0 -ℤ wrapped z) ≡ neg_ℤ z
+neg_back : (z : ℤ) → unsigned_abs z ≤ most_number → wrapped (pos 0 -ℤ wrapped z) ≡ neg_ℤ z
 neg_back z h = omega (arith, ints)
 
 pub negative_element : (a : Num) → IsElement Rational a → IsElement Rational (record { numerator = wrapped (pos 0 -ℤ wrapped a.numerator); denominator = wrapped a.denominator })

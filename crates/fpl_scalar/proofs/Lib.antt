@@ -1,4 +1,3 @@
-pub mod Accepted
 pub mod Inverses
 pub mod AtPlaces
 pub mod Euclid

@@ -10,9 +10,10 @@ use Rattle.fpl_numbers.specs.declared.number.Num.{Num}
 use Rattle.fpl_numbers.specs.declared.number.Kind.{Kind}
 use Rattle.fpl_numbers.specs.declared.number.Kind.TheVariants.{Rational, Prime}
 use Rattle.fpl_numbers.specs.declared.number.Op.TheVariants.{Add, Mul}
-use Rattle.fpl_numbers.specs.Numbers.{IsElement, bound, is_nought, is_zero_int, is_within, gcd, divided, reduced, residue, residue_of, left_part, right_part, both_parts, shared, sum_below, fraction_sum, fraction_product, fraction_fits, operate}
+use Rattle.math_fields.specs.Gcd.{gcd}
+use Rattle.fpl_numbers.specs.Numbers.{IsElement, most_number, is_nought, is_zero_int, is_within, divided, reduced, residue, residue_of, left_part, right_part, both_parts, shared, sum_below, fraction_sum, fraction_product, fraction_fits, operate}
 use Rattle.fpl_numbers.specs.Results.{and_then}
-use Rattle.fpl_numbers.proofs.Gcd.{gcd_is}
+use Rattle.math_fields.proofs.Gcd.{gcd_is}
 use Rattle.fpl_numbers.proofs.Integers.{abs_of_positive, positive_is, zero_int_is}
 use Rattle.fpl_numbers.proofs.WholeFractions.{gcd-one, times-one, divided-one, within_true}
 use Rattle.fpl_scalar.specs.Vectors.{fused}
@@ -79,7 +80,7 @@ module _ (x : Num) (is : IsElement Rational x) where
   sum_fits =
       true_both _ _
       (true_both _ _ (true_both _ _ (ap is_within left_is ∙ within_true _ is.1.0) (ap is_within right_is)) (ap is_within both_is ∙ within_true _ is.1.0))
-      (ap (λ w. nat_le w bound) below_is ∙ within_true _ is.1.1)
+      (ap (λ w. nat_le w most_number) below_is ∙ within_true _ is.1.1)
 
   sum_nought : operate Rational Add x (residue 0) ≡ Ok x
   sum_nought = ap₂ (λ t w. if t then Ok w else Err (record { op = Add; a = x; b = residue 0 })) sum_fits sum_is

@@ -1,5 +1,5 @@
 ghost use Rattle.std.specs.Prelude.{◌≡◌, ◌<◌, ◌≤◌, ◌/◌};
-ghost use Rattle.fpl_numbers.specs.Numbers.{gcd};
+ghost use Rattle.math_fields.specs.Gcd.{gcd};
 
 /// The turns that Euclid's algorithm takes at most on numbers of 128 bits: each turn but the
 /// first at least halves the product of the two numbers, which is below 2^256.

@@ -1,7 +1,7 @@
-ghost use Rattle.std.specs.Prelude.{◌≡◌, ◌≤◌, ◌<◌, ◌*◌, ◌/◌, ◌+ℤ◌, ◌*ℤ◌, pos, nat_le, unsigned_abs, option_map, if◌then◌else◌};
+ghost use Rattle.std.specs.Prelude.{◌≡◌, true, ◌≤◌, ◌<◌, ◌*◌, ◌/◌, ◌+ℤ◌, ◌*ℤ◌, pos, nat_le, unsigned_abs, option_map, if◌then◌else◌};
 ghost use Rattle.fpl_numbers.specs.declared.number.Kind.TheVariants.{Rational};
 ghost use Rattle.fpl_numbers.specs.declared.number.Op.TheVariants.{Add, Mul};
-ghost use Rattle.fpl_numbers.specs.Numbers.{IsElement, bound, divided, fraction_fits, fraction_product, fraction_sum, is_within};
+ghost use Rattle.fpl_numbers.specs.Numbers.{IsElement, most_number, divided, fraction_fits, fraction_product, fraction_sum, is_within};
 ghost use Rattle.fpl_numbers.specs.Quotients.{whole};
 
 use crate::Field;
@@ -45,7 +45,7 @@ fn plus(a: i128, b: i128) -> Option<i128>
 /// `a` times the quotient of `n` by `d`, where it is within the bound.
 fn multiple(a: i128, n: u128, d: u128) -> Option<i128>
     requires positive { 0 < d }
-    requires fits { n ≤ bound }
+    requires fits { n ≤ most_number }
     ensures { result ≡ (if is_within (a *ℤ pos (n / d)) then Some (a *ℤ pos (n / d)) else None) }
 {
     times(a, over(n, d) as i128)
@@ -55,9 +55,9 @@ fn multiple(a: i128, n: u128, d: u128) -> Option<i128>
 fn joined(n: u128, d: u128, m: u128, e: u128) -> Option<i128>
     requires left { 0 < d }
     requires right { 0 < e }
-    requires left_fits { n ≤ bound }
-    requires right_fits { m ≤ bound }
-    ensures { result ≡ (if nat_le (n / d * (m / e)) bound then Some (pos (n / d * (m / e))) else None) }
+    requires left_fits { n ≤ most_number }
+    requires right_fits { m ≤ most_number }
+    ensures { result ≡ (if nat_le (n / d * (m / e)) most_number then Some (pos (n / d * (m / e))) else None) }
 {
     multiple(over(n, d) as i128, m, e)
 }
@@ -65,7 +65,7 @@ fn joined(n: u128, d: u128, m: u128, e: u128) -> Option<i128>
 /// `n` divided by `d`, towards 0.
 pub fn reduced_by(n: i128, d: u128) -> i128
     requires positive { 0 < d }
-    requires fits { d ≤ bound }
+    requires fits { d ≤ most_number }
     ensures { result ≡ divided n d }
 {
     match (i64::try_from(n), i64::try_from(d)) {
@@ -79,7 +79,7 @@ fn below(a: Num) -> u128
     requires { IsElement Rational a }
     ensures value { result ≡ unsigned_abs a.denominator }
     ensures positive { 0 < result }
-    ensures fits { result ≤ bound }
+    ensures fits { result ≤ most_number }
 {
     a.denominator.unsigned_abs()
 }
@@ -189,6 +189,12 @@ impl Field for Fraction {
 
     ghost same_number = { λ f a b is_a is_b e. e };
 
+    type Sum = Num;
+
+    ghost summed = { λ r sum. sum };
+
+    ghost has_room = { λ r sum. true };
+
     fn kind(&self) -> Kind {
         Kind::Rational
     }
@@ -256,5 +262,20 @@ impl Field for Fraction {
 
     fn num(&self, a: Num) -> Num {
         a
+    }
+
+    fn blank(&self) -> Num {
+        self.zero()
+    }
+
+    fn fuse(&self, sum: Num, c: Num, x: Num) -> Result<Num, Unfit> {
+        match self.mul(c, x) {
+            Ok(product) => self.add(sum, product),
+            Err(u) => Err(u),
+        }
+    }
+
+    fn settle(&self, sum: Num) -> Num {
+        sum
     }
 }

@@ -1,6 +1,6 @@
 ghost use Rattle.std.specs.Prelude.{◌≡◌, ◌<◌, ◌≤◌, ◌≤ℤ◌, pos, unsigned_abs, IfSome};
 ghost use Rattle.fpl_numbers.specs.declared.number.Kind.TheVariants.{Prime, Rational};
-ghost use Rattle.fpl_numbers.specs.Numbers.{IsElement, IsField, bound};
+ghost use Rattle.fpl_numbers.specs.Numbers.{IsElement, IsField, most_number};
 ghost use Rattle.fpl_numbers.specs.Quotients.{quotient_of, residue_below};
 
 use crate::divisor::gcd;
@@ -12,7 +12,7 @@ use fpl_numbers::{Kind, Num};
 /// of `PRIMES`; `a` is from -(2^127 - 1) to 2^127 - 1, and `b` from 0 to 2^127 - 1.
 pub fn quotient(kind: Kind, a: i128, b: i128) -> Option<Num>
     requires field { IsField kind }
-    requires above { unsigned_abs a ≤ bound }
+    requires above { unsigned_abs a ≤ most_number }
     requires below { pos 0 ≤ℤ b }
     ensures value { result ≡ quotient_of kind a b }
     ensures element { IfSome result (λ q. IsElement kind q) }
@@ -27,7 +27,7 @@ pub fn quotient(kind: Kind, a: i128, b: i128) -> Option<Num>
 }
 
 fn fraction_quotient(a: i128, b: i128) -> Option<Num>
-    requires above { unsigned_abs a ≤ bound }
+    requires above { unsigned_abs a ≤ most_number }
     requires below { pos 0 ≤ℤ b }
     ensures value { result ≡ quotient_of Rational a b }
     ensures element { IfSome result (λ q. IsElement Rational q) }

@@ -1,12 +1,12 @@
-ghost use Rattle.std.specs.Prelude.{◌≡◌, ◌≤◌, ◌<◌, ◌+◌, ◌/◌, ◌^◌, true, IsTrue, IsSome, IfSome, ◌↔◌};
+ghost use Rattle.std.specs.Prelude.{◌≡◌, ◌≤◌, ◌<◌, ◌+◌, ◌*◌, ◌%◌, ◌/◌, ◌^◌, nat_lt, true, IsTrue, IsSome, IfSome, ◌↔◌};
 ghost use Rattle.fpl_numbers.specs.declared.number.Kind.TheVariants.{Prime};
-ghost use Rattle.fpl_numbers.specs.Numbers.{IsListed, residue, residue_of};
-ghost use Rattle.fpl_scalar.specs.Listed.{is_listed, listed_is};
+ghost use Rattle.fpl_numbers.specs.Numbers.{IsListed, is_listed, residue, residue_of};
+ghost use Rattle.fpl_numbers.proofs.Listed.{listed_is};
 ghost use Rattle.std.proofs.Common.{ap};
 
 use crate::Field;
-use fpl_lanes::{less_once, remainder, share_of};
-use fpl_numbers::{Kind, Num, PRIMES, Unfit};
+use fpl_lanes::{less_once, remainder, share_of, sum_below};
+use fpl_numbers::{Kind, Num, Unfit, is_listed};
 
 /// The residues modulo an accepted prime. An element is a number from 0 to the prime less 1.
 #[derive(Clone, Copy, Debug)]
@@ -26,7 +26,7 @@ impl Residue {
         ensures listed { IsSome result ↔ IsListed p }
         ensures kind { IfSome result (λ r. ⟦<Residue as Field>⟧.kind_of r ≡ Prime p) }
     {
-        if PRIMES.contains(&p) {
+        if is_listed(u128::from(p)) {
             Some(Residue {
                 p,
                 share: share_of(p),
@@ -43,6 +43,12 @@ impl Field for Residue {
     ghost kind_of = { λ r. Prime r.p };
 
     ghost number = { residue };
+
+    type Sum = u64;
+
+    ghost summed = { λ r sum. residue (sum % r.p) };
+
+    ghost has_room = { λ r sum. nat_lt sum (2 ^ 40 * r.p) };
 
     ghost is_field = { λ r. listed_is r.p r.listed };
 
@@ -101,6 +107,18 @@ impl Field for Residue {
             numerator: i128::from(a),
             denominator: 1,
         }
+    }
+
+    fn blank(&self) -> u64 {
+        0
+    }
+
+    fn fuse(&self, sum: u64, c: u32, x: u32) -> Result<u64, Unfit> {
+        Ok(sum_below(u64::from(self.p) << 40, sum, u64::from(c) * u64::from(x)))
+    }
+
+    fn settle(&self, sum: u64) -> u32 {
+        (sum % u64::from(self.p)) as u32
     }
 
     fn axpy(&self, row: &mut [u32], c: u32, other: &[u32]) -> Result<(), Unfit> {

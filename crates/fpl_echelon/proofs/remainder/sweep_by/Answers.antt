@@ -1,4 +1,4 @@
-use Rattle.std.proofs.Common.{◌≡◌, ◌≤◌, ◌-◌, ◌∙◌, ℕ, sym, refl, ap, subst, arith, length}
+use Rattle.std.proofs.Common.{ℕ, sym, refl, subst, arith, length}
 use Rattle.fpl_rows.specs.Meaning.{IsRowOf}
 use Rattle.fpl_rows.proofs.Leads.{lead_is}
 use Rattle.plain_elimination.proofs.Remainders.{sweep_means}

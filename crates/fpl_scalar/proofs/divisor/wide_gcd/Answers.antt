@@ -1,5 +1,5 @@
 use Rattle.std.proofs.Common.{arith, ◌≡◌, subst}
-use Rattle.fpl_numbers.specs.Numbers.{gcd}
+use Rattle.math_fields.specs.Gcd.{gcd}
 use Rattle.fpl_scalar.proofs.Euclid.{AfterTurns, after_turn, found, last_turn, gcd_positive, gcd_within_right}
 use Rattle.fpl_scalar.proofs.divisor.wide_gcd.Goals as goal
 

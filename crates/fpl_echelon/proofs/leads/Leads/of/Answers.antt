@@ -1,9 +1,9 @@
-use Rattle.std.proofs.Common.{◌≡◌, ◌≤◌, ◌-◌, ◌∙◌, sym, arith, length, length-set}
+use Rattle.std.proofs.Common.{◌≤◌, ◌-◌, ◌∙◌, sym, arith, length, length-set}
 use Rattle.fpl_rows.proofs.Leads.{lead_place}
 use Rattle.fpl_log.proofs.TermsTaken.{past_end, term_got}
 use Rattle.fpl_numbers.specs.declared.number.Num.{Num}
 use Rattle.std.specs.Prelude.{List, Some}
-use Rattle.fpl_echelon.proofs.LeadIndex.{index_none, index_all, index_zero, index_row}
+use Rattle.fpl_echelon.proofs.LeadIndex.{index_zero, index_row}
 use Rattle.fpl_echelon.proofs.leads.Leads.of.Goals as goal
 
 pub overflow_sub-lead : goal.overflow_sub-lead

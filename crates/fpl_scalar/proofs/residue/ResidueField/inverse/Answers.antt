@@ -1,7 +1,7 @@
 use Rattle.std.proofs.Common.{arith, ap, ◌∙◌, ◌≡◌, ◌%◌, ◌<◌}
 use native.Mathlib.Nat.{mod-lt}
 use Rattle.fpl_numbers.specs.Numbers.{residue}
-use Rattle.fpl_scalar.proofs.Accepted.{listed_prime}
+use Rattle.fpl_numbers.proofs.Listed.{test_prime}
 use Rattle.fpl_scalar.proofs.Inverses.{one_division, inverse_found}
 use Rattle.fpl_scalar.proofs.residue.ResidueField.inverse.Goals as goal
 
@@ -9,7 +9,7 @@ pub loop-rest-preserved : goal.loop-rest-preserved
 loop-rest-preserved c =
     let i = c.loop-rest.invariant in
     let below : c.args.self.now.p % c.loop-rest.rest < c.loop-rest.rest = mod-lt c.args.self.now.p (omega arith) in
-    let divides = (listed_prime c.args.self.now.p c.args.self.now.listed).no_divisor c.loop-rest.rest (omega arith) i.below in
+    let divides = (test_prime c.args.self.now.p c.args.self.now.listed).0.no_divisor c.loop-rest.rest (omega arith) i.below in
     record {
       from_one = omega arith;
       below = omega arith;

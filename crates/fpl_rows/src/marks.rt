@@ -1,0 +1,216 @@
+ghost use Rattle.std.specs.Prelude.{◌≡◌, ◌≤◌, ◌<◌, ◌*◌, ◌^◌, true, false, ℕ, length, replicate, slice_set, slice_index_or, IfOk};
+ghost use Rattle.std.specs.Int.{bit_at};
+ghost use Rattle.fpl_rows.specs.Marking.{IsWithin, bit_in};
+
+use std::alloc::{AllocError, Global};
+use std::marker::Model;
+
+/// Which places are marked, a bit for each. They are sought between the least and the greatest
+/// word that may have one.
+#[derive(Drop)]
+pub struct Marks {
+    words: Vec<u64>,
+    size: usize,
+    // words below `low` and from `high` on are 0
+    low: usize,
+    high: usize,
+}
+
+impl Model for Marks {
+    ghost use Rattle.std.specs.Prelude.{List, Bool, length, ◌<◌, ◌≤◌, ◌*◌, ◌^◌};
+    ghost use Rattle.fpl_rows.specs.Marking.{AreBits, bits_in};
+
+    ghost Value = { List Bool };
+
+    ghost view = { λ m. bits_in m.words.items m.size };
+
+    ghost invariant = { λ m. AreBits m.words.items m.size m.low m.high };
+}
+
+/// After which bit of a word the last 1 stands.
+fn end_in(word: u64) -> usize
+    ensures most { result ≤ 64 }
+    ensures none { (i : ℕ) → result ≤ i → bit_at word i ≡ 0 }
+{
+    64 - word.leading_zeros() as usize
+}
+
+/// The same of the bits below `most`.
+fn end_in_part(word: u64, most: usize) -> usize
+    requires { most < 64 }
+    ensures most { result ≤ 64 }
+    ensures none { (i : ℕ) → result ≤ i → i < most → bit_at word i ≡ 0 }
+{
+    end_in(word & ((1u64 << most) - 1))
+}
+
+/// At which bit of a word the first 1 stands, or 64.
+fn start_in(word: u64) -> usize
+    ensures most { result ≤ 64 }
+    ensures none { (i : ℕ) → i < result → bit_at word i ≡ 0 }
+{
+    if word == 0 {
+        64
+    } else {
+        word.trailing_zeros() as usize
+    }
+}
+
+/// The same of the bits from `least` on.
+fn start_in_part(word: u64, least: usize) -> usize
+    requires { least < 64 }
+    ensures most { result ≤ 64 }
+    ensures none { (i : ℕ) → least ≤ i → i < result → bit_at word i ≡ 0 }
+{
+    start_in(word & (u64::MAX << least))
+}
+
+/// After which bit the last 1 below `most` stands, where none stands from word `count` on.
+fn end_of_words(words: &[u64], low: usize, count: usize, most: usize) -> usize
+    requires count { count ≤ length words.now }
+    requires few { count < 2 ^ 32 }
+    requires before { (k : ℕ) → k < low → slice_index_or words.now k 0 ≡ 0 }
+    requires none { (j : ℕ) → 64 * count ≤ j → j < most → bit_in words.now j ≡ false }
+    ensures at_most { result ≤ most }
+    ensures none { (j : ℕ) → result ≤ j → j < most → bit_in words.now j ≡ false }
+{
+    let mut k = count;
+    while k > low {
+        k -= 1;
+        let end = end_in(words[k]);
+        if end > 0 {
+            return (64 * k + end).min(most);
+        }
+    }
+    0
+}
+
+fn end_among(words: &[u64], low: usize, high: usize, most: usize) -> usize
+    requires within { IsWithin words.now low high }
+    requires few { high < 2 ^ 32 }
+    ensures at_most { result ≤ most }
+    ensures none { (j : ℕ) → result ≤ j → j < most → bit_in words.now j ≡ false }
+{
+    let k = most / 64;
+    if k < high {
+        let end = end_in_part(words[k], most % 64);
+        if end > 0 {
+            (64 * k + end).min(most)
+        } else {
+            end_of_words(words, low, k, most)
+        }
+    } else {
+        end_of_words(words, low, high, most)
+    }
+}
+
+/// At which bit the first 1 from `from` on stands, or the end, where none stands before word
+/// `first`.
+fn start_of_words(words: &[u64], first: usize, high: usize, from: usize, end: usize) -> usize
+    requires high { high ≤ length words.now }
+    requires few { high < 2 ^ 32 }
+    requires after { (k : ℕ) → high ≤ k → slice_index_or words.now k 0 ≡ 0 }
+    requires from { from ≤ end }
+    requires none { (j : ℕ) → from ≤ j → j < 64 * first → bit_in words.now j ≡ false }
+    ensures at_least { from ≤ result }
+    ensures at_most { result ≤ end }
+    ensures none { (j : ℕ) → from ≤ j → j < result → bit_in words.now j ≡ false }
+{
+    let mut k = first;
+    while k < high {
+        let start = start_in(words[k]);
+        if start < 64 {
+            return (64 * k + start).max(from).min(end);
+        }
+        k += 1;
+    }
+    end
+}
+
+fn start_among(words: &[u64], low: usize, high: usize, from: usize, end: usize) -> usize
+    requires within { IsWithin words.now low high }
+    requires few { high < 2 ^ 32 }
+    requires from { from ≤ end }
+    ensures at_least { from ≤ result }
+    ensures at_most { result ≤ end }
+    ensures none { (j : ℕ) → from ≤ j → j < result → bit_in words.now j ≡ false }
+{
+    let k = from / 64;
+    if k < low {
+        start_of_words(words, low, high, from, end)
+    } else if k < high {
+        let start = start_in_part(words[k], from % 64);
+        if start < 64 {
+            (64 * k + start).max(from).min(end)
+        } else {
+            start_of_words(words, k + 1, high, from, end)
+        }
+    } else {
+        start_of_words(words, k, high, from, end)
+    }
+}
+
+/// Makes the words from `low` to `high` 0, which are all that may be another.
+fn unmark(words: &mut [u64], low: usize, high: usize)
+    requires { IsWithin words.old low high }
+    ensures { words.new ≡ replicate (length words.old) 0 }
+{
+    for k in low..high {
+        words[k] = 0;
+    }
+}
+
+impl Marks {
+    /// `size` places without a mark.
+    pub fn new(alloc: Global, size: u32) -> Result<Marks, AllocError>
+        ensures { IfOk result (λ m. m ≡ replicate size false) }
+    {
+        let count = size as usize / 64 + 1;
+        let mut words = Vec::with_capacity(alloc, count)?;
+        words.resize(count, 0u64)?;
+        Ok(Marks {
+            words,
+            size: size as usize,
+            low: count,
+            high: 0,
+        })
+    }
+
+    /// Marks place `k`.
+    pub fn mark(&mut self, k: usize)
+        requires { k < length self.old }
+        ensures { self.new ≡ slice_set self.old k true }
+    {
+        let at = k / 64;
+        self.words[at] = self.words[at] | (1u64 << (k % 64));
+        self.low = self.low.min(at);
+        self.high = self.high.max(at + 1);
+    }
+
+    /// After which place the last mark below `most` stands: from there on there is none.
+    pub fn end_below(&self, most: usize) -> usize
+        ensures at_most { result ≤ most }
+        ensures none { (k : ℕ) → result ≤ k → k < most → slice_index_or self.now k false ≡ false }
+    {
+        end_among(&self.words, self.low, self.high, most)
+    }
+
+    /// At which place from `from` on the first mark stands: up to there there is none.
+    pub fn start_from(&self, from: usize) -> usize
+        requires { from ≤ length self.now }
+        ensures at_least { from ≤ result }
+        ensures at_most { result ≤ length self.now }
+        ensures none { (k : ℕ) → from ≤ k → k < result → slice_index_or self.now k false ≡ false }
+    {
+        start_among(&self.words, self.low, self.high, from, self.size)
+    }
+
+    /// Takes each mark off.
+    pub fn clear(&mut self)
+        ensures { self.new ≡ replicate (length self.old) false }
+    {
+        unmark(&mut self.words, self.low, self.high);
+        self.low = self.words.len();
+        self.high = 0;
+    }
+}
