@@ -1,8 +1,8 @@
 -- A text is cut in one way, and the machine gives the reading of that cut.
-use Rattle.std.proofs.Common.{◌≡◌, ℕ, suc, ◌+◌, ◌-◌, ◌*◌, ◌≤◌, ◌<◌, List, [], ◌∷◌, ◌++◌, length, Bool, true, false, ◌||◌, ◌&&◌, ◌==◌, nat_lt, Result, if◌then◌else◌, refl, ap, sym, ◌∙◌, subst, arith, append_assoc, ◌⊎◌, inl, inr}
+use Rattle.std.proofs.Common.{◌≡◌, ℕ, suc, ◌+◌, ◌-◌, ◌*◌, ◌≤◌, ◌<◌, List, [], ◌∷◌, ◌++◌, length, Bool, true, false, ◌||◌, ◌==◌, nat_lt, Result, if◌then◌else◌, refl, ap, sym, ◌∙◌, subst, arith, append_assoc, ◌⊎◌, inl, inr}
 use Rattle.std.specs.Prelude.{Ok, Err}
 use Rattle.std.specs.List.{list_all}
-use Rattle.std.proofs.lemmas.Bool.{eqb-true, ltb-true, ltb-false, lt-ltb, le-ltb, true≢false, false≢true}
+use Rattle.std.proofs.lemmas.Bool.{eqb-true, ltb-true, ltb-false, lt-ltb, le-ltb, true≢false, false≢true, and_parts, and_from}
 use Rattle.std.proofs.lemmas.List.{append-nil}
 use Rattle.fpl_alphabet.specs.Bytes.{is_blank, is_letter, is_digit, is_word_byte, is_mark}
 use Rattle.fpl_lex.specs.declared.token.Token.{Token}
@@ -12,7 +12,7 @@ use Rattle.fpl_lex.specs.declared.lexing.Mode.{Mode}
 use Rattle.fpl_lex.specs.declared.lexing.Mode.TheVariants.{Between, InComment, InWord, InNumber}
 use Rattle.fpl_lex.specs.declared.lexing.Class.{Class}
 use Rattle.fpl_lex.specs.declared.lexing.Class.TheVariants.{Letter, Digit, Underscore, LineEnd, Blank, Hash, Mark, Other}
-use Rattle.fpl_lex.specs.Cut.{W, Form, blank, comment, word, number, mark, other, Piece, Stops, begins, is_in_comment, IsPiece, IsCut, value_from, piece_tokens, joined, reading_from, Reads, Lexed}
+use Rattle.fpl_lex.specs.Cut.{most_value, Form, blank, comment, word, number, mark, other, Piece, Stops, begins, is_in_comment, IsPiece, IsCut, value_from, piece_tokens, joined, reading_from, Reads, Lexed}
 use Rattle.fpl_lex.specs.Machine.{class_of, finished, begun, after, step_of, chained, lex, lex_of, Gives}
 
 -- tests of bytes
@@ -20,18 +20,6 @@ use Rattle.fpl_lex.specs.Machine.{class_of, finished, begun, after, step_of, cha
 either : {P : Type 0} → (x y : Bool) → ((x ≡ true) → P) → ((y ≡ true) → P) → (x || y) ≡ true → P
 either true y f g e = f refl
 either false y f g e = g e
-
-neither : (x y : Bool) → (x || y) ≡ false → (x ≡ false) × (y ≡ false)
-neither true y e = absurd (true≢false e)
-neither false y e = (refl, e)
-
-both : (x y : Bool) → (x && y) ≡ true → (x ≡ true) × (y ≡ true)
-both true y e = (refl, e)
-both false y e = absurd (false≢true e)
-
-together : (x y : Bool) → (x ≡ true) → (y ≡ true) → (x && y) ≡ true
-together true y d e = e
-together false y d e = absurd (false≢true d)
 
 -- the classes of the bytes
 
@@ -172,7 +160,7 @@ in_comment at [] (b ∷ after) all stops =
     let f : step_of Between at b (class_of b) ≡ Ok ([], Between) = rw (comment_ends b stops) refl in
     goes InComment Between at b after e ∙ sym (goes Between Between at b after f) ∙ at_zero at Between (b ∷ after)
 in_comment at (b ∷ bs) after all stops =
-    goes InComment InComment at b (bs ++ after) (comment_goes at b (both _ _ all).0) ∙ in_comment (at + 1) bs after (both _ _ all).1 stops ∙ at_suc at (length bs) Between after
+    goes InComment InComment at b (bs ++ after) (comment_goes at b (and_parts _ _ all).0) ∙ in_comment (at + 1) bs after (and_parts _ _ all).1 stops ∙ at_suc at (length bs) Between after
 
 -- the end of a word, or of a number, at the end of the text or before a byte that ends it
 at_end : (mode : Mode) (at : ℕ) (after : List ℕ) → lex mode at after ≡ joined (finished mode at) (lex Between at after) → lex mode at after ≡ joined (finished mode (at + 0)) (lex Between (at + 0) after)
@@ -186,35 +174,35 @@ in_word : (start at : ℕ) (bs after : List ℕ) → list_all is_word_byte bs �
 in_word start at [] [] all stops = at_end (InWord start) at [] (sym (joined_last (finished (InWord start) at)))
 in_word start at [] (b ∷ after) all stops = at_end (InWord start) at (b ∷ after) (ends (InWord start) at b after (word_ends start at b stops))
 in_word start at (b ∷ bs) after all stops =
-    goes (InWord start) (InWord start) at b (bs ++ after) (word_goes start at b (both _ _ all).0)
-    ∙ in_word start (at + 1) bs after (both _ _ all).1 stops ∙ later (InWord start) at (length bs) after
+    goes (InWord start) (InWord start) at b (bs ++ after) (word_goes start at b (and_parts _ _ all).0)
+    ∙ in_word start (at + 1) bs after (and_parts _ _ all).1 stops ∙ later (InWord start) at (length bs) after
 
 -- the end of a number with this value
 unfoldable number_end : ℕ → ℕ → ℕ → Result (List Token) LexError
-number_end start n end = if nat_lt W n then Err (NumberTooLarge start) else finished (InNumber start n) end
+number_end start n end = if nat_lt most_value n then Err (NumberTooLarge start) else finished (InNumber start n) end
 
-number_end-fits : (start n end : ℕ) → n ≤ W → number_end start n end ≡ finished (InNumber start n) end
+number_end-fits : (start n end : ℕ) → n ≤ most_value → number_end start n end ≡ finished (InNumber start n) end
 unfolding number_end
-number_end-fits start n end fits = rw (le-ltb W n fits) refl
+number_end-fits start n end fits = rw (le-ltb most_value n fits) refl
 
-number_end-large : (start n end : ℕ) → W < n → number_end start n end ≡ Err (NumberTooLarge start)
+number_end-large : (start n end : ℕ) → most_value < n → number_end start n end ≡ Err (NumberTooLarge start)
 unfolding number_end
-number_end-large start n end large = rw (lt-ltb W n large) refl
+number_end-large start n end large = rw (lt-ltb most_value n large) refl
 
 value_from-least : (n : ℕ) (bs : List ℕ) → n ≤ value_from n bs
 value_from-least n [] = omega arith
 value_from-least n (b ∷ bs) = let h = value_from-least (10 * n + (b - 48)) bs in omega arith
 
-number_goes : (start n at b : ℕ) → is_digit b ≡ true → 10 * n + (b - 48) ≤ W → step_of (InNumber start n) at b (class_of b) ≡ Ok ([], InNumber start (10 * n + (b - 48)))
-number_goes start n at b e fits = rw (digit_class b e, le-ltb W (10 * n + (b - 48)) fits) refl
+number_goes : (start n at b : ℕ) → is_digit b ≡ true → 10 * n + (b - 48) ≤ most_value → step_of (InNumber start n) at b (class_of b) ≡ Ok ([], InNumber start (10 * n + (b - 48)))
+number_goes start n at b e fits = rw (digit_class b e, le-ltb most_value (10 * n + (b - 48)) fits) refl
 
-number_fails : (start n at b : ℕ) → is_digit b ≡ true → W < 10 * n + (b - 48) → step_of (InNumber start n) at b (class_of b) ≡ Err (NumberTooLarge start)
-number_fails start n at b e large = rw (digit_class b e, lt-ltb W (10 * n + (b - 48)) large) refl
+number_fails : (start n at b : ℕ) → is_digit b ≡ true → most_value < 10 * n + (b - 48) → step_of (InNumber start n) at b (class_of b) ≡ Err (NumberTooLarge start)
+number_fails start n at b e large = rw (digit_class b e, lt-ltb most_value (10 * n + (b - 48)) large) refl
 
 either_side : {P : Type 0} (m n : ℕ) → (m < n → P) → (n ≤ m → P) → P
 either_side {P} m n f g = elim (nat_lt m n) as (λ t. nat_lt m n ≡ t → P) [ true ↦ λ t. f (ltb-true m n t) | false ↦ λ t. g (ltb-false m n t) ] refl
 
-in_number : (start at n : ℕ) (bs after : List ℕ) → n ≤ W → list_all is_digit bs ≡ true → Stops is_digit after
+in_number : (start at n : ℕ) (bs after : List ℕ) → n ≤ most_value → list_all is_digit bs ≡ true → Stops is_digit after
     → lex (InNumber start n) at (bs ++ after) ≡ joined (number_end start (value_from n bs) (at + length bs)) (lex Between (at + length bs) after)
 in_number start at n [] [] fits all stops =
     at_end (InNumber start n) at [] (sym (joined_last (finished (InNumber start n) at))) ∙ ap (λ e. joined e (lex Between (at + 0) [])) (sym (number_end-fits start n (at + 0) fits))
@@ -222,14 +210,14 @@ in_number start at n [] (b ∷ after) fits all stops =
     at_end (InNumber start n) at (b ∷ after) (ends (InNumber start n) at b after (number_ends start n at b stops)) ∙ ap (λ e. joined e (lex Between (at + 0) (b ∷ after))) (sym (number_end-fits start n (at + 0) fits))
 in_number start at n (b ∷ bs) after fits all stops =
     let m : ℕ = 10 * n + (b - 48) in
-    let digit : is_digit b ≡ true = (both _ _ all).0 in
-    either_side W m
+    let digit : is_digit b ≡ true = (and_parts _ _ all).0 in
+    either_side most_value m
     (λ large.
     lex_step (InNumber start n) at b (bs ++ after) ∙ ap (λ s. chained s (rest_of at (bs ++ after))) (number_fails start n at b digit large)
     ∙ ap (λ e. joined e (lex Between (at + suc (length bs)) after)) (sym (number_end-large start (value_from m bs) (at + suc (length bs)) (let h = value_from-least m bs in omega arith))))
     (λ small.
     goes (InNumber start n) (InNumber start m) at b (bs ++ after) (number_goes start n at b digit small)
-    ∙ in_number start (at + 1) m bs after small (both _ _ all).1 stops
+    ∙ in_number start (at + 1) m bs after small (and_parts _ _ all).1 stops
     ∙ ap (λ e. joined (number_end start (value_from m bs) e) (lex Between e after)) (omega arith))
 
 -- the front of a text
@@ -263,7 +251,7 @@ front_word at b bs after e all stops =
     goes Between (InWord at) at b (bs ++ after) (rw e refl) ∙ in_word at (at + 1) bs after all stops ∙ later (InWord at) at (length bs) after
     ∙ ap (λ t. joined t (lex Between (at + suc (length bs)) after)) (word_token at (b ∷ bs))
 
-digit_small : (b : ℕ) → is_digit b ≡ true → b - 48 ≤ W
+digit_small : (b : ℕ) → is_digit b ≡ true → b - 48 ≤ most_value
 digit_small b e = grind arith
 
 number_token : (at b : ℕ) (bs : List ℕ) → number_end at (value_from (b - 48) bs) (at + suc (length bs)) ≡ piece_tokens at number (b ∷ bs)
@@ -316,7 +304,7 @@ Runs-none p = record { front = []; after = []; whole = refl; all = refl; stops =
 Runs-more : (p : ℕ → Bool) (b : ℕ) (bs : List ℕ) → Runs p bs → (ps : List Piece) × IsCut (b ∷ bs) ps → Runs p (b ∷ bs)
 Runs-more p b bs r cut =
     elim (p b) as (λ t. p b ≡ t → Runs p (b ∷ bs)) [
-      | true ↦ λ t. record { front = b ∷ r.front; after = r.after; whole = ap (λ xs. b ∷ xs) r.whole; all = together _ _ t r.all; stops = r.stops; rest = r.rest }
+      | true ↦ λ t. record { front = b ∷ r.front; after = r.after; whole = ap (λ xs. b ∷ xs) r.whole; all = and_from _ _ t r.all; stops = r.stops; rest = r.rest }
       | false ↦ λ t. record { front = []; after = b ∷ bs; whole = refl; all = refl; stops = t; rest = cut }
     ] refl
 

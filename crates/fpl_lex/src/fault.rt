@@ -8,13 +8,13 @@ use thiserror::Error;
 #[derive(Clone, Copy, Debug, PartialEq, Eq, Error)]
 pub enum LexError {
     /// The byte there begins no token, blank or comment.
-    #[error("bad byte")]
+    #[error("no token begins at byte {0}")]
     BadByte(u64),
     /// The number that begins there passes 2^127-1.
-    #[error("number too large")]
+    #[error("the number at byte {0} is too large")]
     NumberTooLarge(u64),
     /// The word that begins there has more than 32 bytes.
-    #[error("name too long")]
+    #[error("the name at byte {0} is too long")]
     NameTooLong(u64),
     #[error("no memory")]
     NoMemory,

@@ -8,3 +8,6 @@ mod token;
 pub use fault::LexError;
 pub use lexing::{next_token, one_reading, tokens};
 pub use token::{Token, TokenKind, Tokens};
+
+#[cfg(test)]
+mod tests;

@@ -1,6 +1,6 @@
 -- What stands after a whole reading or writing was refused.
 --   LostWithin: at most max bytes were read and are lost
---   PassedMax: the last read passed max bytes, and no read followed it
+--   PassedMax: a piece of one read, at most 4096 bytes, passed max bytes, and no read followed it
 --   WrotePrefix: a prefix of the bytes was appended
 use Rattle.std.specs.Prelude.{ℕ, ◌+◌, ◌<◌, ◌≤◌, List, ◌++◌, length, take}
 use Rattle.std.specs.declared.option.Option.{Option}
@@ -18,6 +18,7 @@ pub record PassedMax (old new : Option (List ℕ)) (max : ℕ) : Type 0 where
   pub gives : Gives old new (front ++ piece)
   pub below : length front ≤ max
   pub passed : max < length front + length piece
+  pub last : length piece ≤ 4096
 
 pub record WrotePrefix (old new : Option (List ℕ)) (bytes : List ℕ) : Type 0 where
   pub count : ℕ

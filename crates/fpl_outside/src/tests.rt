@@ -6,7 +6,7 @@ use std::io;
 use std::io::{ErrorKind, Read, Write};
 use std::test::Fail;
 
-// A stream that fails at its second call, and at its third reads and writes nothing.
+// A stream that fails at its second call, and at its third reads and writes nothing. It gives the byte 7, and takes pieces of it alone.
 #[derive(Drop)]
 struct Faulty {
     calls: u8,
@@ -26,12 +26,16 @@ impl Faulty {
 impl Read for Faulty {
     fn read(&mut self, buf: &mut [u8]) -> io::Result<usize> {
         let count = self.answer(buf.len())?;
+        buf.fill(7);
         Ok(count.min(buf.len()))
     }
 }
 
 impl Write for Faulty {
     fn write(&mut self, buf: &[u8]) -> io::Result<usize> {
+        if buf != [7; 5].as_slice() {
+            return Err(ErrorKind::Other.into());
+        }
         let count = self.answer(buf.len())?;
         Ok(count.min(buf.len()))
     }
@@ -72,6 +76,20 @@ fn reads_to_the_end_or_says_why_not(rt: HostRuntime) -> Result<(), Fail> {
 }
 
 #[test]
+fn reads_nothing_past_the_piece_that_is_too_much(rt: HostRuntime) -> Result<(), Fail> {
+    let alloc = rt.alloc();
+    let mut source = MemorySource::new(b"field".to_vec(alloc)?, 2, [0].to_vec(alloc)?);
+    match read_whole(alloc, &mut source, 1) {
+        Err(error) => assert_eq!(rt; error, ReadError::TooLong),
+        Ok(_) => assert!(rt; false),
+    }
+    let mut buf = [0; 2];
+    assert_eq!(rt; source.read(&mut buf), Got::Read(2));
+    assert_eq!(rt; buf, *b"el");
+    Ok(())
+}
+
+#[test]
 fn writes_all_or_a_prefix(rt: HostRuntime) -> Result<(), Fail> {
     let alloc = rt.alloc();
     // The room, the most of one put, the failing call, the bytes taken.
@@ -102,8 +120,9 @@ fn counts_the_faults_of_streams(rt: HostRuntime) {
     for want in [Got::Read(1), Got::Failed, Got::End, Got::Read(1)] {
         assert_eq!(rt; source.read(&mut buf), want);
     }
+    assert_eq!(rt; buf, [7; 4]);
     let mut sink = StdSink::new(Faulty { calls: 0 });
     for want in [Put::Took(1), Put::Failed, Put::Failed, Put::Took(1)] {
-        assert_eq!(rt; sink.put(b"piece"), want);
+        assert_eq!(rt; sink.put(&[7; 5]), want);
     }
 }

@@ -5,12 +5,14 @@ use Rattle.std.specs.List.{list_all}
 use Rattle.std.specs.Option.{option_map}
 use Rattle.std.specs.Str.{IsUtf8, IsAscii}
 use Rattle.std.specs.declared.option.Option.{Option}
-use Rattle.std.proofs.lemmas.Bool.{leb-true}
+use Rattle.std.proofs.lemmas.Bool.{leb-true, and_parts}
 use Rattle.std.proofs.lemmas.Str.{IsUtf8-from_ascii}
+use Rattle.std.proofs.lemmas.List.Elements.{All-nil, All-cons}
 use Rattle.fpl_alphabet.specs.Bytes.{is_letter, is_word_byte, is_word}
 use Rattle.fpl_model.specs.Sound.{HaveWeights}
-use Rattle.fpl_syntax.specs.declared.symbol.Numeral.{Numeral}
-use Rattle.fpl_syntax.specs.Kinds.{is_listed, is_field}
+use Rattle.fpl_syntax.specs.declared.terminal.Numeral.{Numeral}
+use Rattle.fpl_numbers.specs.Numbers.{is_listed}
+use Rattle.fpl_syntax.specs.Kinds.{is_field}
 use Rattle.fpl_reader.specs.declared.survey.FieldName.{FieldName}
 use Rattle.fpl_reader.specs.declared.survey.FieldName.TheVariants as field_name
 use Rattle.fpl_reader.specs.declared.survey.FieldStatement.{FieldStatement}
@@ -18,13 +20,6 @@ use Rattle.fpl_reader.specs.declared.survey.DeclaredName.{DeclaredName}
 use Rattle.fpl_reader.specs.Reading.{name_of, weight_or_one, generator_of, kind_named, kind_of, bad_prime_named, bad_prime, bad_weight_given, bad_weight, too_many}
 use Rattle.fpl_reader.proofs.DeclaredNames.{AreNames}
 use Rattle.fpl_reader.proofs.Terms.{or_else-none}
-
-pub All-cons : {A : Type 0} (P : A → Type 0) (x : A) (xs : List A) → P x → All P xs → All P (x ∷ xs)
-All-cons P x xs h hs zero d l = h
-All-cons P x xs h hs (suc k) d l = hs k d (omega arith)
-
-pub All-none : {A : Type 0} (P : A → Type 0) → All P []
-All-none P k d l = absurd (omega arith)
 
 weight_given : (w : Option Numeral) → bad_weight_given w ≡ None → (1 ≤ weight_or_one w) × (weight_or_one w ≤ 1000)
 weight_given None e = (omega arith, omega arith)
@@ -36,7 +31,7 @@ weight_given (Some n) e = by_test (nat_le 1 n.value) (nat_le n.value 1000) refl 
     by_test false t h k e = cc
 
 pub have_weights : (text : List ℕ) (ds : List DeclaredName) → bad_weight ds ≡ None → HaveWeights (map (generator_of text) ds)
-have_weights text [] e = All-none (λ g. (1 ≤ g.weight) × (g.weight ≤ 1000))
+have_weights text [] e = All-nil (λ g. (1 ≤ g.weight) × (g.weight ≤ 1000))
 have_weights text (d ∷ ds) e =
     let h = or_else-none (bad_weight_given d.weight) (bad_weight ds) e in
     All-cons (λ g. (1 ≤ g.weight) × (g.weight ≤ 1000)) (generator_of text d) (map (generator_of text) ds) (weight_given d.weight h.0) (have_weights text ds h.1)
@@ -67,10 +62,6 @@ known_kind (f ∷ fs) e = listed_named f.name e
 
 -- names are text
 
-both : (x y : Bool) → (x && y) ≡ true → (x ≡ true) × (y ≡ true)
-both true y e = (refl, e)
-both false y e = cc
-
 ascii_byte : (b : ℕ) → is_word_byte b ≡ true → b < 128
 ascii_byte b e = grind arith
 
@@ -79,14 +70,14 @@ ascii_letter b e = grind arith
 
 ascii_all : (bs : List ℕ) → list_all is_word_byte bs ≡ true → IsAscii bs
 ascii_all [] e i = omega arith
-ascii_all (b ∷ bs) e zero = ascii_byte b (both _ _ e).0
-ascii_all (b ∷ bs) e (suc i) = ascii_all bs (both _ _ e).1 i
+ascii_all (b ∷ bs) e zero = ascii_byte b (and_parts _ _ e).0
+ascii_all (b ∷ bs) e (suc i) = ascii_all bs (and_parts _ _ e).1 i
 
 ascii_word : (bs : List ℕ) → is_word bs ≡ true → IsAscii bs
 ascii_word [] e i = cc
-ascii_word (b ∷ bs) e zero = ascii_letter b (both _ _ e).0
-ascii_word (b ∷ bs) e (suc i) = ascii_all bs (both _ _ e).1 i
+ascii_word (b ∷ bs) e zero = ascii_letter b (and_parts _ _ e).0
+ascii_word (b ∷ bs) e (suc i) = ascii_all bs (and_parts _ _ e).1 i
 
 pub names_utf8 : (text : List ℕ) (ds : List DeclaredName) → AreNames text ds → All (λ d. IsUtf8 (name_of text d)) ds
-names_utf8 text [] h = All-none (λ d. IsUtf8 (name_of text d))
+names_utf8 text [] h = All-nil (λ d. IsUtf8 (name_of text d))
 names_utf8 text (d ∷ ds) (h, hs) = All-cons (λ d. IsUtf8 (name_of text d)) d ds (IsUtf8-from_ascii (name_of text d) (ascii_word (name_of text d) h.spelled)) (names_utf8 text ds hs)

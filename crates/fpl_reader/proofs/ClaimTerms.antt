@@ -2,24 +2,23 @@
 use Rattle.std.proofs.Common.{◌≡◌, ℕ, suc, ◌+◌, ◌<◌, ◌≤◌, ◌^◌, List, [], ◌∷◌, ◌++◌, length, Bool, true, false, IsTrue, if◌then◌else◌, refl, arith, length-append}
 use Rattle.std.specs.Prelude.{None, All}
 use Rattle.std.specs.Str.{bytes_eq}
+use Rattle.std.proofs.lemmas.List.Elements.{All-nil, All-cons}
 use Rattle.fpl_numbers.specs.declared.number.Kind.{Kind}
-use Rattle.fpl_model.specs.declared.expr.Expr.{Expr}
 use Rattle.fpl_model.specs.declared.expr.Expr as expr
 use Rattle.fpl_model.specs.declared.presentation.Generator.{Generator}
 use Rattle.fpl_model.specs.Meaning.{plain}
 use Rattle.fpl_model.specs.Sound.{IsTerm, IsWithin}
 use Rattle.fpl_model.proofs.Plain.{plain-Zero}
-use Rattle.fpl_syntax.specs.declared.symbol.Word.{Word}
+use Rattle.fpl_syntax.specs.declared.terminal.Word.{Word}
 use Rattle.fpl_syntax.specs.declared.parser.Claim.{Claim}
 use Rattle.fpl_syntax.specs.Grammar.{Scope, Sum, Statement, field, declare, relation, equation, ideal, equal, expression_of, equate, claims_in, claims_of}
-use Rattle.fpl_syntax.specs.declared.symbol.ClaimKind.TheVariants.{Relation, Ideal, Equal}
+use Rattle.fpl_syntax.specs.declared.terminal.ClaimKind.TheVariants.{Relation, Ideal, Equal}
 use Rattle.fpl_syntax.specs.Sight.{number_from, word_of}
 use Rattle.fpl_syntax.specs.Kinds.{is_field}
 use Rattle.fpl_reader.specs.declared.survey.Event.{Event}
 use Rattle.fpl_reader.specs.Events.{events_sum, events_statement, events_of}
 use Rattle.fpl_reader.specs.Reading.{first_place, unknown_in, scope_of}
 use Rattle.fpl_reader.specs.Terms.{AreSidesTerms}
-use Rattle.fpl_reader.proofs.Allowed.{All-cons, All-none}
 use Rattle.fpl_reader.proofs.Elements.{coefficient_element}
 use Rattle.fpl_reader.proofs.Terms.{first_place-append, fine_sum, within_term, places_sum}
 
@@ -82,18 +81,18 @@ module _ (text : List ℕ) (kind : Kind) (gs : List Generator) (known : IsTrue (
   All-append (x ∷ xs) ys h k = All-cons Sides x (xs ++ ys) (h 0 x (omega arith)) (All-append xs ys (λ n d l. h (suc n) d (omega arith)) k)
 
   alone : (c : Claim) → Sides c → All Sides (c ∷ [])
-  alone c h = All-cons Sides c [] h (All-none Sides)
+  alone c h = All-cons Sides c [] h (All-nil Sides)
 
   statement_terms : (s : Statement) → AllKnown (events_statement s) → length (events_statement s) < 2 ^ 40 → All Sides (claims_in scope s)
-  statement_terms (field place naming) h few = All-none Sides
-  statement_terms (declare parity d ds) h few = All-none Sides
+  statement_terms (field place naming) h few = All-nil Sides
+  statement_terms (declare parity d ds) h few = All-nil Sides
   statement_terms (relation place a) h few = let c = equate Relation place (expression_of scope a) expr.Zero in alone c (one_side a c refl refl h few)
   statement_terms (equation place a b) h few = let c = equate Relation place (expression_of scope a) (expression_of scope b) in alone c (two_sides a b c refl refl h few)
   statement_terms (ideal place a) h few = let c = equate Ideal place (expression_of scope a) expr.Zero in alone c (one_side a c refl refl h few)
   statement_terms (equal place a b) h few = let c = equate Equal place (expression_of scope a) (expression_of scope b) in alone c (two_sides a b c refl refl h few)
 
   pub claims_terms : (ss : List Statement) → AllKnown (events_of ss) → length (events_of ss) < 2 ^ 40 → All Sides (claims_of scope ss)
-  claims_terms [] h few = All-none Sides
+  claims_terms [] h few = All-nil Sides
   claims_terms (s ∷ ss) h few =
       let k = first_place-append (unknown_in scope) (events_statement s) (events_of ss) h in
       let n = length-append (events_statement s) (events_of ss) in

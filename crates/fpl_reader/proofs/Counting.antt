@@ -1,12 +1,12 @@
--- How many tokens a text has, and how many events its symbols are.
+-- How many tokens a text has, and how many events its terminals are.
 use Rattle.std.proofs.Common.{◌≡◌, ℕ, ◌+◌, ◌≤◌, List, [], ◌∷◌, ◌++◌, length, Bool, true, false, nat_lt, if◌then◌else◌, Result, ap, subst, arith, length-append}
 use Rattle.std.specs.Prelude.{None, Some, Ok, Err}
 use Rattle.std.specs.declared.option.Option.{Option}
 use Rattle.fpl_alphabet.specs.Bytes.{most_name}
 use Rattle.fpl_lex.specs.declared.token.Token.{Token}
 use Rattle.fpl_lex.specs.declared.fault.LexError.{LexError}
-use Rattle.fpl_lex.specs.Cut.{W, Form, blank, comment, word, number, mark, other, Piece, IsPiece, IsCut, value_of, mark_tokens, piece_tokens, joined, reading_from, Reads}
-use Rattle.fpl_syntax.specs.declared.symbol.Symbol.{Symbol}
+use Rattle.fpl_lex.specs.Cut.{most_value, Form, blank, comment, word, number, mark, other, Piece, IsPiece, IsCut, value_of, mark_tokens, piece_tokens, joined, reading_from, Reads}
+use Rattle.fpl_syntax.specs.declared.terminal.Terminal.{Terminal}
 use Rattle.fpl_reader.specs.declared.survey.Event.{Event}
 use Rattle.fpl_reader.specs.declared.survey.Track.{Track}
 use Rattle.fpl_reader.specs.Scan.{note, scan, event_list}
@@ -27,7 +27,7 @@ piece_short : (at : ℕ) (form : Form) (bytes : List ℕ) → IsShort 1 (piece_t
 piece_short at blank bytes = omega arith
 piece_short at comment bytes = omega arith
 piece_short at word bytes = one_or_fault (nat_lt most_name (length bytes)) _ _
-piece_short at number bytes = one_or_fault (nat_lt W (value_of bytes)) _ _
+piece_short at number bytes = one_or_fault (nat_lt most_value (value_of bytes)) _ _
 piece_short at mark bytes = mark_short at bytes
 piece_short at other bytes = tt
 
@@ -68,10 +68,10 @@ one_event : (o : Option Event) → length (event_list o) ≤ 1
 one_event None = omega arith
 one_event (Some e) = omega arith
 
-pub few_events : (t : Track) (symbols : List Symbol) → length (scan t symbols) ≤ length symbols
+pub few_events : (t : Track) (terminals : List Terminal) → length (scan t terminals) ≤ length terminals
 few_events t [] = omega arith
-few_events t (symbol ∷ symbols) =
-    let h = one_event (note t symbol).0 in
-    let k = few_events (note t symbol).1 symbols in
-    let l = length-append (event_list (note t symbol).0) (scan (note t symbol).1 symbols) in
+few_events t (terminal ∷ terminals) =
+    let h = one_event (note t terminal).0 in
+    let k = few_events (note t terminal).1 terminals in
+    let l = length-append (event_list (note t terminal).0) (scan (note t terminal).1 terminals) in
     omega arith

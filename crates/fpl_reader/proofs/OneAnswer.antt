@@ -7,10 +7,10 @@ use Rattle.fpl_lex.specs.declared.token.Token.{Token}
 use Rattle.fpl_lex.specs.declared.fault.LexError.{LexError}
 use Rattle.fpl_lex.specs.declared.fault.LexError.TheVariants as lexical
 use Rattle.fpl_alphabet.specs.Bytes.{most_name}
-use Rattle.fpl_lex.specs.Cut.{Reads, W, Form, blank, comment, word, number, mark, other, Piece, value_of, piece_tokens, joined, reading_from}
+use Rattle.fpl_lex.specs.Cut.{Reads, most_value, Form, blank, comment, word, number, mark, other, Piece, value_of, piece_tokens, joined, reading_from}
 use Rattle.fpl_lex.specs.Machine.{lex_of}
 use Rattle.fpl_lex.proofs.Cutting.{lex_reads, reads_lexed}
-use Rattle.fpl_syntax.specs.declared.symbol.Symbol.{Symbol}
+use Rattle.fpl_syntax.specs.declared.terminal.Terminal.{Terminal}
 use Rattle.fpl_syntax.specs.declared.parser.Claim.{Claim}
 use Rattle.fpl_syntax.specs.Grammar.{Scope, Statement, spelling, claims_of}
 use Rattle.fpl_syntax.specs.Machine.{parse_of}
@@ -18,7 +18,7 @@ use Rattle.fpl_syntax.proofs.Faults.{parse_sentence, parse_fault, says_from_pars
 use Rattle.fpl_reader.specs.declared.survey.Event.{Event}
 use Rattle.fpl_reader.specs.declared.fault.Reason.{Reason}
 use Rattle.fpl_reader.specs.declared.fault.Reason.TheVariants as reason
-use Rattle.fpl_reader.specs.Symbols.{symbols_of}
+use Rattle.fpl_reader.specs.Terminals.{terminals_of}
 use Rattle.fpl_reader.specs.Events.{fields_in, declared_in}
 use Rattle.fpl_reader.specs.Scan.{scan_of}
 use Rattle.fpl_reader.specs.Reading.{too_deep, place_of, kind_of, generator_of, scope_of, with_claims, presentation_of, early_refusal, late_refusal, refusal_of, HasPresentation, lexical_refusal, IsRefused, lexically, for_depth, for_syntax, for_sense}
@@ -41,7 +41,7 @@ piece_memory : (at : ℕ) (form : Form) (bytes : List ℕ) → NotMemory (piece_
 piece_memory at blank bytes = tt
 piece_memory at comment bytes = tt
 piece_memory at word bytes = chosen_memory (nat_lt most_name (length bytes)) _ _ tt tt
-piece_memory at number bytes = chosen_memory (nat_lt W (value_of bytes)) _ _ tt tt
+piece_memory at number bytes = chosen_memory (nat_lt most_value (value_of bytes)) _ _ tt tt
 piece_memory at mark bytes = tt
 piece_memory at other bytes = tt
 
@@ -87,12 +87,12 @@ module _ (text : List ℕ) where
       by_refusal (early_refusal text (fields_in es) (declared_in es) (late_refusal (scope_by es) es (with_claims (kind_of (fields_in es)) (map (generator_of text) (declared_in es)) []) claims))
       (with_claims (kind_of (fields_in es)) (map (generator_of text) (declared_in es)) claims)
 
-  abbrev by_symbols : List Token → List Symbol → Answer
-  by_symbols ts symbols = by_claims ts (scan_of symbols) (parse_of (scope_by (scan_of symbols)) symbols)
+  abbrev by_terminals : List Token → List Terminal → Answer
+  by_terminals ts terminals = by_claims ts (scan_of terminals) (parse_of (scope_by (scan_of terminals)) terminals)
 
   abbrev by_depth : List Token → Option ℕ → Answer
   by_depth ts (Some place) = Err (place, reason.TooDeep)
-  by_depth ts None = by_symbols ts (symbols_of text ts)
+  by_depth ts None = by_terminals ts (terminals_of text ts)
 
   abbrev by_fault : LexError → Option (ℕ × Reason) → Answer
   by_fault e (Some r) = Err r
@@ -108,9 +108,9 @@ module _ (text : List ℕ) where
   from_tokens : (ts : List Token) → Reads text (Ok ts) → answer ≡ by_depth ts (too_deep 0 0 ts)
   from_tokens ts r = ap by_tokens (reads_lexed r)
 
-  from_sentence : (ts : List Token) (ss : List Statement) → Reads text (Ok ts) → too_deep 0 0 ts ≡ None → spelling ss ≡ symbols_of text ts → answer ≡ by_refusal (refusal_of text ss) (presentation_of text ss)
+  from_sentence : (ts : List Token) (ss : List Statement) → Reads text (Ok ts) → too_deep 0 0 ts ≡ None → spelling ss ≡ terminals_of text ts → answer ≡ by_refusal (refusal_of text ss) (presentation_of text ss)
   from_sentence ts ss r d e =
-      from_tokens ts r ∙ ap (by_depth ts) d ∙ ap (by_claims ts (scan_of (symbols_of text ts))) (parse_sentence (scope_by (scan_of (symbols_of text ts))) (symbols_of text ts) ss e)
+      from_tokens ts r ∙ ap (by_depth ts) d ∙ ap (by_claims ts (scan_of (terminals_of text ts))) (parse_sentence (scope_by (scan_of (terminals_of text ts))) (terminals_of text ts) ss e)
       ∙ ap (λ es. by_claims ts es (Ok (claims_of (scope_by es) ss))) (ap scan_of (sym e) ∙ sentence_scans ss)
 
   presentation_answer : (p : Presentation) → HasPresentation text p → answer ≡ Ok p
@@ -120,7 +120,7 @@ module _ (text : List ℕ) where
   refusal_answer place why (lexically e r h) = ap by_tokens (reads_lexed r) ∙ ap (by_fault e) h
   refusal_answer place why (for_depth ts r d w) = from_tokens ts r ∙ ap (by_depth ts) d ∙ ap (λ w. Err (place, w)) (sym w)
   refusal_answer place why (for_syntax ts k r d f p w) =
-      from_tokens ts r ∙ ap (by_depth ts) d ∙ ap (by_claims ts (scan_of (symbols_of text ts))) (parse_fault (scope_by (scan_of (symbols_of text ts))) (symbols_of text ts) k f)
+      from_tokens ts r ∙ ap (by_depth ts) d ∙ ap (by_claims ts (scan_of (terminals_of text ts))) (parse_fault (scope_by (scan_of (terminals_of text ts))) (terminals_of text ts) k f)
       ∙ ap₂ (λ p w. Err (p, w)) (sym p) (sym w)
   refusal_answer place why (for_sense ts ss r d e h) = from_sentence ts ss r d e ∙ ap (λ o. by_refusal o (presentation_of text ss)) h
 
@@ -135,15 +135,15 @@ module _ (text : List ℕ) where
 
 -- each text has an answer
 
-refuse_or : (text : List ℕ) (ts : List Token) (ss : List Statement) (o : Option (ℕ × Reason)) → Reads text (Ok ts) → too_deep 0 0 ts ≡ None → spelling ss ≡ symbols_of text ts → refusal_of text ss ≡ o
+refuse_or : (text : List ℕ) (ts : List Token) (ss : List Statement) (o : Option (ℕ × Reason)) → Reads text (Ok ts) → too_deep 0 0 ts ≡ None → spelling ss ≡ terminals_of text ts → refusal_of text ss ≡ o
     → ((p : Presentation) × HasPresentation text p) ⊎ ((place : ℕ) × (why : Reason) × IsRefused text place why)
 refuse_or text ts ss None r d e h = inl (presentation_of text ss, record { tokens = ts; lexed = r; shallow = d; sentence = ss; spelled = e; allowed = h; same = refl })
 refuse_or text ts ss (Some (place, why)) r d e h = inr (place, why, for_sense ts ss r d e h)
 
-parse_or : (text : List ℕ) (ts : List Token) (scope : Scope) (a : Result (List Claim) ℕ) → Reads text (Ok ts) → too_deep 0 0 ts ≡ None → parse_of scope (symbols_of text ts) ≡ a
+parse_or : (text : List ℕ) (ts : List Token) (scope : Scope) (a : Result (List Claim) ℕ) → Reads text (Ok ts) → too_deep 0 0 ts ≡ None → parse_of scope (terminals_of text ts) ≡ a
     → ((p : Presentation) × HasPresentation text p) ⊎ ((place : ℕ) × (why : Reason) × IsRefused text place why)
-parse_or text ts scope (Ok claims) r d e = let s = says_from_parse scope (symbols_of text ts) claims e in refuse_or text ts s.sentence (refusal_of text s.sentence) r d s.spelled refl
-parse_or text ts scope (Err k) r d e = inr (place_of text k ts, reason.Syntax k, for_syntax ts k r d (fault_from_parse scope (symbols_of text ts) k e) refl refl)
+parse_or text ts scope (Ok claims) r d e = let s = says_from_parse scope (terminals_of text ts) claims e in refuse_or text ts s.sentence (refusal_of text s.sentence) r d s.spelled refl
+parse_or text ts scope (Err k) r d e = inr (place_of text k ts, reason.Syntax k, for_syntax ts k r d (fault_from_parse scope (terminals_of text ts) k e) refl refl)
 
 depth_or : (text : List ℕ) (ts : List Token) (o : Option ℕ) → Reads text (Ok ts) → too_deep 0 0 ts ≡ o
     → ((p : Presentation) × HasPresentation text p) ⊎ ((place : ℕ) × (why : Reason) × IsRefused text place why)

@@ -1,5 +1,5 @@
 -- A presentation that is read is sound.
-use Rattle.std.proofs.Common.{◌≡◌, ◌≢◌, ℕ, zero, suc, ◌+◌, ◌<◌, ◌≤◌, ◌^◌, List, [], ◌∷◌, ◌++◌, length, map, sum, get_or, Bool, true, false, ◌||◌, IsTrue, if◌then◌else◌, refl, ap, ap₂, sym, ◌∙◌, subst, arith, length-append}
+use Rattle.std.proofs.Common.{◌≡◌, ◌≢◌, ℕ, zero, suc, ◌+◌, ◌<◌, ◌≤◌, ◌^◌, List, [], ◌∷◌, ◌++◌, length, map, sum, get_or, Bool, true, false, IsTrue, if◌then◌else◌, refl, ap, ap₂, sym, ◌∙◌, subst, arith, length-append}
 use Rattle.std.specs.Prelude.{None, Some, Result, Ok, Err, IfOk, All, nat_eq}
 use Rattle.fpl_reader.specs.declared.fault.ReaderError.{ReaderError}
 use Rattle.fpl_reader.specs.Reading.{Read}
@@ -8,12 +8,13 @@ use Rattle.std.specs.Str.{bytes_eq}
 use Rattle.std.specs.declared.option.Option.{Option}
 use Rattle.std.proofs.lemmas.List.{length-map}
 use Rattle.std.proofs.lemmas.Slice.Eq.{bytes_eq-Decides}
+use Rattle.std.proofs.lemmas.Bool.{or_parts}
+use Rattle.std.proofs.lemmas.List.Elements.{All-nil, All-cons}
 use Rattle.fpl_alphabet.specs.Bytes.{IsName}
 use Rattle.fpl_numbers.specs.declared.number.Kind.{Kind}
 use Rattle.math_algebra.specs.Tree.{Tree, Trees, gen, none, sum_of, multiple, bracket_of, end as last, more}
 use Rattle.math_algebra.specs.Tree as algebra
 use Rattle.math_algebra.specs.Degrees.{Degree, any, exact, mixed, of_both, of_bracket, same_parity, weight_of, weights_of, parity_of, parities_of, weight_of_both, parity_of_both}
-use Rattle.fpl_model.specs.declared.expr.Expr.{Expr}
 use Rattle.fpl_model.specs.declared.expr.Expr as expr
 use Rattle.fpl_model.specs.declared.presentation.Generator.{Generator}
 use Rattle.fpl_model.specs.declared.presentation.Equation.{Equation}
@@ -21,10 +22,10 @@ use Rattle.fpl_model.specs.declared.presentation.Presentation.{Presentation}
 use Rattle.fpl_model.specs.Meaning.{plain, tree_in, in_field, presentation_in}
 use Rattle.fpl_model.specs.Sound.{IsWithin, IsHomogeneous, IsSoundEquation, IsSoundElement, IsSound, count_tree, count_equation, places, deep}
 use Rattle.fpl_model.proofs.Plain.{plain-Zero}
-use Rattle.fpl_syntax.specs.declared.symbol.Symbol.{Symbol}
-use Rattle.fpl_syntax.specs.declared.symbol.Symbol.TheVariants as mark
-use Rattle.fpl_syntax.specs.declared.symbol.ClaimKind.{ClaimKind}
-use Rattle.fpl_syntax.specs.declared.symbol.ClaimKind.TheVariants.{Relation, Ideal, Equal}
+use Rattle.fpl_syntax.specs.declared.terminal.Terminal.{Terminal}
+use Rattle.fpl_syntax.specs.declared.terminal.Terminal.TheVariants as mark
+use Rattle.fpl_syntax.specs.declared.terminal.ClaimKind.{ClaimKind}
+use Rattle.fpl_syntax.specs.declared.terminal.ClaimKind.TheVariants.{Relation, Ideal, Equal}
 use Rattle.fpl_syntax.specs.declared.parser.Claim.{Claim}
 use Rattle.fpl_syntax.specs.declared.expression.Scale.{Scale}
 use Rattle.fpl_syntax.specs.declared.expression.Scale.TheVariants.{One, Whole, Quotient}
@@ -34,9 +35,9 @@ use Rattle.fpl_syntax.proofs.Coefficients.{known_field}
 use Rattle.fpl_reader.specs.declared.survey.Event.{Event}
 use Rattle.fpl_reader.specs.declared.survey.DeclaredName.{DeclaredName}
 use Rattle.fpl_reader.specs.Events.{events_scale, events_sum, events_terms, events_factor, events_statement, events_of, fields_in, declared_in}
-use Rattle.fpl_reader.specs.Symbols.{symbol_of, symbols_of}
+use Rattle.fpl_reader.specs.Terminals.{terminal_of, terminals_of}
 use Rattle.fpl_reader.specs.Reading.{name_of, generator_of, kind_of, scope_of, is_relation, is_ideal, is_equal, claimed_as, lefts, with_claims, name_twice, unknown_in, zero_in, is_mixed, mixed_weight_of, mixed_parity_of, first_place, HasPresentation}
-use Rattle.fpl_reader.proofs.Allowed.{All-cons, All-none, have_weights, few_names, known_kind}
+use Rattle.fpl_reader.proofs.Allowed.{have_weights, few_names, known_kind}
 use Rattle.fpl_reader.proofs.ClaimTerms.{within}
 use Rattle.fpl_reader.proofs.Counting.{few_tokens}
 use Rattle.fpl_reader.proofs.DeclaredNames.{AreNames}
@@ -49,12 +50,8 @@ use Rattle.fpl_reader.proofs.Terms.{first_place-append, or_else-none, places_sum
 -- names
 
 names_all : (text : List ℕ) (ds : List DeclaredName) → AreNames text ds → All (λ g. IsName g.name) (map (generator_of text) ds)
-names_all text [] h = All-none (λ g. IsName g.name)
+names_all text [] h = All-nil (λ g. IsName g.name)
 names_all text (d ∷ ds) h = All-cons (λ g. IsName g.name) (generator_of text d) (map (generator_of text) ds) h.0 (names_all text ds h.1)
-
-neither : (x y : Bool) → (x || y) ≡ false → (x ≡ false) × (y ≡ false)
-neither true y e = cc
-neither false y e = (refl, e)
 
 no_place : (t : Bool) (place : ℕ) (rest : Option ℕ) → (if t then Some place else rest) ≡ None → (t ≡ false) × (rest ≡ None)
 no_place true place rest e = cc
@@ -68,7 +65,7 @@ module _ (text : List ℕ) where
   not_before before [] e i l = absurd (omega arith)
   not_before before (d ∷ ds) e zero l = (no_place (list_any (λ b. bytes_eq b (name_of text d)) before) d.word.start _ e).0
   not_before before (d ∷ ds) e (suc i) l =
-      (neither _ _ (not_before (name_of text d ∷ before) ds (no_place (list_any (λ b. bytes_eq b (name_of text d)) before) d.word.start _ e).1 i (omega arith))).1
+      (or_parts _ _ (not_before (name_of text d ∷ before) ds (no_place (list_any (λ b. bytes_eq b (name_of text d)) before) d.word.start _ e).1 i (omega arith))).1
 
   unequal : (a b : List ℕ) → bytes_eq a b ≡ false → a ≢ b
   unequal a b e same = let t = (bytes_eq-Decides a b).1 same in cc
@@ -78,7 +75,7 @@ module _ (text : List ℕ) where
   names_distinct before (d ∷ ds) e i zero l m = absurd (omega arith)
   names_distinct before (d ∷ ds) e zero (suc j) l m =
       unequal (name_of text d) (get_or (names_of ds) j [])
-      (neither _ _ (not_before (name_of text d ∷ before) ds (no_place (list_any (λ b. bytes_eq b (name_of text d)) before) d.word.start _ e).1 j (omega arith))).0
+      (or_parts _ _ (not_before (name_of text d ∷ before) ds (no_place (list_any (λ b. bytes_eq b (name_of text d)) before) d.word.start _ e).1 j (omega arith))).0
   names_distinct before (d ∷ ds) e (suc i) (suc j) l m =
       names_distinct (name_of text d ∷ before) ds (no_place (list_any (λ b. bytes_eq b (name_of text d)) before) d.word.start _ e).1 i j (omega arith) (omega arith)
 
@@ -121,20 +118,20 @@ unmixed any h e = cc
 unmixed (exact a) h e = cc
 unmixed mixed h e = cc
 
--- how long the symbols are
+-- how long the terminals are
 
-scale_long : (scale : Scale) (after : List Symbol) → length (events_scale scale) + length after ≤ length (spell_scale scale after)
+scale_long : (scale : Scale) (after : List Terminal) → length (events_scale scale) + length after ≤ length (spell_scale scale after)
 scale_long One after = omega arith
 scale_long (Whole n) after = omega arith
 scale_long (Quotient n d) after = omega arith
 
-lead_long : (plus negative : Bool) (after : List Symbol) → length after ≤ length (spell_lead plus negative after)
+lead_long : (plus negative : Bool) (after : List Terminal) → length after ≤ length (spell_lead plus negative after)
 lead_long plus true after = omega arith
 lead_long true false after = omega arith
 lead_long false false after = omega arith
 
 mutual
-  sum_long : (s : Sum) (after : List Symbol) → length (events_sum s) + length after ≤ length (spell_sum s after)
+  sum_long : (s : Sum) (after : List Terminal) → length (events_sum s) + length after ≤ length (spell_sum s after)
   sum_long (sum_tree plus (term negative scale f) ts) after =
       let a = lead_long plus negative (spell_scale scale (spell_factor f (spell_terms ts after))) in
       let b = scale_long scale (spell_factor f (spell_terms ts after)) in
@@ -144,7 +141,7 @@ mutual
       let y = length-append (events_factor f) (events_terms ts) in
       omega arith
 
-  terms_long : (ts : Terms) (after : List Symbol) → length (events_terms ts) + length after ≤ length (spell_terms ts after)
+  terms_long : (ts : Terms) (after : List Terminal) → length (events_terms ts) + length after ≤ length (spell_terms ts after)
   terms_long end after = omega arith
   terms_long (further (term negative scale f) ts) after =
       let b = scale_long scale (spell_factor f (spell_terms ts after)) in
@@ -154,7 +151,7 @@ mutual
       let y = length-append (events_factor f) (events_terms ts) in
       omega arith
 
-  factor_long : (f : Factor) (after : List Symbol) → length (events_factor f) + length after ≤ length (spell_factor f after)
+  factor_long : (f : Factor) (after : List Terminal) → length (events_factor f) + length after ≤ length (spell_factor f after)
   factor_long (name w) after = omega arith
   factor_long (nought place) after = omega arith
   factor_long (bracket a b) after =
@@ -164,7 +161,7 @@ mutual
       omega arith
   factor_long (group a) after = let c = sum_long a (mark.CloseGroup ∷ after) in omega arith
 
-declarations_long : (ds : List Declaration) (after : List Symbol) → length after ≤ length (spell_declarations ds after)
+declarations_long : (ds : List Declaration) (after : List Terminal) → length after ≤ length (spell_declarations ds after)
 declarations_long [] after = omega arith
 declarations_long (plainly w ∷ ds) after = let h = declarations_long ds after in omega arith
 declarations_long (weighted w n ∷ ds) after = let h = declarations_long ds after in omega arith
@@ -263,23 +260,23 @@ module _ (text : List ℕ) (kind : Kind) (gs : List Generator) (known : IsTrue (
       }
 
   -- what a statement leaves
-  abbrev Formed : List Claim → List Symbol → Type 0
+  abbrev Formed : List Claim → List Terminal → Type 0
   Formed cs after = All IsFormed cs × (o : ℕ) × IsShallow o o after
 
-  balanced : (o c : ℕ) (after : List Symbol) → o ≡ c → IsShallow o c after → (o : ℕ) × IsShallow o o after
+  balanced : (o c : ℕ) (after : List Terminal) → o ≡ c → IsShallow o c after → (o : ℕ) × IsShallow o o after
   balanced o c after e h = (o, subst (λ n. IsShallow o n after) (sym e) h)
 
   one : (c : Claim) → IsFormed c → All IsFormed (c ∷ [])
-  one c h = All-cons IsFormed c [] h (All-none IsFormed)
+  one c h = All-cons IsFormed c [] h (All-nil IsFormed)
 
-  side_formed : (claim : ClaimKind) (place : ℕ) (a : Sum) (o : ℕ) (after : List Symbol) → AllKnown (events_sum a) → IsShallow o o (mark.Claim claim place ∷ spell_sum a (mark.Semicolon ∷ after))
+  side_formed : (claim : ClaimKind) (place : ℕ) (a : Sum) (o : ℕ) (after : List Terminal) → AllKnown (events_sum a) → IsShallow o o (mark.Claim claim place ∷ spell_sum a (mark.Semicolon ∷ after))
       → Formed (equate claim place (expression_of scope a) expr.Zero ∷ []) after
   side_formed claim place a o after h (start, k) =
       let p = sum_passes a o o (mark.Semicolon ∷ after) (omega arith) k in
       let b = balanced p.1 p.2 after (omega (arith, p.3)) p.4.1 in
       (one (equate claim place (expression_of scope a) expr.Zero) (alone_formed claim place a h (omega (arith, p.0))), b.0, b.1)
 
-  sides_formed : (claim : ClaimKind) (place : ℕ) (a b : Sum) (o : ℕ) (after : List Symbol) → is_ideal claim ≡ false → AllKnown (events_sum a ++ events_sum b)
+  sides_formed : (claim : ClaimKind) (place : ℕ) (a b : Sum) (o : ℕ) (after : List Terminal) → is_ideal claim ≡ false → AllKnown (events_sum a ++ events_sum b)
       → IsShallow o o (mark.Claim claim place ∷ spell_sum a (mark.Equals ∷ spell_sum b (mark.Semicolon ∷ after)))
       → Formed (equate claim place (expression_of scope a) (expression_of scope b) ∷ []) after
   sides_formed claim place a b o after apart h (start, k) =
@@ -289,16 +286,16 @@ module _ (text : List ℕ) (kind : Kind) (gs : List Generator) (known : IsTrue (
       let r = balanced q.1 q.2 after (omega (arith, p.3, q.3)) q.4.1 in
       (one (equate claim place (expression_of scope a) (expression_of scope b)) (pair_formed claim place a b apart f.0 f.1 (omega (arith, p.0)) (omega (arith, p.3, q.0))), r.0, r.1)
 
-  declared_shallow : (ds : List Declaration) (o : ℕ) (after : List Symbol) → IsShallow o o (spell_declarations ds (mark.Semicolon ∷ after)) → IsShallow o o after
+  declared_shallow : (ds : List Declaration) (o : ℕ) (after : List Terminal) → IsShallow o o (spell_declarations ds (mark.Semicolon ∷ after)) → IsShallow o o after
   declared_shallow [] o after h = h.1
   declared_shallow (plainly w ∷ ds) o after h = declared_shallow ds o after h.1.1
   declared_shallow (weighted w n ∷ ds) o after h = declared_shallow ds o after h.1.1.1.1
 
-  statement_formed : (s : Statement) (o : ℕ) (after : List Symbol) → AllKnown (events_statement s) → IsShallow o o (spell_statement s after) → Formed (claims_in scope s) after
-  statement_formed (field place (rationals a b)) o after h k = (All-none IsFormed, o, k.1.1.1)
-  statement_formed (field place (prime n)) o after h k = (All-none IsFormed, o, k.1.1.1)
-  statement_formed (declare parity (plainly w) ds) o after h k = (All-none IsFormed, o, declared_shallow ds o after k.1.1)
-  statement_formed (declare parity (weighted w n) ds) o after h k = (All-none IsFormed, o, declared_shallow ds o after k.1.1.1.1)
+  statement_formed : (s : Statement) (o : ℕ) (after : List Terminal) → AllKnown (events_statement s) → IsShallow o o (spell_statement s after) → Formed (claims_in scope s) after
+  statement_formed (field place (rationals a b)) o after h k = (All-nil IsFormed, o, k.1.1.1)
+  statement_formed (field place (prime n)) o after h k = (All-nil IsFormed, o, k.1.1.1)
+  statement_formed (declare parity (plainly w) ds) o after h k = (All-nil IsFormed, o, declared_shallow ds o after k.1.1)
+  statement_formed (declare parity (weighted w n) ds) o after h k = (All-nil IsFormed, o, declared_shallow ds o after k.1.1.1.1)
   statement_formed (relation place a) o after h k = side_formed Relation place a o after h k
   statement_formed (equation place a b) o after h k = sides_formed Relation place a b o after refl h k
   statement_formed (ideal place a) o after h k = side_formed Ideal place a o after h k
@@ -309,7 +306,7 @@ module _ (text : List ℕ) (kind : Kind) (gs : List Generator) (known : IsTrue (
   All-append (x ∷ xs) ys h k = All-cons IsFormed x (xs ++ ys) (h 0 x (omega arith)) (All-append xs ys (λ n d l. h (suc n) d (omega arith)) k)
 
   claims_formed : (ss : List Statement) (o : ℕ) → AllKnown (events_of ss) → IsShallow o o (spelling ss) → All IsFormed (claims_of scope ss)
-  claims_formed [] o h k = All-none IsFormed
+  claims_formed [] o h k = All-nil IsFormed
   claims_formed (s ∷ ss) o h k =
       let f = first_place-append (unknown_in scope) (events_statement s) (events_of ss) h in
       let r = statement_formed s o (spelling ss) f.0 k in
@@ -320,7 +317,7 @@ module _ (text : List ℕ) (kind : Kind) (gs : List Generator) (known : IsTrue (
   cost_side : (a : Sum) → count_tree (plain (expression_of scope a)) + count_tree (plain expr.Zero) + 1 ≤ length (events_sum a) + 1
   cost_side a = let h = places_sum scope a in rw plain-Zero (omega arith)
 
-  statement_cost : (s : Statement) (after : List Symbol) → costs (claims_in scope s) + length after ≤ length (spell_statement s after)
+  statement_cost : (s : Statement) (after : List Terminal) → costs (claims_in scope s) + length after ≤ length (spell_statement s after)
   statement_cost (field place (rationals a b)) after = omega arith
   statement_cost (field place (prime n)) after = omega arith
   statement_cost (declare parity (plainly w) ds) after = let h = declarations_long ds (mark.Semicolon ∷ after) in omega arith
@@ -355,7 +352,7 @@ unmixed_place true place e = cc
 unmixed_place false place e = refl
 
 none_placed : {A : Type 0} (f : A → Option ℕ) (xs : List A) → first_place f xs ≡ None → All (λ x. f x ≡ None) xs
-none_placed f [] e = All-none (λ x. f x ≡ None)
+none_placed f [] e = All-nil (λ x. f x ≡ None)
 none_placed f (x ∷ xs) e = let h = or_else-none (f x) (first_place f xs) e in All-cons (λ x. f x ≡ None) x xs h.0 (none_placed f xs h.1)
 
 module _ (kind : Kind) (gs : List Generator) (claims : List Claim) where
@@ -386,11 +383,11 @@ module _ (kind : Kind) (gs : List Generator) (claims : List Claim) where
   element_in false q qs h k = k
 
   equations_in : (is : ClaimKind → Bool) (cs : List Claim) → All (λ c. IsSoundEquation whole c.equation) cs → All (IsSoundEquation whole) (claimed_as is cs)
-  equations_in is [] h = All-none (IsSoundEquation whole)
+  equations_in is [] h = All-nil (IsSoundEquation whole)
   equations_in is (c ∷ cs) h = chosen_in (is c.kind) c.equation (claimed_as is cs) (h 0 c (omega arith)) (equations_in is cs (λ k d l. h (suc k) d (omega arith)))
 
   elements_in : (cs : List Claim) → All (λ c. IsTrue (is_ideal c.kind) → IsSoundElement whole c.equation.left) cs → All (IsSoundElement whole) (lefts (claimed_as is_ideal cs))
-  elements_in [] h = All-none (IsSoundElement whole)
+  elements_in [] h = All-nil (IsSoundElement whole)
   elements_in (c ∷ cs) h = element_in (is_ideal c.kind) c.equation (claimed_as is_ideal cs) (h 0 c (omega arith)) (elements_in cs (λ k d l. h (suc k) d (omega arith)))
 
 -- the whole
@@ -434,8 +431,8 @@ presentation_sound text p small h =
     let counted : places (with_claims kind gs claims) < 2 ^ 32 =
     let a = places_cost kind gs claims in
     let b = claims_cost text kind gs known ss in
-    let c : length (spelling ss) ≡ length (symbols_of text h.tokens) = ap length h.spelled in
-    let d = length-map h.tokens (symbol_of text) in
+    let c : length (spelling ss) ≡ length (terminals_of text h.tokens) = ap length h.spelled in
+    let d = length-map h.tokens (terminal_of text) in
     let e = few_tokens text h.tokens h.lexed in
     omega arith in
     subst IsSound (sym h.same) (record {

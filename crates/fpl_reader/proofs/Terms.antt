@@ -11,7 +11,7 @@ use Rattle.fpl_model.specs.declared.expr.Expr as expr
 use Rattle.fpl_model.specs.Meaning.{plain}
 use Rattle.fpl_model.specs.Sound.{IsTerm, AreTerms, IsWithin, AreWithin, count_tree, count_trees}
 use Rattle.fpl_model.proofs.Plain.{plain-Gen, plain-Zero, plain-Sum, plain-Times, plain-Br}
-use Rattle.fpl_syntax.specs.declared.symbol.Word.{Word}
+use Rattle.fpl_syntax.specs.declared.terminal.Word.{Word}
 use Rattle.fpl_syntax.specs.declared.expression.Scale.{Scale}
 use Rattle.fpl_syntax.specs.declared.expression.Scale.TheVariants.{One, Whole, Quotient}
 use Rattle.fpl_syntax.specs.Grammar.{Scope, Sum, sum, Terms, end, further, term, Factor, name, zero as nought, bracket, group, coefficient_of, term_of, total, expression_of, further_of, factor_of}

@@ -1,9 +1,10 @@
 pub mod Answers
 pub mod Events
 pub mod Reading
+pub mod Reasons
 pub mod Scan
 pub mod Sentence
 pub mod Stream
-pub mod Symbols
+pub mod Terminals
 pub mod Terms
 pub mod Texts

@@ -21,7 +21,7 @@ use Rattle.std.specs.Str.{bytes_eq}
 use Rattle.std.specs.declared.option.Option.{Option}
 use Rattle.fpl_numbers.specs.declared.number.Kind.{Kind}
 use Rattle.fpl_numbers.specs.declared.number.Kind.TheVariants.{Rational, Prime}
-use Rattle.fpl_numbers.specs.Numbers.{is_nought}
+use Rattle.fpl_numbers.specs.Numbers.{is_nought, is_listed}
 use Rattle.fpl_numbers.specs.Quotients.{whole}
 use Rattle.math_algebra.specs.Degrees.{Degree, any, exact, mixed, weight_of_both, parity_of_both}
 use Rattle.fpl_model.specs.Meaning.{tree_in, presentation_in}
@@ -35,12 +35,11 @@ use Rattle.fpl_lex.specs.declared.token.TokenKind.TheVariants as kinds
 use Rattle.fpl_lex.specs.declared.fault.LexError.{LexError}
 use Rattle.fpl_lex.specs.declared.fault.LexError.TheVariants as lexical
 use Rattle.fpl_lex.specs.Cut.{Reads}
-use Rattle.fpl_syntax.specs.declared.symbol.Numeral.{Numeral}
-use Rattle.fpl_syntax.specs.declared.symbol.ClaimKind.{ClaimKind}
-use Rattle.fpl_syntax.specs.declared.symbol.ClaimKind.TheVariants.{Relation, Ideal, Equal}
+use Rattle.fpl_syntax.specs.declared.terminal.Numeral.{Numeral}
+use Rattle.fpl_syntax.specs.declared.terminal.ClaimKind.{ClaimKind}
+use Rattle.fpl_syntax.specs.declared.terminal.ClaimKind.TheVariants.{Relation, Ideal, Equal}
 use Rattle.fpl_syntax.specs.declared.parser.Claim.{Claim}
 use Rattle.fpl_syntax.specs.Grammar.{Scope, Statement, spelling, claims_of, IsFaultAt}
-use Rattle.fpl_syntax.specs.Kinds.{is_listed}
 use Rattle.fpl_syntax.specs.Sight.{word_of, number_from}
 use Rattle.fpl_reader.specs.declared.survey.Event.{Event}
 use Rattle.fpl_reader.specs.declared.survey.Event.TheVariants.{Used, Divided}
@@ -52,7 +51,7 @@ use Rattle.fpl_reader.specs.declared.fault.Reason.{Reason}
 use Rattle.fpl_reader.specs.declared.fault.Reason.TheVariants as reason
 use Rattle.fpl_reader.specs.declared.fault.ReaderError.{ReaderError}
 use Rattle.fpl_reader.specs.declared.fault.ReaderError.TheVariants.{Refused, NoMemory}
-use Rattle.fpl_reader.specs.Symbols.{symbols_of}
+use Rattle.fpl_reader.specs.Terminals.{terminals_of}
 use Rattle.fpl_reader.specs.Events.{events_of, fields_in, declared_in}
 
 -- tokens
@@ -252,7 +251,7 @@ pub record HasPresentation (text : List ℕ) (p : Presentation) : Type 0 where
   pub lexed : Reads text (Ok tokens)
   pub shallow : too_deep 0 0 tokens ≡ None
   pub sentence : List Statement
-  pub spelled : spelling sentence ≡ symbols_of text tokens
+  pub spelled : spelling sentence ≡ terminals_of text tokens
   pub allowed : refusal_of text sentence ≡ None
   pub same : p ≡ presentation_of text sentence
 
@@ -266,8 +265,8 @@ lexical_refusal lexical.NoMemory = None
 pub data IsRefused (text : List ℕ) (place : ℕ) (why : Reason) : Type 0 where
   lexically : (e : LexError) → Reads text (Err e) → lexical_refusal e ≡ Some (place, why) → IsRefused text place why
   for_depth : (ts : List Token) → Reads text (Ok ts) → too_deep 0 0 ts ≡ Some place → why ≡ reason.TooDeep → IsRefused text place why
-  for_syntax : (ts : List Token) (k : ℕ) → Reads text (Ok ts) → too_deep 0 0 ts ≡ None → IsFaultAt k (symbols_of text ts) → place ≡ place_of text k ts → why ≡ reason.Syntax k → IsRefused text place why
-  for_sense : (ts : List Token) (ss : List Statement) → Reads text (Ok ts) → too_deep 0 0 ts ≡ None → spelling ss ≡ symbols_of text ts → refusal_of text ss ≡ Some (place, why) → IsRefused text place why
+  for_syntax : (ts : List Token) (k : ℕ) → Reads text (Ok ts) → too_deep 0 0 ts ≡ None → IsFaultAt k (terminals_of text ts) → place ≡ place_of text k ts → why ≡ reason.Syntax k → IsRefused text place why
+  for_sense : (ts : List Token) (ss : List Statement) → Reads text (Ok ts) → too_deep 0 0 ts ≡ None → spelling ss ≡ terminals_of text ts → refusal_of text ss ≡ Some (place, why) → IsRefused text place why
 
 abbrev pub Read : List ℕ → Result Presentation ReaderError → Type 0
 Read text (Ok p) = HasPresentation text p

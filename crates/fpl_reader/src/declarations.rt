@@ -1,10 +1,10 @@
 ghost use Rattle.std.specs.Prelude.{◌≡◌, IfOk, length, [], None};
-ghost use Rattle.fpl_syntax.specs.Kinds.{is_listed};
+ghost use Rattle.fpl_numbers.specs.Numbers.{is_listed};
 ghost use Rattle.fpl_reader.specs.Reading.{field_twice, bad_prime, bad_weight_given, bad_weight, too_many, name_twice, early_refusal};
 
 use crate::Reason;
 use crate::survey::{DeclaredName, FieldName, FieldStatement, Survey};
-use fpl_numbers::PRIMES;
+use fpl_numbers::is_listed;
 use fpl_syntax::Numeral;
 use std::alloc::{AllocError, Global};
 use std::collections::BTreeMap;
@@ -16,12 +16,6 @@ fn field_twice(fields: &[FieldStatement]) -> Option<usize>
         [_, second, ..] => Some(second.place),
         _ => None,
     }
-}
-
-pub fn is_listed(p: u128) -> bool
-    ensures { result ≡ is_listed p }
-{
-    PRIMES.iter().any(|q| p == u128::from(*q))
 }
 
 fn bad_prime(fields: &[FieldStatement]) -> Option<usize>

@@ -9,7 +9,7 @@ mod reading;
 mod sentence;
 mod stream;
 mod survey;
-mod symbols;
+mod terminals;
 mod tokens;
 
 pub use fault::{ReaderError, Reason};

@@ -9,7 +9,7 @@ ghost use Rattle.fpl_reader.specs.Reading.{unknown_in, zero_in, first_place, unk
 
 use crate::stream::Stream;
 use crate::survey::{Event, Track, note};
-use crate::symbols::symbol_of;
+use crate::terminals::terminal_of;
 use fpl_numbers::Kind;
 use fpl_syntax::{Scope, number_of};
 
@@ -37,7 +37,7 @@ pub fn unknown_name(scope: &Scope) -> Option<usize>
     let mut stream = Stream::new(scope.text);
     let mut track = Track::Outside;
     while let Some(token) = stream.next() {
-        let (event, next) = note(track, symbol_of(scope.text, token));
+        let (event, next) = note(track, terminal_of(scope.text, token));
         if let Some(place) = unknown_in(scope, event) {
             return Some(place);
         }
@@ -81,7 +81,7 @@ pub fn zero_denominator(scope: &Scope) -> Option<usize>
     let mut stream = Stream::new(scope.text);
     let mut track = Track::Outside;
     while let Some(token) = stream.next() {
-        let (event, next) = note(track, symbol_of(scope.text, token));
+        let (event, next) = note(track, terminal_of(scope.text, token));
         if let Some(place) = zero_in(scope.kind, event) {
             return Some(place);
         }

@@ -5,7 +5,7 @@ ghost use Rattle.fpl_model.specs.declared.presentation.Presentation.{Presentatio
 ghost use Rattle.fpl_reader.specs.declared.fault.Reason.{Reason as Refusal};
 ghost use Rattle.fpl_reader.specs.Reading.{HasPresentation, IsRefused};
 ghost use Rattle.std.specs.Prelude.{IsTrue, All};
-ghost use Rattle.fpl_syntax.specs.Kinds.{is_listed};
+ghost use Rattle.fpl_numbers.specs.Numbers.{is_listed};
 ghost use Rattle.fpl_reader.specs.Events.{fields_in, declared_in};
 ghost use Rattle.fpl_reader.specs.Stream.{IsLexable};
 ghost use Rattle.fpl_reader.specs.Texts.{text_tokens, text_events};

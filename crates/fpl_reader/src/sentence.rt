@@ -2,11 +2,11 @@ ghost use Rattle.std.specs.Prelude.{◌≡◌, ◌<◌, ◌^◌, ℕ, length, Ok
 ghost use Rattle.fpl_syntax.specs.Machine.{ended, parse_of};
 ghost use Rattle.fpl_syntax.specs.Sight.{sight};
 ghost use Rattle.fpl_reader.specs.Stream.{IsLexable};
-ghost use Rattle.fpl_reader.specs.Texts.{text_tokens, text_symbols};
+ghost use Rattle.fpl_reader.specs.Texts.{text_tokens, text_terminals};
 ghost use Rattle.fpl_reader.specs.Sentence.{FailsAt};
 
 use crate::stream::Stream;
-use crate::symbols::symbol_of;
+use crate::terminals::terminal_of;
 use crate::{ReaderError, Reason};
 use fpl_syntax::{Claim, Scope, State, step_state};
 use std::alloc::Global;
@@ -34,8 +34,8 @@ fn complete(claims: Vec<Claim>, state: State) -> Option<Vec<Claim>>
 pub fn parse_text(alloc: Global, scope: &Scope) -> Result<Vec<Claim>, ReaderError>
     requires lexable { IsLexable scope.now.text.now 0 }
     requires few { length (text_tokens scope.now.text.now) < 2 ^ 32 }
-    ensures claims { IfOk result (λ claims. parse_of (sight scope.now) (text_symbols scope.now.text.now) ≡ Ok claims.items) }
-    ensures fault { IfErr result (λ e. FailsAt scope.now.text.now e (parse_of (sight scope.now) (text_symbols scope.now.text.now))) }
+    ensures claims { IfOk result (λ claims. parse_of (sight scope.now) (text_terminals scope.now.text.now) ≡ Ok claims.items) }
+    ensures fault { IfErr result (λ e. FailsAt scope.now.text.now e (parse_of (sight scope.now) (text_terminals scope.now.text.now))) }
 {
     let mut stream = Stream::new(scope.text);
     let mut claims = Vec::new(alloc);
@@ -47,7 +47,7 @@ pub fn parse_text(alloc: Global, scope: &Scope) -> Result<Vec<Claim>, ReaderErro
             scope,
             &mut claims,
             state,
-            symbol_of(scope.text, token),
+            terminal_of(scope.text, token),
         ) {
             Ok(Some(next)) => state = next,
             Ok(None) => return Err(syntax(token.start, k)),

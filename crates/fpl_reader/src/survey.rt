@@ -5,9 +5,9 @@ ghost use Rattle.fpl_reader.specs.Texts.{text_events};
 ghost use Rattle.fpl_reader.specs.Scan.{note, event_list, named_field, some_declared};
 
 use crate::stream::Stream;
-use crate::symbols::symbol_of;
+use crate::terminals::terminal_of;
 use fpl_model::Parity;
-use fpl_syntax::{Numeral, Symbol, Word};
+use fpl_syntax::{Numeral, Terminal, Word};
 use sqlite_items::Items;
 use std::alloc::{AllocError, Global};
 
@@ -44,7 +44,7 @@ pub enum Event {
     Divided(Numeral),
 }
 
-/// Where in a sentence a symbol stands.
+/// Where in a sentence a terminal stands.
 #[derive(Clone, Copy, Debug, PartialEq, Eq)]
 pub enum Track {
     Outside,
@@ -55,33 +55,36 @@ pub enum Track {
     AfterSlash,
 }
 
-/// What a symbol is, and where the next one stands. Inlined, since the answer is large.
+/// What a terminal is, and where the next one stands. Inlined, since the answer is large.
 #[inline(always)]
-pub fn note(track: Track, symbol: Symbol) -> (Option<Event>, Track)
-    ensures { (result.0, result.1) ≡ note track symbol }
+pub fn note(track: Track, terminal: Terminal) -> (Option<Event>, Track)
+    ensures { (result.0, result.1) ≡ note track terminal }
 {
-    match (track, symbol) {
-        (Track::Outside, Symbol::Field(place)) => (None, Track::InField(place)),
-        (Track::Outside, Symbol::Declare(parity)) => (None, Track::Declaring(parity)),
-        (Track::Outside, Symbol::Claim(_, _)) => (None, Track::InClaim),
-        (Track::InField(place), Symbol::Name(_)) => named(place, FieldName::Rationals),
-        (Track::InField(place), Symbol::Number(n)) => named(place, FieldName::Prime(n)),
-        (Track::Declaring(parity), Symbol::Name(word)) => (None, Track::Named(parity, word, None)),
-        (Track::Named(parity, word, _), Symbol::Number(n)) => {
+    match (track, terminal) {
+        (Track::Outside, Terminal::Field(place)) => (None, Track::InField(place)),
+        (Track::Outside, Terminal::Declare(parity)) => (None, Track::Declaring(parity)),
+        (Track::Outside, Terminal::Claim(_, _)) => (None, Track::InClaim),
+        (Track::InField(place), Terminal::Name(_)) => named(place, FieldName::Rationals),
+        (Track::InField(place), Terminal::Number(n)) => named(place, FieldName::Prime(n)),
+        (Track::Declaring(parity), Terminal::Name(word)) => (
+            None,
+            Track::Named(parity, word, None),
+        ),
+        (Track::Named(parity, word, _), Terminal::Number(n)) => {
             (None, Track::Named(parity, word, Some(n)))
         }
-        (Track::Named(parity, word, weight), Symbol::Comma) => {
+        (Track::Named(parity, word, weight), Terminal::Comma) => {
             (declared(parity, word, weight), Track::Declaring(parity))
         }
-        (Track::Named(parity, word, weight), Symbol::Semicolon) => {
+        (Track::Named(parity, word, weight), Terminal::Semicolon) => {
             (declared(parity, word, weight), Track::Outside)
         }
         (Track::Named(_, _, _), _) => (None, track),
-        (Track::InClaim, Symbol::Name(word)) => (Some(Event::Used(word)), Track::InClaim),
-        (Track::InClaim, Symbol::Slash) => (None, Track::AfterSlash),
-        (Track::InClaim, Symbol::Semicolon) => (None, Track::Outside),
+        (Track::InClaim, Terminal::Name(word)) => (Some(Event::Used(word)), Track::InClaim),
+        (Track::InClaim, Terminal::Slash) => (None, Track::AfterSlash),
+        (Track::InClaim, Terminal::Semicolon) => (None, Track::Outside),
         (Track::InClaim, _) => (None, Track::InClaim),
-        (Track::AfterSlash, Symbol::Number(d)) => (Some(Event::Divided(d)), Track::InClaim),
+        (Track::AfterSlash, Terminal::Number(d)) => (Some(Event::Divided(d)), Track::InClaim),
         (Track::AfterSlash, _) => (None, Track::InClaim),
         _ => (None, Track::Outside),
     }
@@ -138,7 +141,7 @@ pub fn survey_of(alloc: Global, text: &[u8]) -> Result<Survey, AllocError>
     let mut stream = Stream::new(text);
     let mut track = Track::Outside;
     while let Some(token) = stream.next() {
-        let (event, next) = note(track, symbol_of(text, token));
+        let (event, next) = note(track, terminal_of(text, token));
         record(event, &mut survey)?;
         track = next;
     }

@@ -1,6 +1,6 @@
 //! Numbers in decimal, and their signs.
 ghost use Rattle.std.specs.Prelude.{◌≡◌, ◌++◌, List, ℕ, OnOk, decimal, unsigned_abs};
-ghost use Rattle.fpl_spelling.specs.Spelling.{below_text, magnitude_text, sign_text, is_below_nought};
+ghost use Rattle.fpl_spelling.specs.Spelling.{below_text, magnitude_text, number_text, sign_text, is_below_nought};
 
 use fpl_numbers::Num;
 use itoa::{Buffer, Integer};
@@ -50,4 +50,12 @@ pub fn push_sign(out: &mut Vec<u8>, first: bool, below: bool) -> Result<(), Allo
         (false, true) => b" - ",
     };
     out.extend_from_slice(sign)
+}
+
+/// Appends a number of a field: `-` where it is below 0, and its magnitude.
+pub fn push_num(out: &mut Vec<u8>, c: Num) -> Result<(), AllocError>
+    ensures { OnOk result (out.new.items ≡ out.old.items ++ number_text c) }
+{
+    push_sign(out, true, is_below_nought(c))?;
+    push_magnitude(out, c)
 }

@@ -6,21 +6,21 @@ use Rattle.std.proofs.lemmas.List.{append-nil}
 use Rattle.fpl_model.specs.declared.expr.Expr.{Expr}
 use Rattle.fpl_model.specs.declared.expr.Expr as expr
 use Rattle.fpl_model.specs.declared.presentation.Parity.{Parity}
-use Rattle.fpl_syntax.specs.declared.symbol.Symbol.{Symbol}
-use Rattle.fpl_syntax.specs.declared.symbol.Symbol.TheVariants as mark
-use Rattle.fpl_syntax.specs.declared.symbol.Word.{Word}
-use Rattle.fpl_syntax.specs.declared.symbol.Numeral.{Numeral}
-use Rattle.fpl_syntax.specs.declared.symbol.ClaimKind.{ClaimKind}
-use Rattle.fpl_syntax.specs.declared.symbol.ClaimKind.TheVariants.{Relation, Ideal, Equal}
+use Rattle.fpl_syntax.specs.declared.terminal.Terminal.{Terminal}
+use Rattle.fpl_syntax.specs.declared.terminal.Terminal.TheVariants as mark
+use Rattle.fpl_syntax.specs.declared.terminal.Word.{Word}
+use Rattle.fpl_syntax.specs.declared.terminal.Numeral.{Numeral}
+use Rattle.fpl_syntax.specs.declared.terminal.ClaimKind.{ClaimKind}
+use Rattle.fpl_syntax.specs.declared.terminal.ClaimKind.TheVariants.{Relation, Ideal, Equal}
 use Rattle.fpl_syntax.specs.declared.expression.Wait.{Wait}
 use Rattle.fpl_syntax.specs.declared.expression.Partial.{Partial}
 use Rattle.fpl_syntax.specs.declared.parser.State.{State}
 use Rattle.fpl_syntax.specs.declared.parser.State.TheVariants as state
 use Rattle.fpl_syntax.specs.declared.parser.Side.{Side}
 use Rattle.fpl_syntax.specs.declared.parser.Claim.{Claim}
-use Rattle.fpl_syntax.specs.Grammar.{Scope, Sum, Statement, field, declare, relation, equation, ideal, equal, Naming, rationals, prime, Declaration, plainly, weighted, spell_sum, naming_symbol, spell_declaration, spell_declarations, spell_statement, spelling, equate, expression_of, claims_in, claims_of}
+use Rattle.fpl_syntax.specs.Grammar.{Scope, Sum, Statement, field, declare, relation, equation, ideal, equal, Naming, rationals, prime, Declaration, plainly, weighted, spell_sum, naming_terminal, spell_declaration, spell_declarations, spell_statement, spelling, equate, expression_of, claims_in, claims_of}
 use Rattle.fpl_syntax.specs.Machine.{Answer, side_from, goes, end_side, turn_side, continued, step_side, step_state}
-use Rattle.fpl_syntax.proofs.Stages.{Held, Inner, start, spell_held, spell_inner, view, Accepts, accepts, Finishes, finishes, complete, nought_sum, nought_symbol}
+use Rattle.fpl_syntax.proofs.Stages.{Held, Inner, start, spell_held, spell_inner, view, Accepts, accepts, Finishes, finishes, complete, nought_sum, nought_terminal}
 
 -- a side of a claim that is being read, with what was read before it
 pub data Claiming : Type 0 where
@@ -41,26 +41,26 @@ pub data Tail : Type 0 where
   weighed : Parity → List Declaration → Word → Numeral → Tail
   claiming : Claiming → List Held → Inner → Tail
 
-abbrev pub spell_done : List Statement → List Symbol → List Symbol
+abbrev pub spell_done : List Statement → List Terminal → List Terminal
 spell_done [] after = after
 spell_done (s ∷ ss) after = spell_statement s (spell_done ss after)
 
 -- declarations, and then another
-abbrev pub spell_before : List Declaration → List Symbol → List Symbol
+abbrev pub spell_before : List Declaration → List Terminal → List Terminal
 spell_before [] after = after
 spell_before (d ∷ ds) after = spell_declaration d (spell_declarations ds (mark.Comma ∷ after))
 
-abbrev pub spell_claiming : Claiming → List Symbol → List Symbol
+abbrev pub spell_claiming : Claiming → List Terminal → List Terminal
 spell_claiming (relating place) after = mark.Claim Relation place ∷ after
 spell_claiming (relating_to place a) after = mark.Claim Relation place ∷ spell_sum a (mark.Equals ∷ after)
 spell_claiming (member place) after = mark.Claim Ideal place ∷ after
 spell_claiming (asking place) after = mark.Claim Equal place ∷ after
 spell_claiming (asking_for place a) after = mark.Claim Equal place ∷ spell_sum a (mark.Equals ∷ after)
 
-abbrev pub spell_tail : Tail → List Symbol → List Symbol
+abbrev pub spell_tail : Tail → List Terminal → List Terminal
 spell_tail between after = after
 spell_tail (in_field place) after = mark.Field place ∷ after
-spell_tail (field_named place naming) after = mark.Field place ∷ naming_symbol naming ∷ after
+spell_tail (field_named place naming) after = mark.Field place ∷ naming_terminal naming ∷ after
 spell_tail (declaring parity ds) after = mark.Declare parity ∷ spell_before ds after
 spell_tail (declared parity ds w) after = mark.Declare parity ∷ spell_before ds (mark.Name w ∷ after)
 spell_tail (weighing parity ds w) after = mark.Declare parity ∷ spell_before ds (mark.Name w ∷ mark.Colon ∷ after)
@@ -73,17 +73,17 @@ abbrev pub declare_all : Parity → List Declaration → Declaration → Stateme
 declare_all parity [] last = declare parity last []
 declare_all parity (d ∷ ds) last = declare parity d (ds ++ last ∷ [])
 
-spell_declarations-append : (ds : List Declaration) (d : Declaration) (after : List Symbol) → spell_declarations (ds ++ d ∷ []) after ≡ spell_declarations ds (mark.Comma ∷ spell_declaration d after)
+spell_declarations-append : (ds : List Declaration) (d : Declaration) (after : List Terminal) → spell_declarations (ds ++ d ∷ []) after ≡ spell_declarations ds (mark.Comma ∷ spell_declaration d after)
 spell_declarations-append [] d after = refl
 spell_declarations-append (plainly w ∷ ds) d after = ap (λ xs. mark.Comma ∷ mark.Name w ∷ xs) (spell_declarations-append ds d after)
 spell_declarations-append (weighted w n ∷ ds) d after = ap (λ xs. mark.Comma ∷ mark.Name w ∷ mark.Colon ∷ mark.Number n ∷ xs) (spell_declarations-append ds d after)
 
-declare_all-spelled : (parity : Parity) (ds : List Declaration) (d : Declaration) (after : List Symbol)
+declare_all-spelled : (parity : Parity) (ds : List Declaration) (d : Declaration) (after : List Terminal)
     → spell_statement (declare_all parity ds d) after ≡ mark.Declare parity ∷ spell_before ds (spell_declaration d (mark.Semicolon ∷ after))
 declare_all-spelled parity [] d after = refl
 declare_all-spelled parity (e ∷ ds) d after = ap (λ xs. mark.Declare parity ∷ spell_declaration e xs) (spell_declarations-append ds d (mark.Semicolon ∷ after))
 
-spell_before-append : (ds : List Declaration) (d : Declaration) (after : List Symbol) → spell_before (ds ++ d ∷ []) after ≡ spell_before ds (spell_declaration d (mark.Comma ∷ after))
+spell_before-append : (ds : List Declaration) (d : Declaration) (after : List Terminal) → spell_before (ds ++ d ∷ []) after ≡ spell_before ds (spell_declaration d (mark.Comma ∷ after))
 spell_before-append [] d after = refl
 spell_before-append (e ∷ ds) d after = ap (spell_declaration e) (spell_declarations-append ds d (mark.Comma ∷ after))
 
@@ -93,7 +93,7 @@ declare_all-none scope parity (e ∷ ds) d = refl
 
 -- statements with one more
 
-spell_done-append : (ss : List Statement) (s : Statement) (after : List Symbol) → spell_done (ss ++ s ∷ []) after ≡ spell_done ss (spell_statement s after)
+spell_done-append : (ss : List Statement) (s : Statement) (after : List Terminal) → spell_done (ss ++ s ∷ []) after ≡ spell_done ss (spell_statement s after)
 spell_done-append [] s after = refl
 spell_done-append (t ∷ ss) s after = ap (spell_statement t) (spell_done-append ss s after)
 
@@ -143,30 +143,30 @@ module _ (scope : Scope) where
   view_tail (weighed parity ds w n) = state.AfterWeight
   view_tail (claiming c held inner) = state.Side (view_side c (view scope held inner))
 
-  -- what is read is spelled by what was read and the symbol
-  abbrev pub Goes_on : List Statement → Tail → Symbol → List Claim × State → Type 0
-  Goes_on ss tail symbol s =
-      (ss' : List Statement) × (tail' : Tail) × ((claims_of scope ss', view_tail tail') ≡ s) × ((after : List Symbol) → spell_done ss' (spell_tail tail' after) ≡ spell_done ss (spell_tail tail (symbol ∷ after)))
+  -- what is read is spelled by what was read and the terminal
+  abbrev pub Goes_on : List Statement → Tail → Terminal → List Claim × State → Type 0
+  Goes_on ss tail terminal s =
+      (ss' : List Statement) × (tail' : Tail) × ((claims_of scope ss', view_tail tail') ≡ s) × ((after : List Terminal) → spell_done ss' (spell_tail tail' after) ≡ spell_done ss (spell_tail tail (terminal ∷ after)))
 
-  abbrev pub Takes_up : List Statement → Tail → Symbol → Answer → Type 0
-  Takes_up ss tail symbol None = Unit {0}
-  Takes_up ss tail symbol (Some s) = Goes_on ss tail symbol s
+  abbrev pub Takes_up : List Statement → Tail → Terminal → Answer → Type 0
+  Takes_up ss tail terminal None = Unit {0}
+  Takes_up ss tail terminal (Some s) = Goes_on ss tail terminal s
 
   -- a statement ends
-  ends : (ss : List Statement) (tail : Tail) (symbol : Symbol) (s : Statement) (claims : List Claim) → claims_of scope ss ++ claims_in scope s ≡ claims
-      → ((after : List Symbol) → spell_statement s after ≡ spell_tail tail (symbol ∷ after)) → Goes_on ss tail symbol (claims, state.Statement)
-  ends ss tail symbol s claims same spelled =
+  ends : (ss : List Statement) (tail : Tail) (terminal : Terminal) (s : Statement) (claims : List Claim) → claims_of scope ss ++ claims_in scope s ≡ claims
+      → ((after : List Terminal) → spell_statement s after ≡ spell_tail tail (terminal ∷ after)) → Goes_on ss tail terminal (claims, state.Statement)
+  ends ss tail terminal s claims same spelled =
       (ss ++ s ∷ [], between, ap (λ cs. (cs, state.Statement)) (claims_of-append ss s ∙ same), λ after. spell_done-append ss s after ∙ ap (spell_done ss) (spelled after))
 
   declares : (ss : List Statement) (tail : Tail) (parity : Parity) (ds : List Declaration) (d : Declaration)
-      → ((after : List Symbol) → mark.Declare parity ∷ spell_before ds (spell_declaration d (mark.Semicolon ∷ after)) ≡ spell_tail tail (mark.Semicolon ∷ after))
+      → ((after : List Terminal) → mark.Declare parity ∷ spell_before ds (spell_declaration d (mark.Semicolon ∷ after)) ≡ spell_tail tail (mark.Semicolon ∷ after))
       → Goes_on ss tail mark.Semicolon (claims_of scope ss, state.Statement)
   declares ss tail parity ds d spelled =
       ends ss tail mark.Semicolon (declare_all parity ds d) (claims_of scope ss) (ap (λ cs. claims_of scope ss ++ cs) (declare_all-none scope parity ds d) ∙ append-nil (claims_of scope ss))
       (λ after. declare_all-spelled parity ds d after ∙ spelled after)
 
   another : (ss : List Statement) (tail : Tail) (parity : Parity) (ds : List Declaration) (d : Declaration)
-      → ((after : List Symbol) → mark.Declare parity ∷ spell_before ds (spell_declaration d (mark.Comma ∷ after)) ≡ spell_tail tail (mark.Comma ∷ after))
+      → ((after : List Terminal) → mark.Declare parity ∷ spell_before ds (spell_declaration d (mark.Comma ∷ after)) ≡ spell_tail tail (mark.Comma ∷ after))
       → Goes_on ss tail mark.Comma (claims_of scope ss, state.Name)
   another ss tail parity ds d spelled =
       (ss, declaring parity (ds ++ d ∷ []), refl, λ after. ap (spell_done ss) (ap (λ xs. mark.Declare parity ∷ xs) (spell_before-append ds d after) ∙ spelled after))
@@ -203,19 +203,19 @@ module _ (scope : Scope) where
       (ss, claiming (asking_for place s) [] start, ap (λ e. (claims_of scope ss, side_from Equal place (Some e))) same, λ after. ap (λ xs. spell_done ss (mark.Claim Equal place ∷ xs)) (spelled (mark.Equals ∷ after)))
   takes_equals ss (asking_for place a) held inner (Some e) h = tt
 
-  takes_on : (ss : List Statement) (c : Claiming) (held : List Held) (inner : Inner) (symbol : Symbol) (answer : Option (Partial × Wait)) → Accepts scope held inner symbol answer
-      → Takes_up ss (claiming c held inner) symbol (continued (claims_of scope ss) (view_side c (view scope held inner)) answer)
-  takes_on ss c held inner symbol None h = tt
-  takes_on ss c held inner symbol (Some s) (held', inner', same, spelled) =
+  takes_on : (ss : List Statement) (c : Claiming) (held : List Held) (inner : Inner) (terminal : Terminal) (answer : Option (Partial × Wait)) → Accepts scope held inner terminal answer
+      → Takes_up ss (claiming c held inner) terminal (continued (claims_of scope ss) (view_side c (view scope held inner)) answer)
+  takes_on ss c held inner terminal None h = tt
+  takes_on ss c held inner terminal (Some s) (held', inner', same, spelled) =
       (ss, claiming c held' inner', ap (λ (s : Partial × Wait). (claims_of scope ss, state.Side (view_side c s))) same, λ after. ap (λ xs. spell_done ss (spell_claiming c xs)) (spelled after))
 
-  takes_side : (ss : List Statement) (c : Claiming) (held : List Held) (inner : Inner) (symbol : Symbol)
-      → Takes_up ss (claiming c held inner) symbol (step_side scope (claims_of scope ss) (view_side c (view scope held inner)) symbol)
+  takes_side : (ss : List Statement) (c : Claiming) (held : List Held) (inner : Inner) (terminal : Terminal)
+      → Takes_up ss (claiming c held inner) terminal (step_side scope (claims_of scope ss) (view_side c (view scope held inner)) terminal)
   takes_side ss c held inner mark.Semicolon = takes_end ss c held inner _ (finishes scope held inner)
   takes_side ss c held inner mark.Equals = takes_equals ss c held inner _ (finishes scope held inner)
-  takes_side ss c held inner symbol = takes_on ss c held inner symbol _ (accepts scope held inner symbol)
+  takes_side ss c held inner terminal = takes_on ss c held inner terminal _ (accepts scope held inner terminal)
 
-  pub takes : (ss : List Statement) (tail : Tail) (symbol : Symbol) → Takes_up ss tail symbol (step_state scope (claims_of scope ss) (view_tail tail) symbol)
+  pub takes : (ss : List Statement) (tail : Tail) (terminal : Terminal) → Takes_up ss tail terminal (step_state scope (claims_of scope ss) (view_tail tail) terminal)
   takes ss between (mark.Field place) = (ss, in_field place, refl, λ after. refl)
   takes ss between (mark.Declare parity) = (ss, declaring parity [], refl, λ after. refl)
   takes ss between (mark.Claim Relation place) = (ss, claiming (relating place) [] start, refl, λ after. refl)
@@ -239,11 +239,11 @@ module _ (scope : Scope) where
   takes ss (weighed parity ds w n) mark.Comma = another ss (weighed parity ds w n) parity ds (weighted w n) (λ after. refl)
   takes ss (weighed parity ds w n) mark.Semicolon = declares ss (weighed parity ds w n) parity ds (weighted w n) (λ after. refl)
   takes ss (weighed parity ds w n) _ = tt
-  takes ss (claiming c held inner) symbol = takes_side ss c held inner symbol
+  takes ss (claiming c held inner) terminal = takes_side ss c held inner terminal
 
 -- how a sentence may be completed
 
-complete_claim : (c : Claiming) (held : List Held) (inner : Inner) → (s : Statement) × (more : List Symbol) × (spell_statement s [] ≡ spell_claiming c (spell_held held (spell_inner inner more)))
+complete_claim : (c : Claiming) (held : List Held) (inner : Inner) → (s : Statement) × (more : List Terminal) × (spell_statement s [] ≡ spell_claiming c (spell_held held (spell_inner inner more)))
 complete_claim (relating place) held inner =
     let r = complete held inner in (relation place r.0, r.1 ++ mark.Semicolon ∷ [], ap (λ xs. mark.Claim Relation place ∷ xs) (r.2 (mark.Semicolon ∷ [])))
 complete_claim (relating_to place a) held inner =
@@ -252,20 +252,20 @@ complete_claim (member place) held inner =
     let r = complete held inner in (ideal place r.0, r.1 ++ mark.Semicolon ∷ [], ap (λ xs. mark.Claim Ideal place ∷ xs) (r.2 (mark.Semicolon ∷ [])))
 complete_claim (asking place) held inner =
     let r = complete held inner in
-    (equal place r.0 nought_sum, r.1 ++ mark.Equals ∷ nought_symbol ∷ mark.Semicolon ∷ [], ap (λ xs. mark.Claim Equal place ∷ xs) (r.2 (mark.Equals ∷ nought_symbol ∷ mark.Semicolon ∷ [])))
+    (equal place r.0 nought_sum, r.1 ++ mark.Equals ∷ nought_terminal ∷ mark.Semicolon ∷ [], ap (λ xs. mark.Claim Equal place ∷ xs) (r.2 (mark.Equals ∷ nought_terminal ∷ mark.Semicolon ∷ [])))
 complete_claim (asking_for place a) held inner =
     let r = complete held inner in (equal place a r.0, r.1 ++ mark.Semicolon ∷ [], ap (λ xs. mark.Claim Equal place ∷ spell_sum a (mark.Equals ∷ xs)) (r.2 (mark.Semicolon ∷ [])))
 
 unfoldable some_word : Word
 some_word = record { start = 0; end = 0; rationals = false }
 
-pub complete_tail : (tail : Tail) → (ss : List Statement) × (more : List Symbol) × (spell_done ss [] ≡ spell_tail tail more)
+pub complete_tail : (tail : Tail) → (ss : List Statement) × (more : List Terminal) × (spell_done ss [] ≡ spell_tail tail more)
 complete_tail between = ([], [], refl)
-complete_tail (in_field place) = (field place (prime (record { place = 0; value = 0 })) ∷ [], nought_symbol ∷ mark.Semicolon ∷ [], refl)
+complete_tail (in_field place) = (field place (prime (record { place = 0; value = 0 })) ∷ [], nought_terminal ∷ mark.Semicolon ∷ [], refl)
 complete_tail (field_named place naming) = (field place naming ∷ [], mark.Semicolon ∷ [], refl)
 complete_tail (declaring parity ds) = (declare_all parity ds (plainly some_word) ∷ [], mark.Name some_word ∷ mark.Semicolon ∷ [], declare_all-spelled parity ds (plainly some_word) [])
 complete_tail (declared parity ds w) = (declare_all parity ds (plainly w) ∷ [], mark.Semicolon ∷ [], declare_all-spelled parity ds (plainly w) [])
 complete_tail (weighing parity ds w) =
-    (declare_all parity ds (weighted w (record { place = 0; value = 0 })) ∷ [], nought_symbol ∷ mark.Semicolon ∷ [], declare_all-spelled parity ds (weighted w (record { place = 0; value = 0 })) [])
+    (declare_all parity ds (weighted w (record { place = 0; value = 0 })) ∷ [], nought_terminal ∷ mark.Semicolon ∷ [], declare_all-spelled parity ds (weighted w (record { place = 0; value = 0 })) [])
 complete_tail (weighed parity ds w n) = (declare_all parity ds (weighted w n) ∷ [], mark.Semicolon ∷ [], declare_all-spelled parity ds (weighted w n) [])
 complete_tail (claiming c held inner) = let r = complete_claim c held inner in (r.0 ∷ [], r.1, r.2)

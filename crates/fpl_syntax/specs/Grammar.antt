@@ -1,41 +1,38 @@
--- The grammar: the parse trees of sentences, the symbols that spell them, and what they claim.
+-- The grammar: the parse trees of sentences, the terminals that spell them, and what they claim.
 --
 --   Sum, Terms, Term, Factor   expressions: a sum is a first term and further ones, each with a sign; the sign of a first term may be left out
 --   Naming           the field of a field statement: the word Q, or a number
 --   Declaration      a name, with its weight where one is given
 --   Statement        the statements; a sentence is a list of them
 --   spell_sum s after, spell_statement s after, spelling ss
---                    the symbols of a sum, or of a statement, and those after it; the symbols of a sentence
---   IsSentence       these symbols are a sentence
---   Begins           these symbols begin some sentence
---   IsFaultAt        the symbols before the k-th, counted from 1, begin some sentence, and with the k-th they begin none; the end counts as a last symbol
+--                    the terminals of a sum, or of a statement, and those after it; the terminals of a sentence
+--   IsSentence       these terminals are a sentence
+--   Begins           these terminals begin some sentence
+--   IsFaultAt        the terminals before the k-th, counted from 1, begin some sentence, and with the k-th they begin none; the end counts as a last terminal
 --   Scope            how names and numbers are understood
 --   coefficient_of   the canonical number of a quotient, or of its negative; 0 where there is none
 --   term_of          a term: its factor, or a multiple of it
 --   total            of one term that term; of more terms their sum
 --   expression_of    the expression of a sum
 --   claims_of        the claims of the relations, ideal elements and queries of a sentence, in order
---   Says             these symbols are a sentence with these claims
---   IsFaultOf        an error of `parse` is the fault of these symbols, unless it is want of memory
+--   Says             these terminals are a sentence with these claims
 use Rattle.std.specs.Prelude.{ℕ, ◌≡◌, ◌+◌, ℤ, pos, neg_ℤ, nat_le, ◌&&◌, if◌then◌else◌, Option, None, Some, List, [], ◌∷◌, ◌++◌, length, Bool, true, false}
 use Rattle.fpl_numbers.specs.declared.number.Num.{Num}
 use Rattle.fpl_numbers.specs.declared.number.Kind.{Kind}
-use Rattle.fpl_numbers.specs.Numbers.{residue, bound}
+use Rattle.fpl_numbers.specs.Numbers.{residue, most_number}
 use Rattle.fpl_numbers.specs.Quotients.{quotient_of}
 use Rattle.fpl_model.specs.declared.expr.Expr.{Expr}
 use Rattle.fpl_model.specs.declared.expr.Expr as expr
 use Rattle.fpl_model.specs.declared.presentation.Parity.{Parity}
-use Rattle.fpl_syntax.specs.declared.symbol.Symbol.{Symbol}
-use Rattle.fpl_syntax.specs.declared.symbol.Symbol.TheVariants as mark
-use Rattle.fpl_syntax.specs.declared.symbol.Word.{Word}
-use Rattle.fpl_syntax.specs.declared.symbol.Numeral.{Numeral}
-use Rattle.fpl_syntax.specs.declared.symbol.ClaimKind.{ClaimKind}
-use Rattle.fpl_syntax.specs.declared.symbol.ClaimKind.TheVariants as claim
+use Rattle.fpl_syntax.specs.declared.terminal.Terminal.{Terminal}
+use Rattle.fpl_syntax.specs.declared.terminal.Terminal.TheVariants as mark
+use Rattle.fpl_syntax.specs.declared.terminal.Word.{Word}
+use Rattle.fpl_syntax.specs.declared.terminal.Numeral.{Numeral}
+use Rattle.fpl_syntax.specs.declared.terminal.ClaimKind.{ClaimKind}
+use Rattle.fpl_syntax.specs.declared.terminal.ClaimKind.TheVariants as claim
 use Rattle.fpl_syntax.specs.declared.expression.Scale.{Scale}
 use Rattle.fpl_syntax.specs.declared.expression.Scale.TheVariants.{One, Whole, Quotient}
 use Rattle.fpl_syntax.specs.declared.parser.Claim.{Claim}
-use Rattle.fpl_syntax.specs.declared.parser.ParseError.{ParseError}
-use Rattle.fpl_syntax.specs.declared.parser.ParseError.TheVariants.{Syntax, NoMemory}
 
 mutual
   -- whether a + is written before a first term that has no -
@@ -72,75 +69,75 @@ pub data Statement : Type 0 where
   ideal : ℕ → Sum → Statement
   equal : ℕ → Sum → Sum → Statement
 
--- the symbols
+-- the terminals
 
-abbrev pub spell_scale : Scale → List Symbol → List Symbol
+abbrev pub spell_scale : Scale → List Terminal → List Terminal
 spell_scale One after = after
 spell_scale (Whole n) after = mark.Number n ∷ mark.Star ∷ after
 spell_scale (Quotient n d) after = mark.Number n ∷ mark.Slash ∷ mark.Number d ∷ mark.Star ∷ after
 
-abbrev pub sign_of : Bool → Symbol
+abbrev pub sign_of : Bool → Terminal
 sign_of true = mark.Minus
 sign_of false = mark.Plus
 
-abbrev pub spell_lead : Bool → Bool → List Symbol → List Symbol
+abbrev pub spell_lead : Bool → Bool → List Terminal → List Terminal
 spell_lead plus true after = mark.Minus ∷ after
 spell_lead true false after = mark.Plus ∷ after
 spell_lead false false after = after
 
 abbrev mutual
-  pub spell_sum : Sum → List Symbol → List Symbol
+  pub spell_sum : Sum → List Terminal → List Terminal
   spell_sum (sum plus (term negative scale f) ts) after = spell_lead plus negative (spell_scale scale (spell_factor f (spell_terms ts after)))
 
-  pub spell_terms : Terms → List Symbol → List Symbol
+  pub spell_terms : Terms → List Terminal → List Terminal
   spell_terms end after = after
   spell_terms (further (term negative scale f) ts) after = sign_of negative ∷ spell_scale scale (spell_factor f (spell_terms ts after))
 
-  pub spell_factor : Factor → List Symbol → List Symbol
+  pub spell_factor : Factor → List Terminal → List Terminal
   spell_factor (name w) after = mark.Name w ∷ after
   spell_factor (zero place) after = mark.Number (record { place = place; value = 0 }) ∷ after
   spell_factor (bracket a b) after = mark.OpenBracket ∷ spell_sum a (mark.Comma ∷ spell_sum b (mark.CloseBracket ∷ after))
   spell_factor (group a) after = mark.OpenGroup ∷ spell_sum a (mark.CloseGroup ∷ after)
 
-abbrev pub naming_symbol : Naming → Symbol
-naming_symbol (rationals start stop) = mark.Name (record { start = start; end = stop; rationals = true })
-naming_symbol (prime n) = mark.Number n
+abbrev pub naming_terminal : Naming → Terminal
+naming_terminal (rationals start stop) = mark.Name (record { start = start; end = stop; rationals = true })
+naming_terminal (prime n) = mark.Number n
 
-abbrev pub spell_declaration : Declaration → List Symbol → List Symbol
+abbrev pub spell_declaration : Declaration → List Terminal → List Terminal
 spell_declaration (plainly w) after = mark.Name w ∷ after
 spell_declaration (weighted w n) after = mark.Name w ∷ mark.Colon ∷ mark.Number n ∷ after
 
-abbrev pub spell_declarations : List Declaration → List Symbol → List Symbol
+abbrev pub spell_declarations : List Declaration → List Terminal → List Terminal
 spell_declarations [] after = after
 spell_declarations (d ∷ ds) after = mark.Comma ∷ spell_declaration d (spell_declarations ds after)
 
-abbrev pub spell_statement : Statement → List Symbol → List Symbol
-spell_statement (field place naming) after = mark.Field place ∷ naming_symbol naming ∷ mark.Semicolon ∷ after
+abbrev pub spell_statement : Statement → List Terminal → List Terminal
+spell_statement (field place naming) after = mark.Field place ∷ naming_terminal naming ∷ mark.Semicolon ∷ after
 spell_statement (declare parity d ds) after = mark.Declare parity ∷ spell_declaration d (spell_declarations ds (mark.Semicolon ∷ after))
 spell_statement (relation place a) after = mark.Claim claim.Relation place ∷ spell_sum a (mark.Semicolon ∷ after)
 spell_statement (equation place a b) after = mark.Claim claim.Relation place ∷ spell_sum a (mark.Equals ∷ spell_sum b (mark.Semicolon ∷ after))
 spell_statement (ideal place a) after = mark.Claim claim.Ideal place ∷ spell_sum a (mark.Semicolon ∷ after)
 spell_statement (equal place a b) after = mark.Claim claim.Equal place ∷ spell_sum a (mark.Equals ∷ spell_sum b (mark.Semicolon ∷ after))
 
-abbrev pub spelling : List Statement → List Symbol
+abbrev pub spelling : List Statement → List Terminal
 spelling [] = []
 spelling (s ∷ ss) = spell_statement s (spelling ss)
 
-abbrev pub IsSentence : List Symbol → Type 0
-IsSentence symbols = (ss : List Statement) × (spelling ss ≡ symbols)
+abbrev pub IsSentence : List Terminal → Type 0
+IsSentence terminals = (ss : List Statement) × (spelling ss ≡ terminals)
 
-abbrev pub Begins : List Symbol → Type 0
-Begins front = (ss : List Statement) × (more : List Symbol) × (spelling ss ≡ front ++ more)
+abbrev pub Begins : List Terminal → Type 0
+Begins front = (ss : List Statement) × (more : List Terminal) × (spelling ss ≡ front ++ more)
 
--- with what comes first after them, these symbols begin no sentence
-abbrev pub GoesWrong : List Symbol → List Symbol → Type 0
+-- with what comes first after them, these terminals begin no sentence
+abbrev pub GoesWrong : List Terminal → List Terminal → Type 0
 GoesWrong front [] = IsSentence front → ⊥
-GoesWrong front (symbol ∷ after) = Begins (front ++ symbol ∷ []) → ⊥
+GoesWrong front (terminal ∷ after) = Begins (front ++ terminal ∷ []) → ⊥
 
-pub record IsFaultAt (k : ℕ) (symbols : List Symbol) : Type 0 where
-  pub front : List Symbol
-  pub after : List Symbol
-  pub whole : symbols ≡ front ++ after
+pub record IsFaultAt (k : ℕ) (terminals : List Terminal) : Type 0 where
+  pub front : List Terminal
+  pub after : List Terminal
+  pub whole : terminals ≡ front ++ after
   pub number : k ≡ length front + 1
   pub begun : Begins front
   pub wrong : GoesWrong front after
@@ -162,7 +159,7 @@ or_nought (Some c) = c
 
 -- no text writes a number past the bound
 unfoldable pub coefficient_of : Kind → Bool → ℕ → ℕ → Num
-coefficient_of kind negative a b = if nat_le a bound && nat_le b bound then or_nought (quotient_of kind (signed negative a) (pos b)) else residue 0
+coefficient_of kind negative a b = if nat_le a most_number && nat_le b most_number then or_nought (quotient_of kind (signed negative a) (pos b)) else residue 0
 
 abbrev pub term_of : Scope → Bool → Scale → Expr → Expr
 term_of scope false One e = e
@@ -208,11 +205,7 @@ claims_of scope (s ∷ ss) = claims_in scope s ++ claims_of scope ss
 
 -- what a parse answers
 
-pub record Says (scope : Scope) (symbols : List Symbol) (claims : List Claim) : Type 0 where
+pub record Says (scope : Scope) (terminals : List Terminal) (claims : List Claim) : Type 0 where
   pub sentence : List Statement
-  pub spelled : spelling sentence ≡ symbols
+  pub spelled : spelling sentence ≡ terminals
   pub claimed : claims ≡ claims_of scope sentence
-
-abbrev pub IsFaultOf : ParseError → List Symbol → Type 0
-IsFaultOf (Syntax k) symbols = IsFaultAt k symbols
-IsFaultOf NoMemory symbols = Unit {0}

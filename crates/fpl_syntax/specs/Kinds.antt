@@ -1,15 +1,10 @@
 -- Tests of kinds.
 --
---   is_listed p     whether p is an accepted prime
 --   is_field kind   whether the kind has a field
-use Rattle.std.specs.Prelude.{ℕ, Bool, true, ◌==◌}
-use Rattle.std.specs.List.{list_any}
-use Rattle.fpl_numbers.specs.declared.number.TheConstants.{PRIMES}
+use Rattle.std.specs.Prelude.{Bool, true}
 use Rattle.fpl_numbers.specs.declared.number.Kind.{Kind}
 use Rattle.fpl_numbers.specs.declared.number.Kind.TheVariants.{Rational, Prime}
-
-abbrev pub is_listed : ℕ → Bool
-is_listed p = list_any (λ q. p == q) PRIMES
+use Rattle.fpl_numbers.specs.Numbers.{is_listed}
 
 abbrev pub is_field : Kind → Bool
 is_field Rational = true

@@ -1,5 +1,5 @@
 ghost use Rattle.std.specs.Prelude.{◌≡◌, ◌≤◌, pos, true, IfOk, IsTrue};
-ghost use Rattle.fpl_numbers.specs.Numbers.{bound};
+ghost use Rattle.fpl_numbers.specs.Numbers.{most_number};
 ghost use Rattle.fpl_numbers.specs.Quotients.{quotient_of};
 ghost use Rattle.fpl_syntax.specs.Grammar.{coefficient_of, signed, or_nought};
 ghost use Rattle.fpl_syntax.specs.Kinds.{is_field};
@@ -18,7 +18,7 @@ const NOUGHT: Num = Num {
 };
 
 fn signed(negative: bool, a: u128) -> i128
-    requires { a ≤ bound }
+    requires { a ≤ most_number }
     ensures { result ≡ signed negative a }
 {
     let a = a as i128;
@@ -28,8 +28,8 @@ fn signed(negative: bool, a: u128) -> i128
 #[tactic(auto, using(crate::proofs::Coefficients::known_field, crate::proofs::Coefficients::signed_small))]
 fn quotient_or_nought(kind: Kind, negative: bool, a: u128, b: u128) -> Num
     requires field { IsTrue (is_field kind) }
-    requires above { a ≤ bound }
-    requires below { b ≤ bound }
+    requires above { a ≤ most_number }
+    requires below { b ≤ most_number }
     ensures { result ≡ or_nought (quotient_of kind (signed negative a) (pos b)) }
 {
     match quotient(kind, signed(negative, a), b as i128) {

@@ -5,7 +5,7 @@ ghost use Rattle.fpl_syntax.specs.Machine.{Moves, Takes, fresh, summed, settled,
 
 use crate::coefficient::coefficient;
 use crate::naming::number_of;
-use crate::{Numeral, Scope, Symbol};
+use crate::{Numeral, Scope, Terminal};
 use fpl_model::{Expr, Members, Scalar};
 use sqlite_items::{Boxed, Items};
 use std::alloc::{AllocError, Global};
@@ -152,27 +152,27 @@ fn begin_factor(
     scope: &Scope,
     partial: &mut Partial,
     scale: Scale,
-    symbol: Symbol,
+    terminal: Terminal,
 ) -> Result<Option<Wait>, AllocError>
-    ensures { IfOk result (λ next. Moves partial.new next (begin_factor (sight scope.now) partial.old scale symbol)) }
+    ensures { IfOk result (λ next. Moves partial.new next (begin_factor (sight scope.now) partial.old scale terminal)) }
 {
-    match symbol {
-        Symbol::Name(word) => settle(
+    match terminal {
+        Terminal::Name(word) => settle(
             alloc,
             scope,
             partial,
             scale,
             Expr::Gen(number_of(scope, word)),
         ),
-        Symbol::Number(n) => {
+        Terminal::Number(n) => {
             if n.value == 0 {
                 settle(alloc, scope, partial, scale, Expr::Zero)
             } else {
                 Ok(None)
             }
         }
-        Symbol::OpenBracket => open(alloc, partial, Opener::Left, scale),
-        Symbol::OpenGroup => open(alloc, partial, Opener::Group, scale),
+        Terminal::OpenBracket => open(alloc, partial, Opener::Left, scale),
+        Terminal::OpenGroup => open(alloc, partial, Opener::Group, scale),
         _ => Ok(None),
     }
 }
@@ -181,13 +181,13 @@ fn begin_term(
     alloc: Global,
     scope: &Scope,
     partial: &mut Partial,
-    symbol: Symbol,
+    terminal: Terminal,
 ) -> Result<Option<Wait>, AllocError>
-    ensures { IfOk result (λ next. Moves partial.new next (begin_term (sight scope.now) partial.old symbol)) }
+    ensures { IfOk result (λ next. Moves partial.new next (begin_term (sight scope.now) partial.old terminal)) }
 {
-    match symbol {
-        Symbol::Number(n) => Ok(Some(Wait::AfterNumber(n))),
-        _ => begin_factor(alloc, scope, partial, Scale::One, symbol),
+    match terminal {
+        Terminal::Number(n) => Ok(Some(Wait::AfterNumber(n))),
+        _ => begin_factor(alloc, scope, partial, Scale::One, terminal),
     }
 }
 
@@ -203,14 +203,14 @@ fn begin_sum(
     alloc: Global,
     scope: &Scope,
     partial: &mut Partial,
-    symbol: Symbol,
+    terminal: Terminal,
 ) -> Result<Option<Wait>, AllocError>
-    ensures { IfOk result (λ next. Moves partial.new next (begin_sum (sight scope.now) partial.old symbol)) }
+    ensures { IfOk result (λ next. Moves partial.new next (begin_sum (sight scope.now) partial.old terminal)) }
 {
-    match symbol {
-        Symbol::Plus => Ok(sign(partial, false)),
-        Symbol::Minus => Ok(sign(partial, true)),
-        _ => begin_term(alloc, scope, partial, symbol),
+    match terminal {
+        Terminal::Plus => Ok(sign(partial, false)),
+        Terminal::Minus => Ok(sign(partial, true)),
+        _ => begin_term(alloc, scope, partial, terminal),
     }
 }
 
@@ -254,17 +254,17 @@ fn take_frame(partial: &mut Partial) -> Option<Frame>
     partial.enclosing.pop()
 }
 
-// A symbol after the last term in a factor that is being read.
+// A terminal after the last term in a factor that is being read.
 fn leave(
     alloc: Global,
     scope: &Scope,
     partial: &mut Partial,
     frame: Frame,
     e: Expr,
-    symbol: Symbol,
+    terminal: Terminal,
 ) -> Result<Option<Wait>, AllocError>
     requires { partial.old.terms ≡ [] }
-    ensures { IfOk result (λ next. Moves partial.new next (enclosed (sight scope.now) symbol partial.old.enclosing frame e frame.opener)) }
+    ensures { IfOk result (λ next. Moves partial.new next (enclosed (sight scope.now) terminal partial.old.enclosing frame e frame.opener)) }
 {
     let Frame {
         opener,
@@ -272,8 +272,8 @@ fn leave(
         negative,
         scale,
     } = frame;
-    match (opener, symbol) {
-        (Opener::Left, Symbol::Comma) => {
+    match (opener, terminal) {
+        (Opener::Left, Terminal::Comma) => {
             partial.negative = false;
             partial.enclosing.push(Frame {
                 opener: Opener::Right(e),
@@ -283,11 +283,11 @@ fn leave(
             })?;
             Ok(Some(Wait::Sum))
         }
-        (Opener::Right(a), Symbol::CloseBracket) => {
+        (Opener::Right(a), Terminal::CloseBracket) => {
             let bracket = Expr::Br(Boxed::new(alloc, a)?, Boxed::new(alloc, e)?);
             resume(alloc, scope, partial, terms, negative, scale, bracket)
         }
-        (Opener::Group, Symbol::CloseGroup) => {
+        (Opener::Group, Terminal::CloseGroup) => {
             resume(alloc, scope, partial, terms, negative, scale, e)
         }
         _ => Ok(None),
@@ -299,17 +299,17 @@ fn after_term(
     scope: &Scope,
     partial: &mut Partial,
     t: Expr,
-    symbol: Symbol,
+    terminal: Terminal,
 ) -> Result<Option<Wait>, AllocError>
-    ensures { IfOk result (λ next. Moves partial.new next (after_term (sight scope.now) partial.old t symbol)) }
+    ensures { IfOk result (λ next. Moves partial.new next (after_term (sight scope.now) partial.old t terminal)) }
 {
-    match symbol {
-        Symbol::Plus => go_on(partial, t, false),
-        Symbol::Minus => go_on(partial, t, true),
+    match terminal {
+        Terminal::Plus => go_on(partial, t, false),
+        Terminal::Minus => go_on(partial, t, true),
         _ => {
             let e = take_sum(alloc, partial, t)?;
             match take_frame(partial) {
-                Some(frame) => leave(alloc, scope, partial, frame, e, symbol),
+                Some(frame) => leave(alloc, scope, partial, frame, e, terminal),
                 None => Ok(None),
             }
         }
@@ -321,47 +321,47 @@ fn after_number(
     scope: &Scope,
     partial: &mut Partial,
     n: Numeral,
-    symbol: Symbol,
+    terminal: Terminal,
 ) -> Result<Option<Wait>, AllocError>
-    ensures { IfOk result (λ next. Moves partial.new next (after_number (sight scope.now) partial.old n symbol)) }
+    ensures { IfOk result (λ next. Moves partial.new next (after_number (sight scope.now) partial.old n terminal)) }
 {
-    match symbol {
-        Symbol::Star => Ok(Some(Wait::Factor(Scale::Whole(n)))),
-        Symbol::Slash => Ok(Some(Wait::Denominator(n))),
+    match terminal {
+        Terminal::Star => Ok(Some(Wait::Factor(Scale::Whole(n)))),
+        Terminal::Slash => Ok(Some(Wait::Denominator(n))),
         _ => {
             if n.value != 0 {
                 return Ok(None);
             }
             let t = term(alloc, scope, partial.negative, Scale::One, Expr::Zero)?;
-            after_term(alloc, scope, partial, t, symbol)
+            after_term(alloc, scope, partial, t, terminal)
         }
     }
 }
 
-/// What an expression waits for after a symbol, or `None` where the symbol does not fit; then it is of no more use.
+/// What an expression waits for after a terminal, or `None` where the terminal does not fit; then it is of no more use.
 pub fn step(
     alloc: Global,
     scope: &Scope,
     partial: &mut Partial,
     wait: Wait,
-    symbol: Symbol,
+    terminal: Terminal,
 ) -> Result<Option<Wait>, AllocError>
-    ensures { IfOk result (λ next. Moves partial.new next (step_wait (sight scope.now) partial.old wait symbol)) }
+    ensures { IfOk result (λ next. Moves partial.new next (step_wait (sight scope.now) partial.old wait terminal)) }
 {
     match wait {
-        Wait::Sum => begin_sum(alloc, scope, partial, symbol),
-        Wait::Term => begin_term(alloc, scope, partial, symbol),
-        Wait::AfterNumber(n) => after_number(alloc, scope, partial, n, symbol),
-        Wait::Denominator(n) => match symbol {
-            Symbol::Number(d) => Ok(Some(Wait::AfterDenominator(n, d))),
+        Wait::Sum => begin_sum(alloc, scope, partial, terminal),
+        Wait::Term => begin_term(alloc, scope, partial, terminal),
+        Wait::AfterNumber(n) => after_number(alloc, scope, partial, n, terminal),
+        Wait::Denominator(n) => match terminal {
+            Terminal::Number(d) => Ok(Some(Wait::AfterDenominator(n, d))),
             _ => Ok(None),
         },
-        Wait::AfterDenominator(n, d) => match symbol {
-            Symbol::Star => Ok(Some(Wait::Factor(Scale::Quotient(n, d)))),
+        Wait::AfterDenominator(n, d) => match terminal {
+            Terminal::Star => Ok(Some(Wait::Factor(Scale::Quotient(n, d)))),
             _ => Ok(None),
         },
-        Wait::Factor(scale) => begin_factor(alloc, scope, partial, scale, symbol),
-        Wait::AfterTerm(t) => after_term(alloc, scope, partial, t, symbol),
+        Wait::Factor(scale) => begin_factor(alloc, scope, partial, scale, terminal),
+        Wait::AfterTerm(t) => after_term(alloc, scope, partial, t, terminal),
     }
 }
 

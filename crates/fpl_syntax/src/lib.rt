@@ -1,4 +1,4 @@
-//! The grammar of the input language: sentences of symbols, and what they claim.
+//! The grammar of the input language: sentences of terminals, and what they claim.
 #![tactic(auto)]
 
 mod coefficient;
@@ -6,10 +6,10 @@ mod expression;
 mod naming;
 mod parser;
 mod scope;
-mod symbol;
+mod terminal;
 
 pub use coefficient::minus_one;
 pub use naming::number_of;
-pub use parser::{Claim, ParseError, State, one_outcome, parse, step_state};
+pub use parser::{Claim, State, one_outcome, step_state};
 pub use scope::Scope;
-pub use symbol::{ClaimKind, Numeral, Symbol, Word};
+pub use terminal::{ClaimKind, Numeral, Terminal, Word};

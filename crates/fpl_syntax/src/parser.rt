@@ -1,25 +1,13 @@
-ghost use Rattle.std.specs.Prelude.{◌≡◌, ◌<◌, ◌^◌, ◌⊎◌, ℕ, List, length, Ok, IfOk, IfErr};
+ghost use Rattle.std.specs.Prelude.{◌≡◌, ◌⊎◌, ℕ, List, IfOk};
 ghost use Rattle.fpl_syntax.specs.Sight.{sight};
 ghost use Rattle.fpl_syntax.specs.Grammar.{Scope as Sense};
-ghost use Rattle.fpl_syntax.specs.Grammar.{Says, IsFaultAt, IsFaultOf, IsSentence};
-ghost use Rattle.fpl_syntax.specs.declared.parser.ParseError.TheVariants.{NoMemory};
-ghost use Rattle.fpl_syntax.specs.Machine.{side_from, step_outside, closed, finished, end_side, turn_side, step_side, step_state, parse_of, Goes, FailsBy};
+ghost use Rattle.fpl_syntax.specs.Grammar.{Says, IsFaultAt, IsSentence};
+ghost use Rattle.fpl_syntax.specs.Machine.{side_from, step_outside, closed, finished, end_side, turn_side, step_side, step_state, Goes};
 
 use crate::expression::{Partial, Wait, finish, step};
-use crate::{ClaimKind, Scope, Symbol};
+use crate::{ClaimKind, Scope, Terminal};
 use fpl_model::{Equation, Expr};
 use std::alloc::{AllocError, Global};
-use thiserror::Error;
-
-/// Why symbols are no sentence.
-#[derive(Clone, Copy, Debug, PartialEq, Eq, Error)]
-pub enum ParseError {
-    /// The symbols before this one, counted from 1, begin some sentence, and with it they begin none. The end counts as a last symbol.
-    #[error("syntax")]
-    Syntax(u64),
-    #[error("no memory")]
-    NoMemory,
-}
 
 /// What a relation, ideal or equal statement says, with the place of its first word. The right side is zero where it has none.
 #[derive(Drop)]
@@ -72,22 +60,24 @@ fn next_side(alloc: Global, kind: ClaimKind, place: usize, left: Option<Expr>) -
     })
 }
 
-// What comes after a symbol outside claims.
-fn step_outside(alloc: Global, state: State, symbol: Symbol) -> Option<State>
-    ensures { result ≡ step_outside state symbol }
+// What comes after a terminal outside claims.
+fn step_outside(alloc: Global, state: State, terminal: Terminal) -> Option<State>
+    ensures { result ≡ step_outside state terminal }
 {
-    match (state, symbol) {
-        (State::Statement, Symbol::Field(_)) => Some(State::Field),
-        (State::Statement, Symbol::Declare(_)) => Some(State::Name),
-        (State::Statement, Symbol::Claim(kind, place)) => Some(next_side(alloc, kind, place, None)),
-        (State::Field, Symbol::Name(word)) if word.rationals => Some(State::FieldEnd),
-        (State::Field, Symbol::Number(_)) => Some(State::FieldEnd),
-        (State::FieldEnd, Symbol::Semicolon) => Some(State::Statement),
-        (State::Name, Symbol::Name(_)) => Some(State::AfterName),
-        (State::AfterName, Symbol::Colon) => Some(State::Weight),
-        (State::Weight, Symbol::Number(_)) => Some(State::AfterWeight),
-        (State::AfterName | State::AfterWeight, Symbol::Comma) => Some(State::Name),
-        (State::AfterName | State::AfterWeight, Symbol::Semicolon) => Some(State::Statement),
+    match (state, terminal) {
+        (State::Statement, Terminal::Field(_)) => Some(State::Field),
+        (State::Statement, Terminal::Declare(_)) => Some(State::Name),
+        (State::Statement, Terminal::Claim(kind, place)) => Some(next_side(
+            alloc, kind, place, None,
+        )),
+        (State::Field, Terminal::Name(word)) if word.rationals => Some(State::FieldEnd),
+        (State::Field, Terminal::Number(_)) => Some(State::FieldEnd),
+        (State::FieldEnd, Terminal::Semicolon) => Some(State::Statement),
+        (State::Name, Terminal::Name(_)) => Some(State::AfterName),
+        (State::AfterName, Terminal::Colon) => Some(State::Weight),
+        (State::Weight, Terminal::Number(_)) => Some(State::AfterWeight),
+        (State::AfterName | State::AfterWeight, Terminal::Comma) => Some(State::Name),
+        (State::AfterName | State::AfterWeight, Terminal::Semicolon) => Some(State::Statement),
         _ => None,
     }
 }
@@ -171,13 +161,13 @@ fn step_side(
     scope: &Scope,
     claims: &mut Vec<Claim>,
     side: Side,
-    symbol: Symbol,
+    terminal: Terminal,
 ) -> Result<Option<State>, AllocError>
-    ensures { IfOk result (λ next. Goes claims.new.items next (step_side (sight scope.now) claims.old.items side symbol)) }
+    ensures { IfOk result (λ next. Goes claims.new.items next (step_side (sight scope.now) claims.old.items side terminal)) }
 {
-    match symbol {
-        Symbol::Semicolon => end_side(alloc, scope, claims, side),
-        Symbol::Equals => turn_side(alloc, scope, claims, side),
+    match terminal {
+        Terminal::Semicolon => end_side(alloc, scope, claims, side),
+        Terminal::Equals => turn_side(alloc, scope, claims, side),
         _ => {
             let Side {
                 kind: claim,
@@ -186,7 +176,7 @@ fn step_side(
                 mut partial,
                 wait,
             } = side;
-            match step(alloc, scope, &mut partial, wait, symbol)? {
+            match step(alloc, scope, &mut partial, wait, terminal)? {
                 Some(wait) => Ok(Some(State::Side(Side {
                     kind: claim,
                     place,
@@ -200,55 +190,26 @@ fn step_side(
     }
 }
 
-/// What a sentence waits for after a symbol, or `None` where the symbol does not fit; then the claims are of no more use.
+/// What a sentence waits for after a terminal, or `None` where the terminal does not fit; then the claims are of no more use.
 pub fn step_state(
     alloc: Global,
     scope: &Scope,
     claims: &mut Vec<Claim>,
     state: State,
-    symbol: Symbol,
+    terminal: Terminal,
 ) -> Result<Option<State>, AllocError>
-    ensures { IfOk result (λ next. Goes claims.new.items next (step_state (sight scope.now) claims.old.items state symbol)) }
+    ensures { IfOk result (λ next. Goes claims.new.items next (step_state (sight scope.now) claims.old.items state terminal)) }
 {
     match state {
-        State::Side(side) => step_side(alloc, scope, claims, side, symbol),
-        _ => Ok(step_outside(alloc, state, symbol)),
+        State::Side(side) => step_side(alloc, scope, claims, side, terminal),
+        _ => Ok(step_outside(alloc, state, terminal)),
     }
 }
 
-fn parse_symbols(alloc: Global, scope: &Scope, symbols: &[Symbol]) -> Result<Vec<Claim>, ParseError>
-    requires { length symbols.now < 2 ^ 32 }
-    ensures claims { IfOk result (λ claims. parse_of (sight scope.now) symbols.now ≡ Ok claims.items) }
-    ensures fault { IfErr result (λ e. FailsBy e (parse_of (sight scope.now) symbols.now)) }
-{
-    let mut claims = Vec::new(alloc);
-    let mut state = State::Statement;
-    for (at, symbol) in symbols.iter().enumerate() {
-        match step_state(alloc, scope, &mut claims, state, *symbol) {
-            Ok(Some(next)) => state = next,
-            Ok(None) => return Err(ParseError::Syntax(at as u64 + 1)),
-            Err(_) => return Err(ParseError::NoMemory),
-        }
-    }
-    match state {
-        State::Statement => Ok(claims),
-        _ => Err(ParseError::Syntax(symbols.len() as u64 + 1)),
-    }
-}
-
-/// The claims of a sentence in their order, or the number of the symbol with which the symbols begin no sentence.
-pub fn parse(alloc: Global, scope: &Scope, symbols: &[Symbol]) -> Result<Vec<Claim>, ParseError>
-    requires few { length symbols.now < 2 ^ 32 }
-    ensures claims { IfOk result (λ claims. Says (sight scope.now) symbols.now claims.items) }
-    ensures fault { IfErr result (λ e. IsFaultOf e symbols.now) }
-{
-    parse_symbols(alloc, scope, symbols)
-}
-
-/// Symbols are a sentence with one list of claims, or have one fault.
+/// Terminals are a sentence with one list of claims, or have one fault.
 pub fn one_outcome()
-    ensures claims { (scope : Sense) (symbols : List Symbol) (a b : List Claim) → Says scope symbols a → Says scope symbols b → a ≡ b }
-    ensures fault { (symbols : List Symbol) (j k : ℕ) → IsFaultAt j symbols → IsFaultAt k symbols → j ≡ k }
-    ensures apart { (symbols : List Symbol) (k : ℕ) → IsFaultAt k symbols → IsSentence symbols → ⊥ }
-    ensures some { (symbols : List Symbol) → IsSentence symbols ⊎ (k : ℕ) × IsFaultAt k symbols }
+    ensures claims { (scope : Sense) (terminals : List Terminal) (a b : List Claim) → Says scope terminals a → Says scope terminals b → a ≡ b }
+    ensures fault { (terminals : List Terminal) (j k : ℕ) → IsFaultAt j terminals → IsFaultAt k terminals → j ≡ k }
+    ensures apart { (terminals : List Terminal) (k : ℕ) → IsFaultAt k terminals → IsSentence terminals → ⊥ }
+    ensures some { (terminals : List Terminal) → IsSentence terminals ⊎ (k : ℕ) × IsFaultAt k terminals }
 {}

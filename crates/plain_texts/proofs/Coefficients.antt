@@ -10,13 +10,13 @@ use native.Mathlib.Nat.{div-one, mod-mod}
 use Rattle.fpl_numbers.specs.declared.number.Num.{Num}
 use Rattle.fpl_numbers.specs.declared.number.Kind.{Kind}
 use Rattle.fpl_numbers.specs.declared.number.Kind.TheVariants.{Rational, Prime}
-use Rattle.fpl_numbers.specs.declared.number.TheConstants.{PRIMES}
-use Rattle.fpl_numbers.specs.Numbers.{IsListed, IsField, IsElement, residue, residue_of, bound, gcd, divided, reduced, is_nought, inverse_below}
+use Rattle.math_fields.specs.Gcd.{gcd}
+use Rattle.fpl_numbers.specs.Numbers.{IsListed, IsField, IsElement, residue, residue_of, most_number, divided, reduced, is_nought, inverse_below, accepted_primes}
 use Rattle.fpl_numbers.specs.Quotients.{quotient_of, whole}
-use Rattle.fpl_numbers.proofs.Gcd.{gcd_is}
+use Rattle.math_fields.proofs.Gcd.{gcd_is}
 use Rattle.fpl_numbers.proofs.Integers.{abs_of_positive, positive_is}
 use Rattle.fpl_numbers.proofs.KindReads.{listed_prime}
-use Rattle.fpl_lex.specs.Cut.{W}
+use Rattle.fpl_lex.specs.Cut.{most_value}
 use Rattle.fpl_syntax.specs.Grammar.{signed, or_nought, coefficient_of}
 use Rattle.fpl_spelling.specs.Spelling.{is_negative, is_below_nought}
 
@@ -24,9 +24,9 @@ signed_back : (n : ℤ) → signed (is_negative n) (unsigned_abs n) ≡ n
 signed_back (pos n) = refl
 signed_back (negsuc n) = refl
 
-within : (kind : Kind) (negative : Bool) (a b : ℕ) (c : Num) → a ≤ bound → b ≤ bound → or_nought (quotient_of kind (signed negative a) (pos b)) ≡ c → coefficient_of kind negative a b ≡ c
+within : (kind : Kind) (negative : Bool) (a b : ℕ) (c : Num) → a ≤ most_number → b ≤ most_number → or_nought (quotient_of kind (signed negative a) (pos b)) ≡ c → coefficient_of kind negative a b ≡ c
 unfolding coefficient_of
-within kind negative a b c h k e = ap₂ (λ x y. if x && y then or_nought (quotient_of kind (signed negative a) (pos b)) else residue 0) (le-leb a bound h) (le-leb b bound k) ∙ e
+within kind negative a b c h k e = ap₂ (λ x y. if x && y then or_nought (quotient_of kind (signed negative a) (pos b)) else residue 0) (le-leb a most_number h) (le-leb b most_number k) ∙ e
 
 -- fractions
 
@@ -59,8 +59,8 @@ fraction_back n d some h =
 
 pub listed_small : (p : ℕ) → IsListed p → p ≤ 65521
 listed_small p h =
-    All-contains (λ q. q ≤ 65521) PRIMES p
-    (All-from_recursion (λ q. q ≤ 65521) PRIMES (omega arith, (omega arith, (omega arith, (omega arith, (omega arith, (omega arith, (omega arith, (omega arith, (omega arith, (omega arith, (omega arith, (omega arith, (omega arith, (omega arith, (omega arith, tt))))))))))))))))
+    All-contains (λ q. q ≤ 65521) accepted_primes p
+    (All-from_recursion (λ q. q ≤ 65521) accepted_primes (omega arith, (omega arith, (omega arith, (omega arith, (omega arith, (omega arith, (omega arith, (omega arith, (omega arith, (omega arith, (omega arith, (omega arith, (omega arith, (omega arith, (omega arith, tt))))))))))))))))
     h
 
 module _ (p : ℕ) (some : 2 < p) where
@@ -99,7 +99,7 @@ coefficient_back (Prime p) c h e =
     (within (Prime p) false r 1 (residue r) (omega arith) (omega arith) (residue_back p above r few))
 
 -- the numbers that are written fit
-pub parts_small : (kind : Kind) (c : Num) → IsField kind → IsElement kind c → (unsigned_abs c.numerator ≤ W) × (unsigned_abs c.denominator ≤ W)
+pub parts_small : (kind : Kind) (c : Num) → IsField kind → IsElement kind c → (unsigned_abs c.numerator ≤ most_value) × (unsigned_abs c.denominator ≤ most_value)
 parts_small Rational c h e = e.1
 parts_small (Prime p) c h e =
     let small = listed_small p h in

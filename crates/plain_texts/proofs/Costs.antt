@@ -1,4 +1,4 @@
--- How long the text of an expression is, by the symbols that it was read from: each symbol carries 16 bytes for each of its own.
+-- How long the text of an expression is, by the terminals that it was read from: each terminal carries 16 bytes for each of its own.
 use Rattle.std.proofs.Common.{◌≡◌, ℕ, zero, suc, ◌+◌, ◌*◌, ◌/◌, ◌<◌, ◌≤◌, List, [], ◌∷◌, ◌++◌, length, Bool, true, false, ◌&&◌, nat_le, nat_eq, if◌then◌else◌, refl, ap, sym, ◌∙◌, subst, arith, length-append}
 use Rattle.std.specs.Prelude.{ℤ, pos, negsuc, unsigned_abs, neg_ℤ, ◌*ℤ◌, None, Some, decimal, codes}
 use Rattle.std.proofs.lemmas.Bool.{leb-true}
@@ -10,7 +10,8 @@ use Rattle.plain_texts.proofs.Sizes.{digits_up}
 use Rattle.fpl_numbers.specs.declared.number.Num.{Num}
 use Rattle.fpl_numbers.specs.declared.number.Kind.{Kind}
 use Rattle.fpl_numbers.specs.declared.number.Kind.TheVariants.{Rational, Prime}
-use Rattle.fpl_numbers.specs.Numbers.{IsField, bound, residue, residue_of, gcd, divided, is_nought, inverse_of}
+use Rattle.math_fields.specs.Gcd.{gcd}
+use Rattle.fpl_numbers.specs.Numbers.{IsField, most_number, residue, residue_of, divided, is_nought, inverse_of}
 use Rattle.fpl_numbers.specs.Quotients.{whole, quotient_of}
 use Rattle.fpl_numbers.proofs.KindReads.{listed_prime}
 use Rattle.plain_texts.proofs.Coefficients.{listed_small, times-one}
@@ -109,10 +110,10 @@ sign_later false = refl
 abbrev pub digits : ℕ → ℕ
 digits n = length (decimal n)
 
-digits_some : (n : ℕ) → n ≤ bound → 1 ≤ digits n
+digits_some : (n : ℕ) → n ≤ most_number → 1 ≤ digits n
 digits_some n few = (decimal_is_IsNumeral_wide n (omega arith)).0.0
 
-below_long : (d b : ℕ) → d ≤ b → b ≤ bound → length (below_text d) ≤ digits b + 1
+below_long : (d b : ℕ) → d ≤ b → b ≤ most_number → length (below_text d) ≤ digits b + 1
 below_long d b l few = go (nat_eq d 1)
   where
     go : (t : Bool) → length (if t then [] else codes "/" ++ decimal d) ≤ digits b + 1
@@ -127,7 +128,7 @@ quotient_abs : (n : ℤ) (g : ℕ) → unsigned_abs (divided n g) ≤ unsigned_a
 quotient_abs (pos n) g = div-le_self n g
 quotient_abs (negsuc n) g = subst (λ k. k ≤ suc n) (sym (abs_negative (suc n / g))) (div-le_self (suc n) g)
 
-magnitude_long : (c : Num) (a b : ℕ) → unsigned_abs c.numerator ≤ a → unsigned_abs c.denominator ≤ b → a ≤ bound → b ≤ bound → length (magnitude_text c) ≤ digits a + 1 + digits b
+magnitude_long : (c : Num) (a b : ℕ) → unsigned_abs c.numerator ≤ a → unsigned_abs c.denominator ≤ b → a ≤ most_number → b ≤ most_number → length (magnitude_text c) ≤ digits a + 1 + digits b
 magnitude_long c a b h k few few' =
     omega (arith, length-append (decimal (unsigned_abs c.numerator)) (below_text (unsigned_abs c.denominator)), digits_up (unsigned_abs c.numerator) a h few, below_long (unsigned_abs c.denominator) b k few')
 
@@ -138,7 +139,7 @@ abs_signed : (negative : Bool) (a : ℕ) → unsigned_abs (signed negative a) �
 abs_signed false a = refl
 abs_signed true a = abs_negative a
 
-module _ (negative : Bool) (a b : ℕ) (few : a ≤ bound) (few' : b ≤ bound) where
+module _ (negative : Bool) (a b : ℕ) (few : a ≤ most_number) (few' : b ≤ most_number) where
   abbrev IsShort : Num → Type 0
   IsShort c = length (magnitude_text c) ≤ 5 * digits a + 1 + 5 * digits b
 
@@ -165,12 +166,12 @@ module _ (negative : Bool) (a b : ℕ) (few : a ≤ bound) (few' : b ≤ bound) 
 
 pub coefficient_long : (kind : Kind) (negative : Bool) (a b : ℕ) → IsField kind → length (magnitude_text (coefficient_of kind negative a b)) ≤ 5 * digits a + 1 + 5 * digits b
 unfolding coefficient_of
-coefficient_long kind negative a b h = go (nat_le a bound) (nat_le b bound) refl refl
+coefficient_long kind negative a b h = go (nat_le a most_number) (nat_le b most_number) refl refl
   where
     none_there : length (magnitude_text (residue 0)) ≤ 1
     none_there = subst (λ t. length t ≤ 1) (sym (append-nil (decimal 0))) (subst (λ t. length t ≤ 1) (sym zero_text) (omega arith))
 
-    go : (s t : Bool) → nat_le a bound ≡ s → nat_le b bound ≡ t → length (magnitude_text (if s && t then or_nought (quotient_of kind (signed negative a) (pos b)) else residue 0)) ≤ 5 * digits a + 1 + 5 * digits b
-    go true true x y = quotient_short negative a b (leb-true a bound x) (leb-true b bound y) kind h
+    go : (s t : Bool) → nat_le a most_number ≡ s → nat_le b most_number ≡ t → length (magnitude_text (if s && t then or_nought (quotient_of kind (signed negative a) (pos b)) else residue 0)) ≤ 5 * digits a + 1 + 5 * digits b
+    go true true x y = quotient_short negative a b (leb-true a most_number x) (leb-true b most_number y) kind h
     go true false x y = omega (arith, none_there)
     go false t x y = omega (arith, none_there)

@@ -1,20 +1,12 @@
 -- A number in decimal is a piece of digits with its value.
-use Rattle.std.proofs.Common.{◌≡◌, ℕ, ◌+◌, ◌-◌, ◌*◌, ◌/◌, ◌%◌, ◌≤◌, ◌<◌, List, [], ◌∷◌, ◌++◌, Bool, true, false, nat_le, ◌&&◌, IsTrue, refl, ap, ◌∙◌, arith}
+use Rattle.std.proofs.Common.{◌≡◌, ℕ, ◌+◌, ◌-◌, ◌*◌, ◌/◌, ◌%◌, ◌≤◌, ◌<◌, List, [], ◌∷◌, ◌++◌, true, nat_le, IsTrue, refl, ap, ◌∙◌, arith}
 use Rattle.std.specs.Prelude.{decimal}
 use Rattle.std.specs.List.{list_all}
 use native.Mathlib.Nat.{mod-lt, div-add-mod}
-use Rattle.std.proofs.lemmas.Bool.{le-leb, false≢true}
+use Rattle.std.proofs.lemmas.Bool.{le-leb, and_parts, and_from}
 use Rattle.std.proofs.lemmas.Fmt.{decimal_by_steps_wide}
 use Rattle.fpl_alphabet.specs.Bytes.{is_digit}
-use Rattle.fpl_lex.specs.Cut.{W, number, Stops, IsPiece, value_from, value_of}
-
-both-true : (x y : Bool) → IsTrue x → IsTrue y → IsTrue (x && y)
-both-true true y h k = k
-both-true false y h k = h
-
-pub true-both : (x y : Bool) → IsTrue (x && y) → IsTrue x × IsTrue y
-true-both true y h = (refl, h)
-true-both false y h = absurd (false≢true h)
+use Rattle.fpl_lex.specs.Cut.{most_value, number, Stops, IsPiece, value_from, value_of}
 
 abbrev AreDigits : List ℕ → Type 0
 AreDigits [] = ⊥
@@ -29,15 +21,15 @@ value_from-append n [] b = refl
 value_from-append n (d ∷ ds) b = value_from-append (10 * n + (d - 48)) ds b
 
 all-append : (ds : List ℕ) (b : ℕ) → IsTrue (list_all is_digit ds) → IsTrue (is_digit b) → IsTrue (list_all is_digit (ds ++ b ∷ []))
-all-append [] b h k = both-true (is_digit b) true k refl
-all-append (d ∷ ds) b h k = let s = true-both (is_digit d) (list_all is_digit ds) h in both-true (is_digit d) (list_all is_digit (ds ++ b ∷ [])) s.0 (all-append ds b s.1 k)
+all-append [] b h k = and_from (is_digit b) true k refl
+all-append (d ∷ ds) b h k = let s = and_parts (is_digit d) (list_all is_digit ds) h in and_from (is_digit d) (list_all is_digit (ds ++ b ∷ [])) s.0 (all-append ds b s.1 k)
 
 digits-append : (ds : List ℕ) (b : ℕ) → AreDigits ds → IsTrue (is_digit b) → AreDigits (ds ++ b ∷ [])
 digits-append [] b h k = elim h [ ]
 digits-append (d ∷ ds) b h k = (h.0, all-append ds b h.1 k)
 
 digit_is : (m : ℕ) → m < 10 → IsTrue (is_digit (48 + m))
-digit_is m l = both-true (nat_le 48 (48 + m)) (nat_le (48 + m) 57) (le-leb 48 (48 + m) (omega arith)) (le-leb (48 + m) 57 (omega arith))
+digit_is m l = and_from (nat_le 48 (48 + m)) (nat_le (48 + m) 57) (le-leb 48 (48 + m) (omega arith)) (le-leb (48 + m) 57 (omega arith))
 
 record Writes (n : ℕ) (ds : List ℕ) : Type 0 where
   digits : AreDigits ds
@@ -53,11 +45,11 @@ one_more n ds l w =
     let e : 10 * (n / 10) + (48 + n % 10 - 48) ≡ n = omega arith in
     record { digits = digits-append ds (48 + n % 10) w.digits (digit_is (n % 10) m); value = value_from-append 0 ds (48 + n % 10) ∙ ap (λ v. 10 * v + (48 + n % 10 - 48)) w.value ∙ e }
 
-written : (n : ℕ) → n ≤ W → Writes n (decimal n)
+written : (n : ℕ) → n ≤ most_value → Writes n (decimal n)
 written n few = decimal_by_steps_wide Writes one_digit one_more n (omega arith)
 
-pub decimal_piece : (n : ℕ) (after : List ℕ) → n ≤ W → Stops is_digit after → IsPiece number (decimal n) after
+pub decimal_piece : (n : ℕ) (after : List ℕ) → n ≤ most_value → Stops is_digit after → IsPiece number (decimal n) after
 decimal_piece n after few stops = digits_piece (decimal n) after (written n few).digits stops
 
-pub decimal_value : (n : ℕ) → n ≤ W → value_of (decimal n) ≡ n
+pub decimal_value : (n : ℕ) → n ≤ most_value → value_of (decimal n) ≡ n
 decimal_value n few = (written n few).value

@@ -1,30 +1,28 @@
 -- The lines of generators and of the field spell their declarations; a canonical text is its presentation.
-use Rattle.std.proofs.Common.{◌≡◌, ℕ, suc, ◌+◌, ◌<◌, ◌≤◌, List, [], ◌∷◌, ◌++◌, map, get_or, length, Bool, true, false, ◌||◌, ◌&&◌, if◌then◌else◌, refl, ap, ap₂, sym, ◌∙◌, subst, arith, append_assoc}
+use Rattle.std.proofs.Common.{◌≡◌, ℕ, suc, ◌+◌, ◌<◌, ◌≤◌, List, [], ◌∷◌, ◌++◌, map, get_or, length, Bool, true, false, ◌&&◌, if◌then◌else◌, refl, ap, ap₂, sym, ◌∙◌, subst, arith, append_assoc}
 use Rattle.std.specs.Prelude.{codes, decimal, All, None, Some}
 use Rattle.std.specs.List.{list_any}
 use Rattle.std.specs.Option.{option_map}
 use Rattle.std.specs.declared.option.Option.{Option}
 use Rattle.std.specs.Str.{bytes_eq}
-use Rattle.std.proofs.lemmas.Bool.{le-leb}
+use Rattle.std.proofs.lemmas.Bool.{le-leb, or_from}
 use Rattle.std.proofs.lemmas.List.{length-map, append-nil}
-use Rattle.std.proofs.lemmas.List.Elements.{All-contains, All-from_recursion}
 use Rattle.std.proofs.lemmas.Option.{slice_get_past}
 use Rattle.fpl_alphabet.specs.Bytes.{IsName}
 use Rattle.fpl_lex.specs.Cut.{reading_from}
-use Rattle.fpl_numbers.specs.declared.number.TheConstants.{PRIMES}
 use Rattle.fpl_numbers.specs.declared.number.Kind.{Kind}
 use Rattle.fpl_numbers.specs.declared.number.Kind.TheVariants.{Rational, Prime}
-use Rattle.fpl_numbers.specs.Numbers.{IsListed, IsField}
+use Rattle.fpl_numbers.proofs.Listed.{listed_passes}
+use Rattle.fpl_numbers.specs.Numbers.{IsField}
 use Rattle.fpl_model.specs.declared.presentation.Parity.{Parity}
 use Rattle.fpl_model.specs.declared.presentation.Parity.TheVariants.{Even, Odd}
 use Rattle.fpl_model.specs.Meaning.{parity_in}
 use Rattle.fpl_model.specs.declared.presentation.Generator.{Generator}
 use Rattle.fpl_model.specs.declared.presentation.Presentation.{Presentation}
 use Rattle.fpl_model.specs.Sound.{HaveWeights, IsSound}
-use Rattle.fpl_syntax.specs.declared.symbol.Symbol.{Symbol}
-use Rattle.fpl_syntax.specs.declared.symbol.Symbol.TheVariants as mark
-use Rattle.fpl_syntax.specs.Grammar.{Statement, Naming, field, declare, rationals, prime, weighted, naming_symbol, spelling, claims_of}
-use Rattle.fpl_syntax.specs.Kinds.{is_listed}
+use Rattle.fpl_syntax.specs.declared.terminal.Terminal.{Terminal}
+use Rattle.fpl_syntax.specs.declared.terminal.Terminal.TheVariants as mark
+use Rattle.fpl_syntax.specs.Grammar.{Statement, Naming, field, declare, rationals, prime, weighted, naming_terminal, spelling, claims_of}
 use Rattle.fpl_syntax.specs.Sight.{word_of}
 use Rattle.fpl_reader.specs.declared.survey.DeclaredName.{DeclaredName}
 use Rattle.fpl_reader.specs.declared.survey.FieldStatement.{FieldStatement}
@@ -35,7 +33,7 @@ use Rattle.fpl_reader.specs.Reading.{name_of, generator_of, kind_named, kind_of,
 use Rattle.fpl_spelling.specs.Spelling.{field_text, parity_text}
 use Rattle.fpl_canonical.specs.Canonical.{field_line, generator_line, equation_line, ideal_line, lines, canonical_of}
 use Rattle.plain_texts.proofs.Coefficients.{listed_small}
-use Rattle.plain_texts.proofs.NameSymbols.{names, AreDistinct, name_symbol, differs}
+use Rattle.plain_texts.proofs.NameTerminals.{names, AreDistinct, name_terminal, differs}
 use Rattle.plain_texts.proofs.Spelled.{IsLeft, place, later, bytes_there, Spells, spells_word, spells_number, spells_mark}
 use Rattle.plain_texts.proofs.Lines.{or_none, spells_first, spells_line_end, Said, said_nothing, said_relations, said_ideals, said_queries}
 
@@ -54,9 +52,9 @@ module _ (text : List ℕ) (p : Presentation) (known : IsField p.field) (named :
   abbrev IsSaid : List ℕ → List FieldStatement → List Generator → Type 0
   IsSaid rest fs gs = Said text p known named distinct rest fs gs p.relations p.ideals p.queries
 
-  spells_parity : (s : Parity) (rest : List ℕ) (symbols : List Symbol) → IsLeft text (parity_text (parity_in s) ++ (32 ∷ rest)) → Spells text 0 rest symbols → Spells text 0 (parity_text (parity_in s) ++ (32 ∷ rest)) (mark.Declare s ∷ symbols)
-  spells_parity Even rest symbols e s = spells_first text p known named distinct (codes "even") rest symbols refl (omega arith) e s
-  spells_parity Odd rest symbols e s = spells_first text p known named distinct (codes "odd") rest symbols refl (omega arith) e s
+  spells_parity : (s : Parity) (rest : List ℕ) (terminals : List Terminal) → IsLeft text (parity_text (parity_in s) ++ (32 ∷ rest)) → Spells text 0 rest terminals → Spells text 0 (parity_text (parity_in s) ++ (32 ∷ rest)) (mark.Declare s ∷ terminals)
+  spells_parity Even rest terminals e s = spells_first text p known named distinct (codes "even") rest terminals refl (omega arith) e s
+  spells_parity Odd rest terminals e s = spells_first text p known named distinct (codes "odd") rest terminals refl (omega arith) e s
 
   said_generator : (g : Generator) (after : List ℕ) (gs : List Generator) → IsName g.name → 1 ≤ g.weight → g.weight ≤ 1000 → IsLeft text (parity_text (parity_in g.parity) ++ (32 ∷ (g.name ++ (58 ∷ (decimal g.weight ++ (59 ∷ 10 ∷ after))))))
       → IsSaid after [] gs → IsSaid (parity_text (parity_in g.parity) ++ (32 ∷ (g.name ++ (58 ∷ (decimal g.weight ++ (59 ∷ 10 ∷ after)))))) [] (g ∷ gs)
@@ -74,7 +72,7 @@ module _ (text : List ℕ) (p : Presentation) (known : IsField p.field) (named :
       let s2 = spells_number text 0 g.weight (59 ∷ 10 ∷ after) (mark.Semicolon ∷ spelling said.sentence) (omega arith) refl (omega arith) e4 s1 in
       let s3 = spells_mark text 0 0 58 (D ++ (59 ∷ 10 ∷ after)) (mark.Number (record { place = number; value = g.weight }) ∷ mark.Semicolon ∷ spelling said.sentence) refl refl (omega arith) e3 s2 in
       let s4 = spells_word text 0 g.name (58 ∷ (D ++ (59 ∷ 10 ∷ after))) (mark.Colon ∷ mark.Number (record { place = number; value = g.weight }) ∷ mark.Semicolon ∷ spelling said.sentence) is.spelled is.short refl (omega arith) e2 s3 in
-      let s5 = subst (λ x. Spells text 0 rest (x ∷ mark.Colon ∷ mark.Number (record { place = number; value = g.weight }) ∷ mark.Semicolon ∷ spelling said.sentence)) (name_symbol g.name at (at + length g.name) is.free) s4 in
+      let s5 = subst (λ x. Spells text 0 rest (x ∷ mark.Colon ∷ mark.Number (record { place = number; value = g.weight }) ∷ mark.Semicolon ∷ spelling said.sentence)) (name_terminal g.name at (at + length g.name) is.free) s4 in
       let name_is = bytes_there text g.name (58 ∷ (D ++ (59 ∷ 10 ∷ after))) e2 in
       let generator_is : ◌≡◌ {A = Generator} (record { name = word_of text at (at + length g.name); parity = g.parity; weight = g.weight }) g = λ i. record { name = name_is i; parity = g.parity; weight = g.weight } in
       record {
@@ -113,11 +111,8 @@ module _ (text : List ℕ) (p : Presentation) (known : IsField p.field) (named :
     fine : bad_prime_named statement.name ≡ None
     said : IsSaid rest (statement ∷ []) gs
 
-  listed_true : (q : ℕ) → IsListed q → is_listed q ≡ true
-  listed_true q h = All-contains (λ r. is_listed r ≡ true) PRIMES q (All-from_recursion (λ r. is_listed r ≡ true) PRIMES (refl, (refl, (refl, (refl, (refl, (refl, (refl, (refl, (refl, (refl, (refl, (refl, (refl, (refl, (refl, tt)))))))))))))))) h
-
   field_said : (k : Kind) (rest after : List ℕ) (gs : List Generator) (at : ℕ) (naming : Naming) → kind_named (field_name_of naming) ≡ k → bad_prime_named (field_name_of naming) ≡ None
-      → (said : IsSaid after [] gs) → Spells text 0 rest (mark.Field at ∷ naming_symbol naming ∷ mark.Semicolon ∷ spelling said.sentence) → Names k rest gs
+      → (said : IsSaid after [] gs) → Spells text 0 rest (mark.Field at ∷ naming_terminal naming ∷ mark.Semicolon ∷ spelling said.sentence) → Names k rest gs
   field_said k rest after gs at naming kind fine said spells = record {
     statement = record { place = at; name = field_name_of naming };
     kind = kind;
@@ -155,7 +150,7 @@ module _ (text : List ℕ) (p : Presentation) (known : IsField p.field) (named :
       let s1 = spells_line_end text p known named distinct after (spelling said.sentence) e2 said.spells in
       let s2 = spells_number text 0 q (59 ∷ 10 ∷ after) (mark.Semicolon ∷ spelling said.sentence) (omega arith) refl (omega arith) e1 s1 in
       field_said (Prime q) (codes "field " ++ rest) after gs (place text (codes "field " ++ rest)) (prime (record { place = place text rest; value = q })) refl
-      (ap (λ (b : Bool). if b then None else Some (place text rest)) (listed_true q h)) said
+      (ap (λ (b : Bool). if b then None else Some (place text rest)) (listed_passes q h)) said
       (spells_first text p known named distinct (codes "field") rest (mark.Number (record { place = place text rest; value = q }) ∷ mark.Semicolon ∷ spelling said.sentence) refl (omega arith) e s2)
 
 -- no name stands twice
@@ -166,16 +161,12 @@ twice_none text before [] apart distinct = refl
 twice_none text before (d ∷ ds) apart distinct =
     no_place (list_any (λ b. bytes_eq b (name_of text d)) before) d.word.start _ (apart 0 (omega arith))
     (twice_none text (name_of text d ∷ before) ds
-    (λ i l. either_false _ _ (differs_name i l) (apart (suc i) (omega arith)))
+    (λ i l. or_from _ _ (differs_name i l) (apart (suc i) (omega arith)))
     (λ i j l m. distinct (suc i) (suc j) (omega arith) (omega arith)))
   where
     no_place : (t : Bool) (place : ℕ) (rest : Option ℕ) → t ≡ false → rest ≡ None → (if t then Some place else rest) ≡ None
     no_place true place rest e h = cc
     no_place false place rest e h = h
-
-    either_false : (x y : Bool) → x ≡ false → y ≡ false → (x || y) ≡ false
-    either_false true y e h = e
-    either_false false y e h = h
 
     differs_name : (i : ℕ) → i < length ds → bytes_eq (name_of text d) (get_or (names (map (generator_of text) ds)) i []) ≡ false
     differs_name i l = differs (name_of text d) (get_or (names (map (generator_of text) ds)) i []) (λ e. distinct 0 (suc i) (omega arith) (omega (arith, length-map ds (generator_of text))) (sym e))

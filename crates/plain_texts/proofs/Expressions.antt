@@ -1,4 +1,4 @@
--- The text of an expression that is read is at most 16 times as long as the symbols that spelled it.
+-- The text of an expression that is read is at most 16 times as long as the terminals that spelled it.
 use Rattle.std.proofs.Common.{◌≡◌, ℕ, zero, suc, ◌+◌, ◌-◌, ◌*◌, ◌≤◌, List, [], ◌∷◌, ◌++◌, length, map, get_or, drop, Bool, true, false, ◌&&◌, ◌==◌, nat_le, if◌then◌else◌, refl, ap, sym, ◌∙◌, subst, arith, length-take}
 use Rattle.std.specs.Prelude.{None, Some, slice_range}
 use Rattle.std.specs.Str.{bytes_eq}
@@ -13,9 +13,9 @@ use Rattle.fpl_model.specs.declared.expr.Expr as expr
 use Rattle.fpl_model.specs.declared.presentation.Generator.{Generator}
 use Rattle.fpl_model.specs.Meaning.{plain}
 use Rattle.fpl_model.proofs.Plain.{plain-Gen, plain-Zero, plain-Sum, plain-Times, plain-Br}
-use Rattle.fpl_syntax.specs.declared.symbol.Symbol.{Symbol}
-use Rattle.fpl_syntax.specs.declared.symbol.Symbol.TheVariants as mark
-use Rattle.fpl_syntax.specs.declared.symbol.Word.{Word}
+use Rattle.fpl_syntax.specs.declared.terminal.Terminal.{Terminal}
+use Rattle.fpl_syntax.specs.declared.terminal.Terminal.TheVariants as mark
+use Rattle.fpl_syntax.specs.declared.terminal.Word.{Word}
 use Rattle.fpl_syntax.specs.declared.expression.Scale.{Scale}
 use Rattle.fpl_syntax.specs.declared.expression.Scale.TheVariants.{One, Whole, Quotient}
 use Rattle.fpl_syntax.specs.Grammar.{Scope, Sum, sum, Terms, end, further, term, Factor, name, zero as nought, bracket, group, spell_scale, sign_of, spell_lead, spell_sum, spell_terms, spell_factor, coefficient_of, term_of, total, expression_of, further_of, factor_of}
@@ -27,7 +27,7 @@ use Rattle.fpl_reader.specs.Reading.{or_else, first_place, unknown_in, scope_of}
 use Rattle.fpl_reader.proofs.Terms.{first_place-append}
 use Rattle.fpl_spelling.specs.Spelling.{magnitude_text, sign_text}
 use Rattle.fpl_canonical.specs.Canonical.{begins_below, sum_text}
-use Rattle.plain_texts.proofs.NameSymbols.{names}
+use Rattle.plain_texts.proofs.NameTerminals.{names}
 use Rattle.plain_texts.proofs.Written.{zero_text, term_whole, term_quotient}
 use Rattle.plain_texts.proofs.Sizes.{sizes}
 use Rattle.plain_texts.proofs.Costs.{alone, member, behind, member_multiple, alone_multiple, alone_behind, behind_alone, member_behind, bracket_long, sum_long, more_long, sign_later, digits, coefficient_long}
@@ -58,14 +58,14 @@ word_short text start stop = go (nat_le start stop && nat_le stop (length text))
     go true = omega (arith, length-take (stop - start) (drop start text))
     go false = omega arith
 
--- the symbols of a number and of a sign
+-- the terminals of a number and of a sign
 
 abbrev scale_size : Scale → ℕ
 scale_size One = 0
 scale_size (Whole n) = digits n.value + 1
 scale_size (Quotient n d) = digits n.value + 1 + digits d.value + 1
 
-scale_sizes : (scale : Scale) (after : List Symbol) → sizes (spell_scale scale after) ≡ scale_size scale + sizes after
+scale_sizes : (scale : Scale) (after : List Terminal) → sizes (spell_scale scale after) ≡ scale_size scale + sizes after
 scale_sizes One after = omega arith
 scale_sizes (Whole n) after = omega arith
 scale_sizes (Quotient n d) after = omega arith
@@ -75,7 +75,7 @@ lead_size plus true = 1
 lead_size true false = 1
 lead_size false false = 0
 
-lead_sizes : (plus negative : Bool) (after : List Symbol) → sizes (spell_lead plus negative after) ≡ lead_size plus negative + sizes after
+lead_sizes : (plus negative : Bool) (after : List Terminal) → sizes (spell_lead plus negative after) ≡ lead_size plus negative + sizes after
 lead_sizes plus true after = omega arith
 lead_sizes true false after = omega arith
 lead_sizes false false after = omega arith
@@ -111,7 +111,7 @@ module _ (text : List ℕ) (kind : Kind) (gs : List Generator) (field : IsField 
       omega (arith, long, word_short text w.start w.end)
 
   -- a term as a later member of a sum, as its first one, and alone
-  sign_size : (negative : Bool) (after : List Symbol) → sizes (sign_of negative ∷ after) ≡ 1 + sizes after
+  sign_size : (negative : Bool) (after : List Terminal) → sizes (sign_of negative ∷ after) ≡ 1 + sizes after
   sign_size true after = refl
   sign_size false after = refl
 
@@ -170,7 +170,7 @@ module _ (text : List ℕ) (kind : Kind) (gs : List Generator) (field : IsField 
       (omega (arith, sum_long ns (trees (map plain (x ∷ y ∷ ys))), more_long ns true (plain x) (trees (map plain (y ∷ ys)))))
 
   mutual
-    pub sum_cost : (s : Sum) → IsKnown (events_sum s) → (after : List Symbol) → alone ns (plain (expression_of scope s)) + 16 * sizes after ≤ 16 * sizes (spell_sum s after)
+    pub sum_cost : (s : Sum) → IsKnown (events_sum s) → (after : List Terminal) → alone ns (plain (expression_of scope s)) + 16 * sizes after ≤ 16 * sizes (spell_sum s after)
     sum_cost (sum plus (term negative scale f) ts) h after =
         let k = first_place-append (unknown_in scope) (events_scale scale) (events_factor f ++ events_terms ts) h in
         let l = first_place-append (unknown_in scope) (events_factor f) (events_terms ts) k.1 in
@@ -182,7 +182,7 @@ module _ (text : List ℕ) (kind : Kind) (gs : List Generator) (field : IsField 
         let d = lead_sizes plus negative (spell_scale scale (spell_factor f (spell_terms ts after))) in
         omega (arith, all, a, b, c, d)
 
-    terms_cost : (ts : Terms) → IsKnown (events_terms ts) → (after : List Symbol) → length (sum_text ns false (trees (map plain (further_of scope ts)))) + 16 * sizes after ≤ 16 * sizes (spell_terms ts after)
+    terms_cost : (ts : Terms) → IsKnown (events_terms ts) → (after : List Terminal) → length (sum_text ns false (trees (map plain (further_of scope ts)))) + 16 * sizes after ≤ 16 * sizes (spell_terms ts after)
     terms_cost end h after = omega arith
     terms_cost (further (term negative scale f) ts) h after =
         let k = first_place-append (unknown_in scope) (events_scale scale) (events_factor f ++ events_terms ts) h in
@@ -197,7 +197,7 @@ module _ (text : List ℕ) (kind : Kind) (gs : List Generator) (field : IsField 
         let d = sign_size negative (spell_scale scale (spell_factor f (spell_terms ts after))) in
         omega (arith, all, sign, t.later, a, b, c, d)
 
-    factor_cost : (f : Factor) → IsKnown (events_factor f) → (after : List Symbol) → behind ns (plain (factor_of scope f)) + 16 * sizes after ≤ 16 * sizes (spell_factor f after)
+    factor_cost : (f : Factor) → IsKnown (events_factor f) → (after : List Terminal) → behind ns (plain (factor_of scope f)) + 16 * sizes after ≤ 16 * sizes (spell_factor f after)
     factor_cost (name w) h after = omega (arith, name_long w h)
     factor_cost (nought place) h after = omega (arith, zero_long, (let z : behind ns (plain expr.Zero) ≡ 1 = ap (behind ns) plain-Zero in z))
     factor_cost (bracket a b) h after =

@@ -14,22 +14,22 @@ use Rattle.fpl_model.specs.declared.presentation.Presentation.{Presentation}
 use Rattle.fpl_model.specs.Meaning.{plain, tree_in, in_field, presentation_in}
 use Rattle.fpl_model.specs.Sound.{IsExpression, IsHomogeneous, IsSoundEquation, IsSoundElement}
 use Rattle.fpl_model.proofs.Plain.{plain-Zero}
-use Rattle.fpl_syntax.specs.declared.symbol.Symbol.{Symbol}
-use Rattle.fpl_syntax.specs.declared.symbol.Symbol.TheVariants as mark
-use Rattle.fpl_syntax.specs.declared.symbol.ClaimKind.{ClaimKind}
-use Rattle.fpl_syntax.specs.declared.symbol.ClaimKind.TheVariants as claim
+use Rattle.fpl_syntax.specs.declared.terminal.Terminal.{Terminal}
+use Rattle.fpl_syntax.specs.declared.terminal.Terminal.TheVariants as mark
+use Rattle.fpl_syntax.specs.declared.terminal.ClaimKind.{ClaimKind}
+use Rattle.fpl_syntax.specs.declared.terminal.ClaimKind.TheVariants as claim
 use Rattle.fpl_syntax.specs.declared.expression.Scale.{Scale}
 use Rattle.fpl_syntax.specs.declared.expression.Scale.TheVariants.{One, Whole, Quotient}
 use Rattle.fpl_syntax.specs.Grammar.{Scope, Sum, sum, Terms, end, further, term, Factor, name, zero as nought, bracket, group, Statement, equation, ideal, equal, spell_sum, spell_statement, spelling, expression_of, equate, claims_in, claims_of}
 use Rattle.fpl_reader.specs.declared.survey.Event.{Event}
 use Rattle.fpl_reader.specs.declared.survey.FieldStatement.{FieldStatement}
 use Rattle.fpl_reader.specs.Events.{events_scale, events_sum, events_terms, events_factor, events_statement, events_of, fields_in, field_in, declared_in, name_in}
-use Rattle.fpl_reader.specs.Symbols.{word_symbol}
+use Rattle.fpl_reader.specs.Terminals.{word_terminal}
 use Rattle.fpl_reader.specs.Reading.{generator_of, scope_of, is_relation, is_ideal, is_equal, claimed_as, lefts, with_claims, or_else, first_place, bad_weight, unknown_in, zero_in, is_mixed, mixed_weight_of, mixed_parity_of}
 use Rattle.fpl_reader.proofs.Soundness.{weight_same, parity_same}
 use Rattle.fpl_canonical.specs.declared.expression.Stand.TheVariants.{Alone}
 use Rattle.fpl_canonical.specs.Canonical.{expression_text, equation_line, ideal_line, lines}
-use Rattle.plain_texts.proofs.NameSymbols.{names, AreDistinct}
+use Rattle.plain_texts.proofs.NameTerminals.{names, AreDistinct}
 use Rattle.plain_texts.proofs.Trees.{expression_of_tree, back}
 use Rattle.plain_texts.proofs.Spelled.{IsLeft, place, later, Spells, spells_end, spells_blank, spells_word, spells_mark}
 use Rattle.plain_texts.proofs.Written.{first_place-both, summed}
@@ -175,49 +175,49 @@ module _ (text : List ℕ) (p : Presentation) (known : IsField p.field) (named :
 
   -- the sides of claims
 
-  pub spells_line_end : (after : List ℕ) (symbols : List Symbol) → IsLeft text (59 ∷ 10 ∷ after) → Spells text 0 after symbols → Spells text 0 (59 ∷ 10 ∷ after) (mark.Semicolon ∷ symbols)
-  spells_line_end after symbols e s = spells_mark text 0 0 59 (10 ∷ after) symbols refl refl (omega arith) e (spells_blank text 0 10 after symbols refl (later text (59 ∷ []) (10 ∷ after) e) s)
+  pub spells_line_end : (after : List ℕ) (terminals : List Terminal) → IsLeft text (59 ∷ 10 ∷ after) → Spells text 0 after terminals → Spells text 0 (59 ∷ 10 ∷ after) (mark.Semicolon ∷ terminals)
+  spells_line_end after terminals e s = spells_mark text 0 0 59 (10 ∷ after) terminals refl refl (omega arith) e (spells_blank text 0 10 after terminals refl (later text (59 ∷ []) (10 ∷ after) e) s)
 
   abbrev side : Expr → List ℕ
   side x = expression_text (names p.generators) Alone (plain x)
 
-  record OneSide (rest : List ℕ) (symbols : List Symbol) (x : Expr) : Type 0 where
+  record OneSide (rest : List ℕ) (terminals : List Terminal) (x : Expr) : Type 0 where
     tree : Sum
-    spells : Spells text 0 rest (spell_sum tree symbols)
+    spells : Spells text 0 rest (spell_sum tree terminals)
     value : expression_of scope tree ≡ x
     names : first_place (unknown_in scope) (events_sum tree) ≡ None
     denominators : first_place (zero_in p.field) (events_sum tree) ≡ None
 
-  one_side : (x : Expr) → IsExpression p x → (after : List ℕ) (symbols : List Symbol) → Stops is_word_byte after → IsLeft text (side x ++ after) → Spells text 0 after symbols → OneSide (side x ++ after) symbols x
-  one_side x sound after symbols stops e s =
-      let u = summed text p.field p.generators known named distinct (plain x) sound.0 0 after symbols (omega (arith, sound.1)) stops e s in
+  one_side : (x : Expr) → IsExpression p x → (after : List ℕ) (terminals : List Terminal) → Stops is_word_byte after → IsLeft text (side x ++ after) → Spells text 0 after terminals → OneSide (side x ++ after) terminals x
+  one_side x sound after terminals stops e s =
+      let u = summed text p.field p.generators known named distinct (plain x) sound.0 0 after terminals (omega (arith, sound.1)) stops e s in
       record { tree = u.tree; spells = u.spells; value = same_tree (expression_of scope u.tree) x u.value; names = u.fine.0; denominators = u.fine.1 }
 
   -- what follows the first word of an equation's line
   abbrev sides : Equation → List ℕ → List ℕ
   sides q after = side q.left ++ (32 ∷ 61 ∷ 32 ∷ (side q.right ++ (59 ∷ 10 ∷ after)))
 
-  record TwoSides (rest : List ℕ) (symbols : List Symbol) (q : Equation) : Type 0 where
+  record TwoSides (rest : List ℕ) (terminals : List Terminal) (q : Equation) : Type 0 where
     left : Sum
     right : Sum
-    spells : Spells text 0 rest (spell_sum left (mark.Equals ∷ spell_sum right (mark.Semicolon ∷ symbols)))
+    spells : Spells text 0 rest (spell_sum left (mark.Equals ∷ spell_sum right (mark.Semicolon ∷ terminals)))
     left_is : expression_of scope left ≡ q.left
     right_is : expression_of scope right ≡ q.right
     names : first_place (unknown_in scope) (events_sum left ++ events_sum right) ≡ None
     denominators : first_place (zero_in p.field) (events_sum left ++ events_sum right) ≡ None
 
-  two_sides : (q : Equation) → IsSoundEquation p q → (after : List ℕ) (symbols : List Symbol) → IsLeft text (sides q after) → Spells text 0 after symbols → TwoSides (sides q after) symbols q
-  two_sides q sound after symbols e s =
+  two_sides : (q : Equation) → IsSoundEquation p q → (after : List ℕ) (terminals : List Terminal) → IsLeft text (sides q after) → Spells text 0 after terminals → TwoSides (sides q after) terminals q
+  two_sides q sound after terminals e s =
       let e1 = later text (side q.left) (32 ∷ 61 ∷ 32 ∷ (side q.right ++ (59 ∷ 10 ∷ after))) e in
       let e2 = later text (32 ∷ []) (61 ∷ 32 ∷ (side q.right ++ (59 ∷ 10 ∷ after))) e1 in
       let e3 = later text (61 ∷ []) (32 ∷ (side q.right ++ (59 ∷ 10 ∷ after))) e2 in
       let e4 = later text (32 ∷ []) (side q.right ++ (59 ∷ 10 ∷ after)) e3 in
       let e5 = later text (side q.right) (59 ∷ 10 ∷ after) e4 in
-      let r = one_side q.right sound.1 (59 ∷ 10 ∷ after) (mark.Semicolon ∷ symbols) refl e4 (spells_line_end after symbols e5 s) in
+      let r = one_side q.right sound.1 (59 ∷ 10 ∷ after) (mark.Semicolon ∷ terminals) refl e4 (spells_line_end after terminals e5 s) in
       let b = spells_blank text 0 32 (side q.right ++ (59 ∷ 10 ∷ after)) _ refl e3 r.spells in
       let m = spells_mark text 0 0 61 (32 ∷ (side q.right ++ (59 ∷ 10 ∷ after))) _ refl refl (omega arith) e2 b in
       let c = spells_blank text 0 32 (61 ∷ 32 ∷ (side q.right ++ (59 ∷ 10 ∷ after))) _ refl e1 m in
-      let l = one_side q.left sound.0 (32 ∷ 61 ∷ 32 ∷ (side q.right ++ (59 ∷ 10 ∷ after))) (mark.Equals ∷ spell_sum r.tree (mark.Semicolon ∷ symbols)) refl e c in
+      let l = one_side q.left sound.0 (32 ∷ 61 ∷ 32 ∷ (side q.right ++ (59 ∷ 10 ∷ after))) (mark.Equals ∷ spell_sum r.tree (mark.Semicolon ∷ terminals)) refl e c in
       record {
         left = l.tree;
         right = r.tree;
@@ -236,9 +236,9 @@ module _ (text : List ℕ) (p : Presentation) (known : IsField p.field) (named :
       ∙ append_assoc (word ++ L) (codes " = ") (R ++ (59 ∷ 10 ∷ after)) ∙ append_assoc word L (32 ∷ 61 ∷ 32 ∷ (R ++ (59 ∷ 10 ∷ after)))
 
   -- the first word of a line
-  pub spells_first : (word rest : List ℕ) (symbols : List Symbol) → IsTrue (is_word word) → length word ≤ 32 → IsLeft text (word ++ (32 ∷ rest)) → Spells text 0 rest symbols
-      → Spells text 0 (word ++ (32 ∷ rest)) (word_symbol word (place text (word ++ (32 ∷ rest))) (place text (word ++ (32 ∷ rest)) + length word) ∷ symbols)
-  spells_first word rest symbols is few e s = spells_word text 0 word (32 ∷ rest) symbols is few refl (omega arith) e (spells_blank text 0 32 rest symbols refl (later text word (32 ∷ rest) e) s)
+  pub spells_first : (word rest : List ℕ) (terminals : List Terminal) → IsTrue (is_word word) → length word ≤ 32 → IsLeft text (word ++ (32 ∷ rest)) → Spells text 0 rest terminals
+      → Spells text 0 (word ++ (32 ∷ rest)) (word_terminal word (place text (word ++ (32 ∷ rest))) (place text (word ++ (32 ∷ rest)) + length word) ∷ terminals)
+  spells_first word rest terminals is few e s = spells_word text 0 word (32 ∷ rest) terminals is few refl (omega arith) e (spells_blank text 0 32 rest terminals refl (later text word (32 ∷ rest) e) s)
 
   -- relations and queries
 

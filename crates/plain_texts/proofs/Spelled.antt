@@ -1,21 +1,21 @@
--- A text spells symbols from a place on: its pieces, their tokens, and the symbols of these.
+-- A text spells terminals from a place on: its pieces, their tokens, and the terminals of these.
 use Rattle.std.proofs.Common.{◌≡◌, ℕ, ◌+◌, ◌-◌, ◌≤◌, List, [], ◌∷◌, ◌++◌, length, Bool, nat_lt, IsTrue, if◌then◌else◌, refl, ap, ap₂, sym, ◌∙◌, arith, append_assoc, length-append}
 use Rattle.std.specs.Prelude.{Ok, Err, None, Some, decimal}
 use Rattle.std.specs.List.{list_all}
-use Rattle.std.proofs.lemmas.Bool.{le-ltb, false≢true}
+use Rattle.std.proofs.lemmas.Bool.{le-ltb, false≢true, and_parts}
 use Rattle.fpl_alphabet.specs.Bytes.{is_blank, is_letter, is_digit, is_word_byte, is_mark, is_word, most_name}
 use Rattle.fpl_lex.specs.declared.token.Token.{Token}
 use Rattle.fpl_lex.specs.declared.token.TokenKind.{TokenKind}
 use Rattle.fpl_lex.specs.declared.token.TokenKind.TheVariants as kinds
 use Rattle.fpl_lex.specs.declared.fault.LexError.TheVariants.{NameTooLong, NumberTooLarge}
-use Rattle.fpl_lex.specs.Cut.{W, Form, blank, word, number, mark, Piece, Stops, IsPiece, IsCut, value_of, token_at, piece_tokens, joined, reading_from}
-use Rattle.fpl_syntax.specs.declared.symbol.Symbol.{Symbol}
-use Rattle.fpl_syntax.specs.declared.symbol.Symbol.TheVariants as symbol
+use Rattle.fpl_lex.specs.Cut.{most_value, Form, blank, word, number, mark, Piece, Stops, IsPiece, IsCut, value_of, token_at, piece_tokens, joined, reading_from}
+use Rattle.fpl_syntax.specs.declared.terminal.Terminal.{Terminal}
+use Rattle.fpl_syntax.specs.declared.terminal.Terminal.TheVariants as terminal
 use Rattle.fpl_syntax.specs.Sight.{word_of}
-use Rattle.fpl_reader.specs.Symbols.{word_symbol, mark_symbol, kind_symbol, symbol_of, symbols_of}
+use Rattle.fpl_reader.specs.Terminals.{word_terminal, mark_terminal, kind_terminal, terminal_of, terminals_of}
 use Rattle.fpl_reader.specs.Reading.{opens, closes, too_deep}
 use Rattle.fpl_reader.proofs.Words.{piece_bytes}
-use Rattle.plain_texts.proofs.Decimals.{true-both, decimal_piece, decimal_value}
+use Rattle.plain_texts.proofs.Decimals.{decimal_piece, decimal_value}
 
 -- no token passes the greatest depth, where so many marks are open before them
 abbrev pub IsShallow : ℕ → List Token → Type 0
@@ -47,13 +47,13 @@ module _ (text : List ℕ) where
       ∙ ap (λ t. word_of t (length e.before) (length e.before + length bytes)) e.whole
       ∙ piece_bytes e.before bytes after
 
-  -- the rest of the text spells these symbols, where so many marks are open before it
-  pub record Spells (held : ℕ) (rest : List ℕ) (symbols : List Symbol) : Type 0 where
+  -- the rest of the text spells these terminals, where so many marks are open before it
+  pub record Spells (held : ℕ) (rest : List ℕ) (terminals : List Terminal) : Type 0 where
     pub pieces : List Piece
     pub tokens : List Token
     pub cut : IsCut rest pieces
     pub read : reading_from (place rest) pieces ≡ Ok tokens
-    pub said : symbols_of text tokens ≡ symbols
+    pub said : terminals_of text tokens ≡ terminals
     pub shallow : IsShallow held tokens
 
   pub spells_end : (held : ℕ) → Spells held [] []
@@ -62,8 +62,8 @@ module _ (text : List ℕ) where
   read_later : (bytes after : List ℕ) (pieces : List Piece) (tokens : List Token) → IsLeft (bytes ++ after) → reading_from (place after) pieces ≡ Ok tokens → reading_from (place (bytes ++ after) + length bytes) pieces ≡ Ok tokens
   read_later bytes after pieces tokens e read = ap (λ n. reading_from n pieces) (place_later bytes after e) ∙ read
 
-  pub spells_blank : (held b : ℕ) (after : List ℕ) (symbols : List Symbol) → IsTrue (is_blank b) → IsLeft (b ∷ after) → Spells held after symbols → Spells held (b ∷ after) symbols
-  spells_blank held b after symbols is e s = record {
+  pub spells_blank : (held b : ℕ) (after : List ℕ) (terminals : List Terminal) → IsTrue (is_blank b) → IsLeft (b ∷ after) → Spells held after terminals → Spells held (b ∷ after) terminals
+  spells_blank held b after terminals is e s = record {
     pieces = record { form = blank; bytes = b ∷ [] } ∷ s.pieces;
     tokens = s.tokens;
     cut = (after, refl, is, s.cut);
@@ -78,13 +78,13 @@ module _ (text : List ℕ) where
       ∙ shallow (o + opens t.kind) (c + closes t.kind) (omega arith)
 
   -- a piece that is a token
-  spells_token : (held next : ℕ) (form : Form) (kind : TokenKind) (bytes after : List ℕ) (new : Symbol) (symbols : List Symbol)
+  spells_token : (held next : ℕ) (form : Form) (kind : TokenKind) (bytes after : List ℕ) (new : Terminal) (terminals : List Terminal)
       → IsPiece form bytes after → piece_tokens (place (bytes ++ after)) form bytes ≡ Ok (token_at (place (bytes ++ after)) bytes kind ∷ [])
-      → kind_symbol text (place (bytes ++ after)) (place (bytes ++ after) + length bytes) kind ≡ new
+      → kind_terminal text (place (bytes ++ after)) (place (bytes ++ after) + length bytes) kind ≡ new
       → held + opens kind ≡ next + closes kind → next ≤ 64
-      → IsLeft (bytes ++ after) → Spells next after symbols → Spells held (bytes ++ after) (new ∷ symbols)
-  unfolding symbol_of
-  spells_token held next form kind bytes after new symbols piece token is same few e s = record {
+      → IsLeft (bytes ++ after) → Spells next after terminals → Spells held (bytes ++ after) (new ∷ terminals)
+  unfolding terminal_of
+  spells_token held next form kind bytes after new terminals piece token is same few e s = record {
     pieces = record { form = form; bytes = bytes } ∷ s.pieces;
     tokens = token_at (place (bytes ++ after)) bytes kind ∷ s.tokens;
     cut = (after, refl, piece, s.cut);
@@ -95,28 +95,28 @@ module _ (text : List ℕ) where
 
   word_is : (w after : List ℕ) → IsTrue (is_word w) → Stops is_word_byte after → IsPiece word w after
   word_is [] after e stops = absurd (false≢true e)
-  word_is (b ∷ bs) after e stops = let s = true-both (is_letter b) (list_all is_word_byte bs) e in (s.0, s.1, stops)
+  word_is (b ∷ bs) after e stops = let s = and_parts (is_letter b) (list_all is_word_byte bs) e in (s.0, s.1, stops)
 
   word_fits : (at : ℕ) (w : List ℕ) → length w ≤ most_name → piece_tokens at word w ≡ Ok (token_at at w kinds.Word ∷ [])
   word_fits at w few = ap (λ (b : Bool). if b then Err (NameTooLong at) else Ok (token_at at w kinds.Word ∷ [])) (le-ltb most_name (length w) few)
 
-  pub spells_word : (held : ℕ) (w after : List ℕ) (symbols : List Symbol) → IsTrue (is_word w) → length w ≤ most_name → Stops is_word_byte after → held ≤ 64 → IsLeft (w ++ after)
-      → Spells held after symbols → Spells held (w ++ after) (word_symbol w (place (w ++ after)) (place (w ++ after) + length w) ∷ symbols)
-  spells_word held w after symbols is few stops depth e s =
-      spells_token held held word kinds.Word w after _ symbols (word_is w after is stops) (word_fits (place (w ++ after)) w few)
-      (ap (λ b. word_symbol b (place (w ++ after)) (place (w ++ after) + length w)) (bytes_there w after e)) refl depth e s
+  pub spells_word : (held : ℕ) (w after : List ℕ) (terminals : List Terminal) → IsTrue (is_word w) → length w ≤ most_name → Stops is_word_byte after → held ≤ 64 → IsLeft (w ++ after)
+      → Spells held after terminals → Spells held (w ++ after) (word_terminal w (place (w ++ after)) (place (w ++ after) + length w) ∷ terminals)
+  spells_word held w after terminals is few stops depth e s =
+      spells_token held held word kinds.Word w after _ terminals (word_is w after is stops) (word_fits (place (w ++ after)) w few)
+      (ap (λ b. word_terminal b (place (w ++ after)) (place (w ++ after) + length w)) (bytes_there w after e)) refl depth e s
 
-  number_fits : (at : ℕ) (ds : List ℕ) (n : ℕ) → value_of ds ≡ n → n ≤ W → piece_tokens at number ds ≡ Ok (token_at at ds (kinds.Number n) ∷ [])
+  number_fits : (at : ℕ) (ds : List ℕ) (n : ℕ) → value_of ds ≡ n → n ≤ most_value → piece_tokens at number ds ≡ Ok (token_at at ds (kinds.Number n) ∷ [])
   number_fits at ds n is few =
-      ap (λ v. if nat_lt W v then Err (NumberTooLarge at) else Ok (token_at at ds (kinds.Number v) ∷ [])) is
-      ∙ ap (λ (b : Bool). if b then Err (NumberTooLarge at) else Ok (token_at at ds (kinds.Number n) ∷ [])) (le-ltb W n few)
+      ap (λ v. if nat_lt most_value v then Err (NumberTooLarge at) else Ok (token_at at ds (kinds.Number v) ∷ [])) is
+      ∙ ap (λ (b : Bool). if b then Err (NumberTooLarge at) else Ok (token_at at ds (kinds.Number n) ∷ [])) (le-ltb most_value n few)
 
-  pub spells_number : (held n : ℕ) (after : List ℕ) (symbols : List Symbol) → n ≤ W → Stops is_digit after → held ≤ 64 → IsLeft (decimal n ++ after)
-      → Spells held after symbols → Spells held (decimal n ++ after) (symbol.Number (record { place = place (decimal n ++ after); value = n }) ∷ symbols)
-  spells_number held n after symbols few stops depth e s =
-      spells_token held held number (kinds.Number n) (decimal n) after _ symbols (decimal_piece n after few stops) (number_fits (place (decimal n ++ after)) (decimal n) n (decimal_value n few) few) refl refl depth e s
+  pub spells_number : (held n : ℕ) (after : List ℕ) (terminals : List Terminal) → n ≤ most_value → Stops is_digit after → held ≤ 64 → IsLeft (decimal n ++ after)
+      → Spells held after terminals → Spells held (decimal n ++ after) (terminal.Number (record { place = place (decimal n ++ after); value = n }) ∷ terminals)
+  spells_number held n after terminals few stops depth e s =
+      spells_token held held number (kinds.Number n) (decimal n) after _ terminals (decimal_piece n after few stops) (number_fits (place (decimal n ++ after)) (decimal n) n (decimal_value n few) few) refl refl depth e s
 
   -- a mark, with so many marks open after it
-  pub spells_mark : (held next b : ℕ) (after : List ℕ) (symbols : List Symbol) → IsTrue (is_mark b) → held + opens (kinds.Mark b) ≡ next + closes (kinds.Mark b) → next ≤ 64
-      → IsLeft (b ∷ after) → Spells next after symbols → Spells held (b ∷ after) (mark_symbol b ∷ symbols)
-  spells_mark held next b after symbols is same depth e s = spells_token held next mark (kinds.Mark b) (b ∷ []) after _ symbols is refl refl same depth e s
+  pub spells_mark : (held next b : ℕ) (after : List ℕ) (terminals : List Terminal) → IsTrue (is_mark b) → held + opens (kinds.Mark b) ≡ next + closes (kinds.Mark b) → next ≤ 64
+      → IsLeft (b ∷ after) → Spells next after terminals → Spells held (b ∷ after) (mark_terminal b ∷ terminals)
+  spells_mark held next b after terminals is same depth e s = spells_token held next mark (kinds.Mark b) (b ∷ []) after _ terminals is refl refl same depth e s

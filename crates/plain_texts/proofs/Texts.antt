@@ -14,15 +14,15 @@ use Rattle.fpl_model.specs.declared.presentation.Equation.{Equation}
 use Rattle.fpl_model.specs.declared.presentation.Presentation.{Presentation}
 use Rattle.fpl_model.specs.Meaning.{plain, parity_in}
 use Rattle.fpl_model.proofs.Plain.{plain-Zero}
-use Rattle.fpl_syntax.specs.declared.symbol.Symbol.{Symbol}
-use Rattle.fpl_syntax.specs.declared.symbol.Symbol.TheVariants as mark
+use Rattle.fpl_syntax.specs.declared.terminal.Terminal.{Terminal}
+use Rattle.fpl_syntax.specs.declared.terminal.Terminal.TheVariants as mark
 use Rattle.fpl_syntax.specs.declared.parser.Claim.{Claim}
 use Rattle.fpl_syntax.specs.Grammar.{Scope, Sum, Statement, field, declare, relation, equation, ideal, equal, Declaration, plainly, weighted, spell_sum, spell_declaration, spell_declarations, spell_statement, spelling, expression_of, claims_in, claims_of}
 use Rattle.fpl_syntax.proofs.Coefficients.{known_field}
 use Rattle.fpl_reader.specs.declared.survey.DeclaredName.{DeclaredName}
 use Rattle.fpl_reader.specs.declared.fault.Reason.TheVariants as reason
 use Rattle.fpl_reader.specs.Events.{events_sum, events_statement, events_of, fields_in, declared_in}
-use Rattle.fpl_reader.specs.Symbols.{symbols_of}
+use Rattle.fpl_reader.specs.Terminals.{terminals_of}
 use Rattle.fpl_reader.specs.Reading.{generator_of, kind_of, scope_of, is_relation, is_ideal, is_equal, claimed_as, lefts, unknown_in, bad_weight, presentation_of, HasPresentation}
 use Rattle.fpl_reader.proofs.Allowed.{have_weights, few_names, known_kind}
 use Rattle.fpl_reader.proofs.DeclaredNames.{AreNames}
@@ -81,11 +81,11 @@ generators_short text (d ∷ ds) names weights =
 
 -- what declarations spell has no less than what follows
 
-declaration_sizes : (d : Declaration) (after : List Symbol) → sizes after ≤ sizes (spell_declaration d after)
+declaration_sizes : (d : Declaration) (after : List Terminal) → sizes after ≤ sizes (spell_declaration d after)
 declaration_sizes (plainly w) after = omega arith
 declaration_sizes (weighted w n) after = omega arith
 
-declarations_sizes : (ds : List Declaration) (after : List Symbol) → sizes after ≤ sizes (spell_declarations ds after)
+declarations_sizes : (ds : List Declaration) (after : List Terminal) → sizes after ≤ sizes (spell_declarations ds after)
 declarations_sizes [] after = omega arith
 declarations_sizes (d ∷ ds) after = omega (arith, declarations_sizes ds after, declaration_sizes d (spell_declarations ds after))
 
@@ -98,10 +98,10 @@ module _ (text : List ℕ) (p : Presentation) (known : IsField p.field) where
   claims_long cs =
       length (lines (equation_line (codes "relation ") p) (claimed_as is_relation cs)) + length (lines (ideal_line p) (lefts (claimed_as is_ideal cs))) + length (lines (equation_line (codes "equal ") p) (claimed_as is_equal cs))
 
-  side_cost : (s : Sum) → IsKnown text p.field p.generators known (events_sum s) → (after : List Symbol) → alone (names_of p) (plain (expression_of scope s)) + 16 * sizes after ≤ 16 * sizes (spell_sum s after)
+  side_cost : (s : Sum) → IsKnown text p.field p.generators known (events_sum s) → (after : List Terminal) → alone (names_of p) (plain (expression_of scope s)) + 16 * sizes after ≤ 16 * sizes (spell_sum s after)
   side_cost s h after = sum_cost text p.field p.generators known s h after
 
-  statement_cost : (s : Statement) (cs : List Claim) (after : List Symbol) → IsKnown text p.field p.generators known (events_statement s) → claims_long cs ≤ 16 * sizes after → claims_long (claims_in scope s ++ cs) ≤ 16 * sizes (spell_statement s after)
+  statement_cost : (s : Statement) (cs : List Claim) (after : List Terminal) → IsKnown text p.field p.generators known (events_statement s) → claims_long cs ≤ 16 * sizes after → claims_long (claims_in scope s ++ cs) ≤ 16 * sizes (spell_statement s after)
   statement_cost (field place naming) cs after h k = omega arith
   statement_cost (declare parity d ds) cs after h k = omega (arith, declaration_sizes d (spell_declarations ds (mark.Semicolon ∷ after)), declarations_sizes ds (mark.Semicolon ∷ after))
   statement_cost (relation place a) cs after h k =
@@ -166,5 +166,5 @@ canonical_short text p h =
     let g = generators_short text ds (text_names_of text h.tokens h.lexed ss h.spelled) a.0.good_weights in
     let f = field_short (kind_of fs) known in
     let room = text_sizes text h.tokens h.lexed in
-    let same : sizes (spelling ss) ≡ sizes (symbols_of text h.tokens) = ap sizes h.spelled in
+    let same : sizes (spelling ss) ≡ sizes (terminals_of text h.tokens) = ap sizes h.spelled in
     subst (λ p. length (canonical_of p) ≤ 16 * length text + 65536) (sym h.same) (omega (arith, canonical_parts q, claims, few, g, f, room, same))

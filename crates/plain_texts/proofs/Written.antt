@@ -8,7 +8,7 @@ use Rattle.std.proofs.lemmas.Bool.{ne_eqb, eqb-true}
 use Rattle.fpl_syntax.specs.Sight.{word_of, number_from}
 use Rattle.std.proofs.lemmas.List.{append-nil}
 use Rattle.fpl_alphabet.specs.Bytes.{is_word_byte, is_letter, is_digit, IsName}
-use Rattle.fpl_lex.specs.Cut.{W, Stops}
+use Rattle.fpl_lex.specs.Cut.{most_value, Stops}
 use Rattle.fpl_numbers.specs.declared.number.Num.{Num}
 use Rattle.fpl_numbers.specs.declared.number.Kind.{Kind}
 use Rattle.fpl_numbers.specs.Numbers.{IsField, IsElement}
@@ -18,8 +18,8 @@ use Rattle.fpl_model.specs.declared.presentation.Generator.{Generator}
 use Rattle.fpl_model.specs.Meaning.{plain}
 use Rattle.fpl_model.specs.Sound.{IsWithin, AreWithin, many, deep, deep_factor, deep_member, deep_members}
 use Rattle.fpl_model.proofs.Plain.{plain-Gen, plain-Zero, plain-Sum, plain-Times, plain-Br}
-use Rattle.fpl_syntax.specs.declared.symbol.Symbol.{Symbol}
-use Rattle.fpl_syntax.specs.declared.symbol.Symbol.TheVariants as mark
+use Rattle.fpl_syntax.specs.declared.terminal.Terminal.{Terminal}
+use Rattle.fpl_syntax.specs.declared.terminal.Terminal.TheVariants as mark
 use Rattle.fpl_syntax.specs.declared.expression.Scale.{Scale}
 use Rattle.fpl_syntax.specs.declared.expression.Scale.TheVariants.{One, Whole, Quotient}
 use Rattle.fpl_syntax.specs.Grammar.{Scope, Sum, sum, Terms, end, further, term, Factor, name, zero as nought, bracket, group, spell_scale, sign_of, spell_lead, spell_sum, spell_terms, spell_factor, coefficient_of, term_of, total, expression_of, further_of, factor_of}
@@ -30,7 +30,7 @@ use Rattle.fpl_canonical.specs.declared.expression.Stand.TheVariants.{Alone, Mem
 use Rattle.fpl_spelling.specs.Spelling.{is_below_nought, below_text, magnitude_text, sign_text}
 use Rattle.fpl_canonical.specs.Canonical.{begins_below, expression_text, sum_text}
 use Rattle.fpl_reader.proofs.Terms.{or_else-none}
-use Rattle.plain_texts.proofs.NameSymbols.{names, AreDistinct, name_symbol, number_there}
+use Rattle.plain_texts.proofs.NameTerminals.{names, AreDistinct, name_terminal, number_there}
 use Rattle.plain_texts.proofs.Coefficients.{coefficient_back, parts_small, denominator_some}
 use Rattle.plain_texts.proofs.Spelled.{IsLeft, place, later, bytes_there, Spells, spells_blank, spells_word, spells_number, spells_mark}
 
@@ -107,72 +107,72 @@ module _ (text : List ℕ) (kind : Kind) (gs : List Generator) (field : IsField 
   fine_both xs ys h k = (first_place-both (unknown_in scope) xs ys h.0 k.0, first_place-both (zero_in kind) xs ys h.1 k.1)
 
   -- a part of the text spells a factor, a term after its sign, further terms, or a sum, whose tree is t
-  record Factored (held : ℕ) (rest : List ℕ) (symbols : List Symbol) (t : Tree Num) : Type 0 where
+  record Factored (held : ℕ) (rest : List ℕ) (terminals : List Terminal) (t : Tree Num) : Type 0 where
     factor : Factor
-    spells : Spells text held rest (spell_factor factor symbols)
+    spells : Spells text held rest (spell_factor factor terminals)
     value : plain (factor_of scope factor) ≡ t
     fine : AreFine (events_factor factor)
 
-  record Termed (held : ℕ) (rest : List ℕ) (symbols : List Symbol) (t : Tree Num) : Type 0 where
+  record Termed (held : ℕ) (rest : List ℕ) (terminals : List Terminal) (t : Tree Num) : Type 0 where
     scale : Scale
     factor : Factor
-    spells : Spells text held rest (spell_scale scale (spell_factor factor symbols))
+    spells : Spells text held rest (spell_scale scale (spell_factor factor terminals))
     value : plain (term_of scope (begins_below t) scale (factor_of scope factor)) ≡ t
     scale_fine : AreFine (events_scale scale)
     fine : AreFine (events_factor factor)
 
-  record Furthered (held : ℕ) (rest : List ℕ) (symbols : List Symbol) (es : Trees Num) : Type 0 where
+  record Furthered (held : ℕ) (rest : List ℕ) (terminals : List Terminal) (es : Trees Num) : Type 0 where
     terms : Terms
-    spells : Spells text held rest (spell_terms terms symbols)
+    spells : Spells text held rest (spell_terms terms terminals)
     value : trees (map plain (further_of scope terms)) ≡ es
     fine : AreFine (events_terms terms)
 
-  pub record Summed (held : ℕ) (rest : List ℕ) (symbols : List Symbol) (t : Tree Num) : Type 0 where
+  pub record Summed (held : ℕ) (rest : List ℕ) (terminals : List Terminal) (t : Tree Num) : Type 0 where
     pub tree : Sum
-    pub spells : Spells text held rest (spell_sum tree symbols)
+    pub spells : Spells text held rest (spell_sum tree terminals)
     pub value : plain (expression_of scope tree) ≡ t
     pub fine : AreFine (events_sum tree)
 
   -- what stands before such a part, and what comes after it
-  abbrev Leads : (List ℕ → List Symbol → Type 0) → (deepest held : ℕ) → List ℕ → Type 0
-  Leads Part deepest held t = (after : List ℕ) (symbols : List Symbol) → held + deepest ≤ 64 → Stops is_word_byte after → IsLeft text (t ++ after) → Spells text held after symbols → Part (t ++ after) symbols
+  abbrev Leads : (List ℕ → List Terminal → Type 0) → (deepest held : ℕ) → List ℕ → Type 0
+  Leads Part deepest held t = (after : List ℕ) (terminals : List Terminal) → held + deepest ≤ 64 → Stops is_word_byte after → IsLeft text (t ++ after) → Spells text held after terminals → Part (t ++ after) terminals
 
   abbrev ns : List (List ℕ)
   ns = names gs
 
   abbrev AsFactor : Tree Num → (deepest held : ℕ) → List ℕ → Type 0
-  AsFactor t deepest held bytes = Leads (λ rest symbols. Factored held rest symbols t) deepest held bytes
+  AsFactor t deepest held bytes = Leads (λ rest terminals. Factored held rest terminals t) deepest held bytes
 
   abbrev AsTerm : Tree Num → (deepest held : ℕ) → List ℕ → Type 0
-  AsTerm t deepest held bytes = Leads (λ rest symbols. Termed held rest symbols t) deepest held bytes
+  AsTerm t deepest held bytes = Leads (λ rest terminals. Termed held rest terminals t) deepest held bytes
 
   abbrev AsTerms : Trees Num → (deepest held : ℕ) → List ℕ → Type 0
-  AsTerms es deepest held bytes = Leads (λ rest symbols. Furthered held rest symbols es) deepest held bytes
+  AsTerms es deepest held bytes = Leads (λ rest terminals. Furthered held rest terminals es) deepest held bytes
 
   abbrev pub AsSum : Tree Num → (deepest held : ℕ) → List ℕ → Type 0
-  AsSum t deepest held bytes = Leads (λ rest symbols. Summed held rest symbols t) deepest held bytes
+  AsSum t deepest held bytes = Leads (λ rest terminals. Summed held rest terminals t) deepest held bytes
 
   -- signs
 
-  spells_lead : (held : ℕ) (b : Bool) (rest : List ℕ) (symbols : List Symbol) → held ≤ 64 → IsLeft text (sign_text true b ++ rest) → Spells text held rest symbols → Spells text held (sign_text true b ++ rest) (spell_lead false b symbols)
-  spells_lead held true rest symbols depth e s = spells_mark text held held 45 rest symbols refl refl depth e s
-  spells_lead held false rest symbols depth e s = s
+  spells_lead : (held : ℕ) (b : Bool) (rest : List ℕ) (terminals : List Terminal) → held ≤ 64 → IsLeft text (sign_text true b ++ rest) → Spells text held rest terminals → Spells text held (sign_text true b ++ rest) (spell_lead false b terminals)
+  spells_lead held true rest terminals depth e s = spells_mark text held held 45 rest terminals refl refl depth e s
+  spells_lead held false rest terminals depth e s = s
 
-  spells_sign : (held : ℕ) (b : Bool) (rest : List ℕ) (symbols : List Symbol) → held ≤ 64 → IsLeft text (sign_text false b ++ rest) → Spells text held rest symbols → Spells text held (sign_text false b ++ rest) (sign_of b ∷ symbols)
-  spells_sign held true rest symbols depth e s =
+  spells_sign : (held : ℕ) (b : Bool) (rest : List ℕ) (terminals : List Terminal) → held ≤ 64 → IsLeft text (sign_text false b ++ rest) → Spells text held rest terminals → Spells text held (sign_text false b ++ rest) (sign_of b ∷ terminals)
+  spells_sign held true rest terminals depth e s =
       let e1 = later text (32 ∷ []) (45 ∷ 32 ∷ rest) e in
       let e2 = later text (45 ∷ []) (32 ∷ rest) e1 in
-      spells_blank text held 32 (45 ∷ 32 ∷ rest) _ refl e (spells_mark text held held 45 (32 ∷ rest) symbols refl refl depth e1 (spells_blank text held 32 rest symbols refl e2 s))
-  spells_sign held false rest symbols depth e s =
+      spells_blank text held 32 (45 ∷ 32 ∷ rest) _ refl e (spells_mark text held held 45 (32 ∷ rest) terminals refl refl depth e1 (spells_blank text held 32 rest terminals refl e2 s))
+  spells_sign held false rest terminals depth e s =
       let e1 = later text (32 ∷ []) (43 ∷ 32 ∷ rest) e in
       let e2 = later text (43 ∷ []) (32 ∷ rest) e1 in
-      spells_blank text held 32 (43 ∷ 32 ∷ rest) _ refl e (spells_mark text held held 43 (32 ∷ rest) symbols refl refl depth e1 (spells_blank text held 32 rest symbols refl e2 s))
+      spells_blank text held 32 (43 ∷ 32 ∷ rest) _ refl e (spells_mark text held held 43 (32 ∷ rest) terminals refl refl depth e1 (spells_blank text held 32 rest terminals refl e2 s))
 
   -- a sum of one term
-  single : (held : ℕ) (t : Tree Num) (rest : List ℕ) (symbols : List Symbol) → held ≤ 64 → IsLeft text (sign_text true (begins_below t) ++ rest) → Termed held rest symbols t → Summed held (sign_text true (begins_below t) ++ rest) symbols t
-  single held t rest symbols depth e u = record {
+  single : (held : ℕ) (t : Tree Num) (rest : List ℕ) (terminals : List Terminal) → held ≤ 64 → IsLeft text (sign_text true (begins_below t) ++ rest) → Termed held rest terminals t → Summed held (sign_text true (begins_below t) ++ rest) terminals t
+  single held t rest terminals depth e u = record {
     tree = sum false (term (begins_below t) u.scale u.factor) end;
-    spells = spells_lead held (begins_below t) rest (spell_scale u.scale (spell_factor u.factor symbols)) depth e u.spells;
+    spells = spells_lead held (begins_below t) rest (spell_scale u.scale (spell_factor u.factor terminals)) depth e u.spells;
     value = u.value;
     fine = fine_both (events_scale u.scale) (events_factor u.factor ++ []) u.scale_fine (fine_both (events_factor u.factor) [] u.fine (refl, refl));
   }
@@ -184,7 +184,7 @@ module _ (text : List ℕ) (kind : Kind) (gs : List Generator) (field : IsField 
   known_place false place e = refl
 
   factor_name : (held g : ℕ) → 1 ≤ g → g ≤ length gs → AsFactor (gen g) 0 held (get_or ns (g - 1) [])
-  factor_name held g l m after symbols depth stops e s =
+  factor_name held g l m after terminals depth stops e s =
       let w = get_or ns (g - 1) [] in
       let is = name_there gs named (g - 1) (omega arith) in
       let at = place text (w ++ after) in
@@ -192,24 +192,24 @@ module _ (text : List ℕ) (kind : Kind) (gs : List Generator) (field : IsField 
       ap (number_from 1 gs) (bytes_there text w after e) ∙ number_there 1 gs (g - 1) distinct (omega arith) ∙ (let same : 1 + (g - 1) ≡ g = omega arith in same) in
       record {
         factor = name (record { start = at; end = at + length w; rationals = bytes_eq w (codes "Q") });
-        spells = subst (λ x. Spells text held (w ++ after) (x ∷ symbols)) (name_symbol w at (at + length w) is.free) (spells_word text held w after symbols is.spelled is.short stops (omega arith) e s);
+        spells = subst (λ x. Spells text held (w ++ after) (x ∷ terminals)) (name_terminal w at (at + length w) is.free) (spells_word text held w after terminals is.spelled is.short stops (omega arith) e s);
         value = plain-Gen _ ∙ ap gen number;
         fine = (known_place _ at (ap (λ k. k == 0) number ∙ ne_eqb g 0 (λ none. absurd (omega arith))), refl);
       }
 
   factor_zero : (held : ℕ) → AsFactor none 0 held (codes "0")
-  factor_zero held after symbols depth stops e s = record {
+  factor_zero held after terminals depth stops e s = record {
     factor = nought (place text (48 ∷ after));
     spells =
-        subst (λ ds. Spells text held (ds ++ after) (mark.Number (record { place = place text (ds ++ after); value = 0 }) ∷ symbols)) zero_text
-        (spells_number text held 0 after symbols (omega arith) (digit_stops after stops) (omega arith) (subst (λ ds. IsLeft text (ds ++ after)) (sym zero_text) e) s);
+        subst (λ ds. Spells text held (ds ++ after) (mark.Number (record { place = place text (ds ++ after); value = 0 }) ∷ terminals)) zero_text
+        (spells_number text held 0 after terminals (omega arith) (digit_stops after stops) (omega arith) (subst (λ ds. IsLeft text (ds ++ after)) (sym zero_text) e) s);
     value = plain-Zero;
     fine = (refl, refl);
   }
 
   factor_bracket : (held : ℕ) (a b : Tree Num) → AsSum a (deep a) (held + 1) (expression_text ns Alone a) → AsSum b (deep b) (held + 1) (expression_text ns Alone b)
       → AsFactor (bracket_of a b) (max (deep a) (deep b) + 1) held (codes "[" ++ expression_text ns Alone a ++ codes "," ++ expression_text ns Alone b ++ codes "]")
-  factor_bracket held a b first second after symbols depth stops e s =
+  factor_bracket held a b first second after terminals depth stops e s =
       let A = expression_text ns Alone a in
       let B = expression_text ns Alone b in
       let shape = bracket_shape A B after in
@@ -218,38 +218,38 @@ module _ (text : List ℕ) (kind : Kind) (gs : List Generator) (field : IsField 
       let e2 = later text A (44 ∷ (B ++ (93 ∷ after))) e1 in
       let e3 = later text (44 ∷ []) (B ++ (93 ∷ after)) e2 in
       let e4 = later text B (93 ∷ after) e3 in
-      let closed = spells_mark text (held + 1) held 93 after symbols refl (omega arith) (omega arith) e4 s in
-      let right = second (93 ∷ after) (mark.CloseBracket ∷ symbols) (omega arith) refl e3 closed in
+      let closed = spells_mark text (held + 1) held 93 after terminals refl (omega arith) (omega arith) e4 s in
+      let right = second (93 ∷ after) (mark.CloseBracket ∷ terminals) (omega arith) refl e3 closed in
       let comma = spells_mark text (held + 1) (held + 1) 44 (B ++ (93 ∷ after)) _ refl (omega arith) (omega arith) e2 right.spells in
-      let left = first (44 ∷ (B ++ (93 ∷ after))) (mark.Comma ∷ spell_sum right.tree (mark.CloseBracket ∷ symbols)) (omega arith) refl e1 comma in
+      let left = first (44 ∷ (B ++ (93 ∷ after))) (mark.Comma ∷ spell_sum right.tree (mark.CloseBracket ∷ terminals)) (omega arith) refl e1 comma in
       let opened = spells_mark text held (held + 1) 91 (A ++ (44 ∷ (B ++ (93 ∷ after)))) _ refl (omega arith) (omega arith) e0 left.spells in
       record {
         factor = bracket left.tree right.tree;
-        spells = subst (λ r. Spells text held r (mark.OpenBracket ∷ spell_sum left.tree (mark.Comma ∷ spell_sum right.tree (mark.CloseBracket ∷ symbols)))) (sym shape) opened;
+        spells = subst (λ r. Spells text held r (mark.OpenBracket ∷ spell_sum left.tree (mark.Comma ∷ spell_sum right.tree (mark.CloseBracket ∷ terminals)))) (sym shape) opened;
         value = plain-Br _ _ ∙ ap₂ bracket_of left.value right.value;
         fine = fine_both (events_sum left.tree) (events_sum right.tree) left.fine right.fine;
       }
 
   factor_group : (held deepest : ℕ) (t : Tree Num) (inner : List ℕ) → AsSum t deepest (held + 1) inner → AsFactor t (deepest + 1) held (codes "(" ++ inner ++ codes ")")
-  factor_group held deepest t inner sum_in after symbols depth stops e s =
+  factor_group held deepest t inner sum_in after terminals depth stops e s =
       let shape = group_shape inner after in
       let e0 : IsLeft text (40 ∷ (inner ++ (41 ∷ after))) = subst (IsLeft text) shape e in
       let e1 = later text (40 ∷ []) (inner ++ (41 ∷ after)) e0 in
       let e2 = later text inner (41 ∷ after) e1 in
-      let closed = spells_mark text (held + 1) held 41 after symbols refl (omega arith) (omega arith) e2 s in
-      let within = sum_in (41 ∷ after) (mark.CloseGroup ∷ symbols) (omega arith) refl e1 closed in
+      let closed = spells_mark text (held + 1) held 41 after terminals refl (omega arith) (omega arith) e2 s in
+      let within = sum_in (41 ∷ after) (mark.CloseGroup ∷ terminals) (omega arith) refl e1 closed in
       let opened = spells_mark text held (held + 1) 40 (inner ++ (41 ∷ after)) _ refl (omega arith) (omega arith) e0 within.spells in
       record {
         factor = group within.tree;
-        spells = subst (λ r. Spells text held r (mark.OpenGroup ∷ spell_sum within.tree (mark.CloseGroup ∷ symbols))) (sym shape) opened;
+        spells = subst (λ r. Spells text held r (mark.OpenGroup ∷ spell_sum within.tree (mark.CloseGroup ∷ terminals))) (sym shape) opened;
         value = within.value;
         fine = within.fine;
       }
 
   -- terms
 
-  term_of_factor : (held : ℕ) (rest : List ℕ) (symbols : List Symbol) (t : Tree Num) → begins_below t ≡ false → Factored held rest symbols t → Termed held rest symbols t
-  term_of_factor held rest symbols t above f = record {
+  term_of_factor : (held : ℕ) (rest : List ℕ) (terminals : List Terminal) (t : Tree Num) → begins_below t ≡ false → Factored held rest terminals t → Termed held rest terminals t
+  term_of_factor held rest terminals t above f = record {
     scale = One;
     factor = f.factor;
     spells = f.spells;
@@ -265,16 +265,16 @@ module _ (text : List ℕ) (kind : Kind) (gs : List Generator) (field : IsField 
     abbrev d : ℕ
     d = unsigned_abs c.denominator
 
-    small : (n ≤ W) × (d ≤ W)
+    small : (n ≤ most_value) × (d ≤ most_value)
     small = parts_small kind c field element
 
-    term_if : (t : Bool) (after : List ℕ) (symbols : List Symbol) → nat_eq d 1 ≡ t → held + deep_factor e ≤ 64 → Stops is_word_byte after
-        → IsLeft text (decimal n ++ ((if t then [] else codes "/" ++ decimal d) ++ (42 ∷ (f ++ after)))) → Spells text held after symbols
-        → Termed held (decimal n ++ ((if t then [] else codes "/" ++ decimal d) ++ (42 ∷ (f ++ after)))) symbols (multiple c e)
-    term_if true after symbols whole depth stops e0 s =
+    term_if : (t : Bool) (after : List ℕ) (terminals : List Terminal) → nat_eq d 1 ≡ t → held + deep_factor e ≤ 64 → Stops is_word_byte after
+        → IsLeft text (decimal n ++ ((if t then [] else codes "/" ++ decimal d) ++ (42 ∷ (f ++ after)))) → Spells text held after terminals
+        → Termed held (decimal n ++ ((if t then [] else codes "/" ++ decimal d) ++ (42 ∷ (f ++ after)))) terminals (multiple c e)
+    term_if true after terminals whole depth stops e0 s =
         let e1 = later text (decimal n) (42 ∷ (f ++ after)) e0 in
         let e2 = later text (42 ∷ []) (f ++ after) e1 in
-        let b = behind after symbols depth stops e2 s in
+        let b = behind after terminals depth stops e2 s in
         let star = spells_mark text held held 42 (f ++ after) _ refl (omega arith) (omega arith) e1 b.spells in
         let number = spells_number text held n (42 ∷ (f ++ after)) _ small.0 refl (omega arith) e0 star in
         let back : coefficient_of kind (is_below_nought c) n 1 ≡ c = ap (coefficient_of kind (is_below_nought c) n) (sym (eqb-true d 1 whole)) ∙ coefficient_back kind c field element in
@@ -286,12 +286,12 @@ module _ (text : List ℕ) (kind : Kind) (gs : List Generator) (field : IsField 
           scale_fine = (refl, refl);
           fine = b.fine;
         }
-    term_if false after symbols part depth stops e0 s =
+    term_if false after terminals part depth stops e0 s =
         let e1 = later text (decimal n) (47 ∷ (decimal d ++ (42 ∷ (f ++ after)))) e0 in
         let e2 = later text (47 ∷ []) (decimal d ++ (42 ∷ (f ++ after))) e1 in
         let e3 = later text (decimal d) (42 ∷ (f ++ after)) e2 in
         let e4 = later text (42 ∷ []) (f ++ after) e3 in
-        let b = behind after symbols depth stops e4 s in
+        let b = behind after terminals depth stops e4 s in
         let star = spells_mark text held held 42 (f ++ after) _ refl (omega arith) (omega arith) e3 b.spells in
         let below = spells_number text held d (42 ∷ (f ++ after)) _ small.1 refl (omega arith) e2 star in
         let slash = spells_mark text held held 47 (decimal d ++ (42 ∷ (f ++ after))) _ refl (omega arith) (omega arith) e1 below in
@@ -306,20 +306,20 @@ module _ (text : List ℕ) (kind : Kind) (gs : List Generator) (field : IsField 
         }
 
     -- a multiple after its sign, where a sign stands before it
-    term_after : (sign after : List ℕ) (symbols : List Symbol) → held + deep_factor e ≤ 64 → Stops is_word_byte after → IsLeft text (sign ++ (decimal n ++ (below_text d ++ (42 ∷ (f ++ after))))) → Spells text held after symbols
-        → Termed held (decimal n ++ (below_text d ++ (42 ∷ (f ++ after)))) symbols (multiple c e)
-    term_after sign after symbols depth stops e0 s = term_if (nat_eq d 1) after symbols refl depth stops (later text sign _ e0) s
+    term_after : (sign after : List ℕ) (terminals : List Terminal) → held + deep_factor e ≤ 64 → Stops is_word_byte after → IsLeft text (sign ++ (decimal n ++ (below_text d ++ (42 ∷ (f ++ after))))) → Spells text held after terminals
+        → Termed held (decimal n ++ (below_text d ++ (42 ∷ (f ++ after)))) terminals (multiple c e)
+    term_after sign after terminals depth stops e0 s = term_if (nat_eq d 1) after terminals refl depth stops (later text sign _ e0) s
 
     term_multiple : AsTerm (multiple c e) (deep_factor e) held (magnitude_text c ++ codes "*" ++ f)
-    term_multiple after symbols depth stops e0 s =
+    term_multiple after terminals depth stops e0 s =
         let shape = times_shape [] (decimal n) (below_text d) f after in
-        subst (λ r. Termed held r symbols (multiple c e)) (sym shape) (term_after [] after symbols depth stops (subst (IsLeft text) shape e0) s)
+        subst (λ r. Termed held r terminals (multiple c e)) (sym shape) (term_after [] after terminals depth stops (subst (IsLeft text) shape e0) s)
 
     sum_multiple : AsSum (multiple c e) (deep_factor e) held (sign_text true (is_below_nought c) ++ magnitude_text c ++ codes "*" ++ f)
-    sum_multiple after symbols depth stops e0 s =
+    sum_multiple after terminals depth stops e0 s =
         let shape = times_shape (sign_text true (is_below_nought c)) (decimal n) (below_text d) f after in
         let e1 : IsLeft text (sign_text true (is_below_nought c) ++ (decimal n ++ (below_text d ++ (42 ∷ (f ++ after))))) = subst (IsLeft text) shape e0 in
-        subst (λ r. Summed held r symbols (multiple c e)) (sym shape) (single held (multiple c e) _ symbols (omega arith) e1 (term_after (sign_text true (is_below_nought c)) after symbols depth stops e1 s))
+        subst (λ r. Summed held r terminals (multiple c e)) (sym shape) (single held (multiple c e) _ terminals (omega arith) e1 (term_after (sign_text true (is_below_nought c)) after terminals depth stops e1 s))
 
   -- sums
 
@@ -333,7 +333,7 @@ module _ (text : List ℕ) (kind : Kind) (gs : List Generator) (field : IsField 
 
   further_member : (held : ℕ) (e : Tree Num) (es : Trees Num) → AsTerm e (deep_member e) held (expression_text ns Member e) → AsTerms es (deep_members es) held (sum_text ns false es)
       → AsTerms (more e es) (max (deep_member e) (deep_members es)) held (sum_text ns false (more e es))
-  further_member held e es member rest_of after symbols depth stops left s =
+  further_member held e es member rest_of after terminals depth stops left s =
       let b = begins_below e in
       let E = expression_text ns Member e in
       let R = sum_text ns false es in
@@ -341,18 +341,18 @@ module _ (text : List ℕ) (kind : Kind) (gs : List Generator) (field : IsField 
       let e0 : IsLeft text (sign_text false b ++ (E ++ (R ++ after))) = subst (IsLeft text) shape left in
       let e1 = later text (sign_text false b) (E ++ (R ++ after)) e0 in
       let e2 = later text E (R ++ after) e1 in
-      let r = rest_of after symbols (omega arith) stops e2 s in
-      let m = member (R ++ after) (spell_terms r.terms symbols) (omega arith) (further_stops es after stops) e1 r.spells in
+      let r = rest_of after terminals (omega arith) stops e2 s in
+      let m = member (R ++ after) (spell_terms r.terms terminals) (omega arith) (further_stops es after stops) e1 r.spells in
       record {
         terms = further (term b m.scale m.factor) r.terms;
-        spells = subst (λ t. Spells text held t (sign_of b ∷ spell_scale m.scale (spell_factor m.factor (spell_terms r.terms symbols)))) (sym shape) (spells_sign held b (E ++ (R ++ after)) _ (omega arith) e0 m.spells);
+        spells = subst (λ t. Spells text held t (sign_of b ∷ spell_scale m.scale (spell_factor m.factor (spell_terms r.terms terminals)))) (sym shape) (spells_sign held b (E ++ (R ++ after)) _ (omega arith) e0 m.spells);
         value = ap₂ more m.value r.value;
         fine = fine_both (events_scale m.scale) (events_factor m.factor ++ events_terms r.terms) m.scale_fine (fine_both (events_factor m.factor) (events_terms r.terms) m.fine r.fine);
       }
 
   sum_members : (held : ℕ) (e : Tree Num) (es : Trees Num) → 2 ≤ many (more e es) → AsTerm e (deep_member e) held (expression_text ns Member e) → AsTerms es (deep_members es) held (sum_text ns false es)
       → AsSum (sum_of (more e es)) (max (deep_member e) (deep_members es)) held (sum_text ns true (more e es))
-  sum_members held e es two member rest_of after symbols depth stops left s =
+  sum_members held e es two member rest_of after terminals depth stops left s =
       let b = begins_below e in
       let E = expression_text ns Member e in
       let R = sum_text ns false es in
@@ -360,27 +360,27 @@ module _ (text : List ℕ) (kind : Kind) (gs : List Generator) (field : IsField 
       let e0 : IsLeft text (sign_text true b ++ (E ++ (R ++ after))) = subst (IsLeft text) shape left in
       let e1 = later text (sign_text true b) (E ++ (R ++ after)) e0 in
       let e2 = later text E (R ++ after) e1 in
-      let r = rest_of after symbols (omega arith) stops e2 s in
-      let m = member (R ++ after) (spell_terms r.terms symbols) (omega arith) (further_stops es after stops) e1 r.spells in
+      let r = rest_of after terminals (omega arith) stops e2 s in
+      let m = member (R ++ after) (spell_terms r.terms terminals) (omega arith) (further_stops es after stops) e1 r.spells in
       record {
         tree = sum false (term b m.scale m.factor) r.terms;
-        spells = subst (λ t. Spells text held t (spell_lead false b (spell_scale m.scale (spell_factor m.factor (spell_terms r.terms symbols))))) (sym shape) (spells_lead held b (E ++ (R ++ after)) _ (omega arith) e0 m.spells);
+        spells = subst (λ t. Spells text held t (spell_lead false b (spell_scale m.scale (spell_factor m.factor (spell_terms r.terms terminals))))) (sym shape) (spells_lead held b (E ++ (R ++ after)) _ (omega arith) e0 m.spells);
         value = total_more (term_of scope b m.scale (factor_of scope m.factor)) (further_of scope r.terms) es (omega arith) r.value ∙ ap (λ x. sum_of (more x es)) m.value;
         fine = fine_both (events_scale m.scale) (events_factor m.factor ++ events_terms r.terms) m.scale_fine (fine_both (events_factor m.factor) (events_terms r.terms) m.fine r.fine);
       }
 
   -- a factor alone, and as a member of a sum
   alone : (t : Tree Num) (deepest held : ℕ) (bytes : List ℕ) → begins_below t ≡ false → AsFactor t deepest held bytes → AsSum t deepest held bytes
-  alone t deepest held bytes above f after symbols depth stops left s =
+  alone t deepest held bytes above f after terminals depth stops left s =
       let none_before = ap (λ b. sign_text true b ++ (bytes ++ after)) above in
-      subst (λ r. Summed held r symbols t) none_before
-      (single held t (bytes ++ after) symbols (omega arith) (subst (IsLeft text) (sym none_before) left) (term_of_factor held (bytes ++ after) symbols t above (f after symbols depth stops left s)))
+      subst (λ r. Summed held r terminals t) none_before
+      (single held t (bytes ++ after) terminals (omega arith) (subst (IsLeft text) (sym none_before) left) (term_of_factor held (bytes ++ after) terminals t above (f after terminals depth stops left s)))
 
   as_member : (t : Tree Num) (deepest held : ℕ) (bytes : List ℕ) → begins_below t ≡ false → AsFactor t deepest held bytes → AsTerm t deepest held bytes
-  as_member t deepest held bytes above f after symbols depth stops left s = term_of_factor held (bytes ++ after) symbols t above (f after symbols depth stops left s)
+  as_member t deepest held bytes above f after terminals depth stops left s = term_of_factor held (bytes ++ after) terminals t above (f after terminals depth stops left s)
 
   terms_none : (held : ℕ) → AsTerms last 0 held []
-  terms_none held after symbols depth stops left s = record { terms = end; spells = s; value = refl; fine = (refl, refl) }
+  terms_none held after terminals depth stops left s = record { terms = end; spells = s; value = refl; fine = (refl, refl) }
 
   -- an expression wherever it stands
   mutual

@@ -10,6 +10,7 @@ returns-then-count-max-clause-too_long g c = λ _. record {
   gives = gives_more _ _ _ _ _ c.reading.invariant.gives c.in-Read.ensures.bytes.2;
   below = grind (arith, common_steps, c.reading.invariant.short, c.reading.all.ok.0);
   passed = grind (arith, common_steps, c.in-Read.ensures, c.reading.all.ok.0, c.len.ensures);
+  last = grind (arith, common_steps, c.in-Read.ensures);
 }
 
 pub returns-then-is_err-clause-memory_lost : goal.returns-then-is_err-clause-memory_lost

@@ -6,10 +6,10 @@ use Rattle.std.proofs.lemmas.Bool.{false_from_ne_true}
 use Rattle.std.proofs.lemmas.Slice.Eq.{bytes_eq-Decides}
 use Rattle.fpl_alphabet.specs.Bytes.{reserved}
 use Rattle.fpl_model.specs.declared.presentation.Generator.{Generator}
-use Rattle.fpl_syntax.specs.declared.symbol.Symbol.{Symbol}
-use Rattle.fpl_syntax.specs.declared.symbol.Symbol.TheVariants as symbol
+use Rattle.fpl_syntax.specs.declared.terminal.Terminal.{Terminal}
+use Rattle.fpl_syntax.specs.declared.terminal.Terminal.TheVariants as terminal
 use Rattle.fpl_syntax.specs.Sight.{number_from}
-use Rattle.fpl_reader.specs.Symbols.{word_symbol}
+use Rattle.fpl_reader.specs.Terminals.{word_terminal}
 
 pub differs : (word other : List ℕ) → (other ≡ word → ⊥) → bytes_eq word other ≡ false
 differs word other d = false_from_ne_true (bytes_eq word other) (λ e. d (sym ((bytes_eq-Decides word other).0 e)))
@@ -17,16 +17,16 @@ differs word other d = false_from_ne_true (bytes_eq word other) (λ e. d (sym ((
 pub same_bytes : (word : List ℕ) → bytes_eq word word ≡ true
 same_bytes word = (bytes_eq-Decides word word).1 refl
 
-abbrev name_of_word : List ℕ → ℕ → ℕ → Symbol
-name_of_word word start end = symbol.Name (record { start = start; end = end; rationals = bytes_eq word (codes "Q") })
+abbrev name_of_word : List ℕ → ℕ → ℕ → Terminal
+name_of_word word start end = terminal.Name (record { start = start; end = end; rationals = bytes_eq word (codes "Q") })
 
-step : (t : Bool) (a b c : Symbol) → t ≡ false → b ≡ c → (if t then a else b) ≡ c
+step : (t : Bool) (a b c : Terminal) → t ≡ false → b ≡ c → (if t then a else b) ≡ c
 step true a b c e h = cc
 step false a b c e h = h
 
 -- a word that is not reserved is a name
-pub name_symbol : (word : List ℕ) (start end : ℕ) → (Contains reserved word → ⊥) → word_symbol word start end ≡ symbol.Name (record { start = start; end = end; rationals = bytes_eq word (codes "Q") })
-name_symbol word start end free =
+pub name_terminal : (word : List ℕ) (start end : ℕ) → (Contains reserved word → ⊥) → word_terminal word start end ≡ terminal.Name (record { start = start; end = end; rationals = bytes_eq word (codes "Q") })
+name_terminal word start end free =
     step (bytes_eq word (codes "field")) _ _ _ (differs word (codes "field") (λ e. free (0, omega arith, e)))
     (step (bytes_eq word (codes "even")) _ _ _ (differs word (codes "even") (λ e. free (1, omega arith, e)))
     (step (bytes_eq word (codes "odd")) _ _ _ (differs word (codes "odd") (λ e. free (2, omega arith, e)))

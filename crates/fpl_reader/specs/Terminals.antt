@@ -1,22 +1,22 @@
--- The symbols of a text.
+-- The terminals of a text.
 --
---   word_symbol text t   the symbol of a word: that of a reserved word, or a name
---   mark_symbol b        the symbol of a mark
---   symbol_of text t     the symbol of a token
---   symbols_of text ts   the symbols of tokens
+--   word_terminal text t   the terminal of a word: that of a reserved word, or a name
+--   mark_terminal b        the terminal of a mark
+--   terminal_of text t     the terminal of a token
+--   terminals_of text ts   the terminals of tokens
 use Rattle.std.specs.Prelude.{ℕ, ◌==◌, List, map, codes, if◌then◌else◌}
 use Rattle.std.specs.Str.{bytes_eq}
 use Rattle.fpl_lex.specs.declared.token.Token.{Token}
 use Rattle.fpl_lex.specs.declared.token.TokenKind.{TokenKind}
 use Rattle.fpl_lex.specs.declared.token.TokenKind.TheVariants as kinds
 use Rattle.fpl_model.specs.declared.presentation.Parity.TheVariants.{Even, Odd}
-use Rattle.fpl_syntax.specs.declared.symbol.Symbol.{Symbol}
-use Rattle.fpl_syntax.specs.declared.symbol.Symbol.TheVariants as mark
-use Rattle.fpl_syntax.specs.declared.symbol.ClaimKind.TheVariants as claim
+use Rattle.fpl_syntax.specs.declared.terminal.Terminal.{Terminal}
+use Rattle.fpl_syntax.specs.declared.terminal.Terminal.TheVariants as mark
+use Rattle.fpl_syntax.specs.declared.terminal.ClaimKind.TheVariants as claim
 use Rattle.fpl_syntax.specs.Sight.{word_of}
 
-abbrev pub word_symbol : List ℕ → ℕ → ℕ → Symbol
-word_symbol word start end =
+abbrev pub word_terminal : List ℕ → ℕ → ℕ → Terminal
+word_terminal word start end =
     if bytes_eq word (codes "field") then mark.Field start else
     if bytes_eq word (codes "even") then mark.Declare Even else
     if bytes_eq word (codes "odd") then mark.Declare Odd else
@@ -25,8 +25,8 @@ word_symbol word start end =
     if bytes_eq word (codes "equal") then mark.Claim claim.Equal start else
     mark.Name (record { start = start; end = end; rationals = bytes_eq word (codes "Q") })
 
-abbrev pub mark_symbol : ℕ → Symbol
-mark_symbol b =
+abbrev pub mark_terminal : ℕ → Terminal
+mark_terminal b =
     if b == 59 then mark.Semicolon else
     if b == 44 then mark.Comma else
     if b == 58 then mark.Colon else
@@ -39,13 +39,13 @@ mark_symbol b =
     if b == 93 then mark.CloseBracket else
     if b == 40 then mark.OpenGroup else mark.CloseGroup
 
-abbrev pub kind_symbol : List ℕ → ℕ → ℕ → TokenKind → Symbol
-kind_symbol text start end kinds.Word = word_symbol (word_of text start end) start end
-kind_symbol text start end (kinds.Number n) = mark.Number (record { place = start; value = n })
-kind_symbol text start end (kinds.Mark b) = mark_symbol b
+abbrev pub kind_terminal : List ℕ → ℕ → ℕ → TokenKind → Terminal
+kind_terminal text start end kinds.Word = word_terminal (word_of text start end) start end
+kind_terminal text start end (kinds.Number n) = mark.Number (record { place = start; value = n })
+kind_terminal text start end (kinds.Mark b) = mark_terminal b
 
-unfoldable pub symbol_of : List ℕ → Token → Symbol
-symbol_of text t = kind_symbol text t.start t.end t.kind
+unfoldable pub terminal_of : List ℕ → Token → Terminal
+terminal_of text t = kind_terminal text t.start t.end t.kind
 
-abbrev pub symbols_of : List ℕ → List Token → List Symbol
-symbols_of text ts = map (symbol_of text) ts
+abbrev pub terminals_of : List ℕ → List Token → List Terminal
+terminals_of text ts = map (terminal_of text) ts

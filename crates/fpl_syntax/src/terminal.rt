@@ -29,7 +29,7 @@ pub enum ClaimKind {
 
 /// A token as the grammar sees it. A reserved word that begins a field statement or a claim has its place.
 #[derive(Clone, Copy, Debug, PartialEq, Eq)]
-pub enum Symbol {
+pub enum Terminal {
     Field(usize),
     Declare(Parity),
     Claim(ClaimKind, usize),
