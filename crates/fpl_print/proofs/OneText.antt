@@ -2,8 +2,8 @@
 use Rattle.std.proofs.Common.{◌≡◌, ℕ, ◌+◌, ◌<◌, ◌≤◌, List, [], ◌∷◌, ◌++◌, Bool, true, if◌then◌else◌, length, get_or, zero, suc, refl, sym, ap, ◌∙◌, arith, cond, codes}
 use Rattle.std.specs.Prelude.{All, filter, count_by, is_some, Some}
 use mathlib.Core.Path.{ap₂}
-use Rattle.std.proofs.lemmas.Grind.{common_steps}
 use Rattle.std.proofs.lemmas.List.Elements.{All-append, All-filter}
+use Rattle.std.proofs.lemmas.List.{get_or_past}
 use Rattle.fpl_numbers.specs.declared.number.Num.{Num}
 use Rattle.fpl_numbers.specs.Numbers.{is_nought, residue}
 use Rattle.fpl_rows.specs.Positions.{lead_of, lead_below}
@@ -11,7 +11,8 @@ use Rattle.math_algebra.specs.Table.{Symbol, of_generator, of_pair}
 use Rattle.math_algebra.specs.Symbols.{symbols_of}
 use Rattle.fpl_table.specs.Plain.{PlainTable, plain_basis, first_partner, image_row, entry_row, table_in, shell_in}
 use Rattle.fpl_print.specs.Combinations.{terms_text, term_or_nothing, none_after}
-use Rattle.fpl_print.specs.TableText.{text_of, basis_name, basis_line, image_line, is_within, symbols_through, has_value, brackets_of, bracket_line, bracket_lines, head_text, count_line, table_text}
+use Rattle.fpl_print.specs.TableText.{text_of, basis_name, basis_line, image_line, is_within, symbols_through, has_value, brackets_of, bracket_line, bracket_lines, head_text, table_text}
+use Rattle.fpl_print.specs.Lines.{count_line}
 use Rattle.fpl_print.proofs.Entries.{IsWithin, symbols_within}
 
 -- rows with the same number at each place
@@ -38,14 +39,11 @@ lead_same_below : (xs ys : List Num) (n : ℕ) → AreSame xs ys → lead_below 
 lead_same_below xs ys zero h = refl
 lead_same_below xs ys (suc n) h = ap₂ (λ c r. if is_nought c then r else Some (suc n)) (h n) (lead_same_below xs ys n h)
 
-past_end : (xs : List Num) (i : ℕ) → length xs ≤ i → get_or xs i (residue 0) ≡ residue 0
-past_end xs i h = grind (arith, common_steps)
-
 lead_past : (xs : List Num) (k : ℕ) → lead_below xs (length xs + k) ≡ lead_of xs
 lead_past xs zero = let e : length xs + zero ≡ length xs = omega arith in ap (lead_below xs) e
 lead_past xs (suc k) =
     let e : length xs + suc k ≡ suc (length xs + k) = omega arith in
-    ap (lead_below xs) e ∙ ap (λ c. if is_nought c then lead_below xs (length xs + k) else Some (suc (length xs + k))) (past_end xs (length xs + k) (omega arith)) ∙ lead_past xs k
+    ap (lead_below xs) e ∙ ap (λ c. if is_nought c then lead_below xs (length xs + k) else Some (suc (length xs + k))) (get_or_past xs (length xs + k) (residue 0) (omega arith)) ∙ lead_past xs k
 
 lead_same : (xs ys : List Num) → AreSame xs ys → lead_of xs ≡ lead_of ys
 lead_same xs ys h =

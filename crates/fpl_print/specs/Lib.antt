@@ -1,2 +1,4 @@
 pub mod Combinations
+pub mod Lines
+pub mod SeriesText
 pub mod TableText

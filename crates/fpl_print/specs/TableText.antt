@@ -9,7 +9,7 @@
 --   has_value: whether a symbol is a pair whose entry isn't 0
 --   brackets_of: the regular pairs through the table's weight whose entry isn't 0, by weight, then in lexicographic order
 --   bracket_line: [bI,bJ] = COMBINATION
---   head_text, count_line: the lines with the field, the weight and the size of the basis; and with another size
+--   head_text: the lines with the field, the weight and the size of the basis
 --   HasElements: the numbers of images and entries are canonical and fit
 --   IsEntry: a symbol of code that is a generator, or a regular pair through the table's weight
 --   table_text: the field and the weight; the basis; the images, by declaration; the brackets
@@ -24,8 +24,9 @@ use Rattle.fpl_table.specs.declared.symbol.Symbol.TheVariants.{Gen, Pair}
 use Rattle.fpl_scalar.specs.Vectors.{AreElements}
 use Rattle.fpl_table.specs.Plain.{PlainTable, plain_basis, first_partner, generator_at, image_row, entry_row, table_in, shell_in}
 use Rattle.fpl_table.specs.Shape.{basis_trees}
-use Rattle.fpl_spelling.specs.Spelling.{field_text, parity_text, name_text}
+use Rattle.fpl_spelling.specs.Spelling.{parity_text, name_text}
 use Rattle.fpl_print.specs.Combinations.{combination_text}
+use Rattle.fpl_print.specs.Lines.{head_line, count_line}
 
 abbrev pub text_of : ℕ → (ℕ → List ℕ) → List ℕ
 text_of zero line = []
@@ -77,10 +78,7 @@ bracket_lines T [] = []
 bracket_lines T (x ∷ xs) = bracket_line T x ++ bracket_lines T xs
 
 abbrev pub head_text : PlainTable → List ℕ
-head_text T = codes "table " ++ field_text T.kind ++ codes " through " ++ decimal T.weight ++ codes "\nbasis " ++ decimal (length T.basis) ++ codes "\n"
-
-abbrev pub count_line : (word : List ℕ) → ℕ → List ℕ
-count_line word n = word ++ decimal n ++ codes "\n"
+head_text T = head_line (codes "table") T.kind T.weight ++ count_line (codes "basis ") (length T.basis)
 
 abbrev pub table_text : (names : List (List ℕ)) → PlainTable → List ℕ
 table_text names T =

@@ -11,13 +11,15 @@ ghost use Rattle.fpl_table.specs.declared.symbol.Symbol.{Symbol};
 ghost use Rattle.fpl_table.specs.Plain.{symbol_in, table_in, shell_in};
 ghost use Rattle.fpl_spelling.specs.Spelling.{names_of};
 ghost use Rattle.fpl_print.specs.Combinations.{combination_text, none_after, term_or_nothing};
-ghost use Rattle.fpl_print.specs.TableText.{HasElements, IsEntry, text_of, tree_text, basis_name, pair_name, basis_line, is_within, image_line, has_value, brackets_of, bracket_line, bracket_lines, head_text, count_line, table_text};
+ghost use Rattle.fpl_print.specs.TableText.{HasElements, IsEntry, text_of, tree_text, basis_name, pair_name, basis_line, is_within, image_line, has_value, brackets_of, bracket_line, bracket_lines, table_text};
+ghost use Rattle.fpl_print.specs.Lines.{count_line};
 
-use crate::combinations::push_coefficient;
+use crate::combinations::{push_basis_name, push_combination, push_pair_name};
+use crate::lines::{push_count, push_head_line};
 use fpl_model::{Generators, Mono, Presentation};
 use fpl_rows::Row;
 use fpl_scalar::Field;
-use fpl_spelling::{push_field, push_name, push_number, push_parity};
+use fpl_spelling::{push_name, push_number, push_parity};
 use fpl_table::{Symbol, Table};
 use std::alloc::{AllocError, Global};
 
@@ -35,14 +37,6 @@ fn push_tree(out: &mut Vec<u8>, generators: &Generators, tree: &Mono) -> Result<
             out.extend_from_slice(b"]")
         }
     }
-}
-
-fn push_basis_name(out: &mut Vec<u8>, i: u32) -> Result<(), AllocError>
-    requires { 1 ≤ i }
-    ensures { OnOk result (out.new.items ≡ out.old.items ++ basis_name (i - 1)) }
-{
-    out.extend_from_slice(b"b")?;
-    push_number(out, i)
 }
 
 fn push_basis_line<F: Field>(
@@ -74,42 +68,6 @@ fn push_basis<F: Field>(
 {
     for i in 0..table.basis_len() {
         push_basis_line(out, p, table, i + 1)?;
-    }
-    Ok(())
-}
-
-// Appends one term of a combination of basis elements, where its number isn't 0, and says whether none stands yet.
-fn push_term<F: Field>(
-    out: &mut Vec<u8>,
-    field: &F,
-    first: bool,
-    c: F::Elem,
-    i: u32,
-) -> Result<bool, AllocError>
-    requires number { 1 ≤ i }
-    requires element { IsElement (F.kind_of field.now) (F.number c) }
-    ensures { IfOk result (λ none_yet. (none_yet ≡ none_after first (F.number c)) × (out.new.items ≡ out.old.items ++ term_or_nothing basis_name first (i - 1) (F.number c))) }
-{
-    if field.is_zero(c) {
-        return Ok(first);
-    }
-    push_coefficient(out, first, field.num(c))?;
-    push_basis_name(out, i)?;
-    Ok(false)
-}
-
-fn push_combination<F: Field>(out: &mut Vec<u8>, field: &F, row: &Row<F>) -> Result<(), AllocError>
-    requires { AreElements (F.kind_of field.now) row.now }
-    ensures { OnOk result (out.new.items ≡ out.old.items ++ combination_text basis_name row.now) }
-{
-    let mut first = true;
-    let mut after = 0;
-    while let Some(s) = row.next(after) {
-        first = push_term(out, field, first, row.at(s), s)?;
-        after = s;
-    }
-    if first {
-        return out.extend_from_slice(b"0");
     }
     Ok(())
 }
@@ -227,17 +185,6 @@ fn brackets_of<F: Field>(alloc: Global, table: &Table<F>) -> Result<Vec<Symbol>,
     Ok(valued)
 }
 
-fn push_pair_name(out: &mut Vec<u8>, i: u32, j: u32) -> Result<(), AllocError>
-    requires { (1 ≤ i) × (1 ≤ j) }
-    ensures { OnOk result (out.new.items ≡ out.old.items ++ pair_name (i - 1) (j - 1)) }
-{
-    out.extend_from_slice(b"[")?;
-    push_basis_name(out, i)?;
-    out.extend_from_slice(b",")?;
-    push_basis_name(out, j)?;
-    out.extend_from_slice(b"]")
-}
-
 fn push_pair_line<F: Field>(
     out: &mut Vec<u8>,
     table: &Table<F>,
@@ -284,31 +231,6 @@ fn push_brackets<F: Field>(
     Ok(())
 }
 
-fn push_head<F: Field>(
-    out: &mut Vec<u8>,
-    p: &Presentation,
-    table: &Table<F>,
-) -> Result<(), AllocError>
-    requires { table.now.kind ≡ p.now.field }
-    ensures { OnOk result (out.new.items ≡ out.old.items ++ head_text table.now) }
-{
-    out.extend_from_slice(b"table ")?;
-    push_field(out, p.field)?;
-    out.extend_from_slice(b" through ")?;
-    push_number(out, table.weight())?;
-    out.extend_from_slice(b"\nbasis ")?;
-    push_number(out, table.basis_len())?;
-    out.extend_from_slice(b"\n")
-}
-
-fn push_count(out: &mut Vec<u8>, word: &[u8], count: u64) -> Result<(), AllocError>
-    ensures { OnOk result (out.new.items ≡ out.old.items ++ count_line word.now count) }
-{
-    out.extend_from_slice(word)?;
-    push_number(out, count)?;
-    out.extend_from_slice(b"\n")
-}
-
 // How many generators are within the table's weight.
 fn images_count<F: Field>(p: &Presentation, table: &Table<F>) -> usize
     requires { table.now.generators ≡ generators_in p.now }
@@ -326,7 +248,7 @@ fn push_bracket_part<F: Field>(
     ensures { OnOk result (out.new.items ≡ out.old.items ++ (count_line (codes "brackets ") (length (brackets_of table.now)) ++ bracket_lines table.now (brackets_of table.now))) }
 {
     let valued = brackets_of(alloc, table)?;
-    push_count(out, b"brackets ", valued.len() as u64)?;
+    push_count(out, b"brackets ", valued.len())?;
     push_brackets(out, table, &valued)
 }
 
@@ -344,9 +266,10 @@ pub fn table_text<F: Field>(
     ensures { IfOk result (λ text. text.items ≡ table_text (names_of p.now) table.now) }
 {
     let mut out = Vec::new(alloc);
-    push_head(&mut out, p, table)?;
+    push_head_line(&mut out, b"table", p.field, table.weight())?;
+    push_count(&mut out, b"basis ", table.basis_len() as usize)?;
     push_basis(&mut out, p, table)?;
-    push_count(&mut out, b"images ", images_count(p, table) as u64)?;
+    push_count(&mut out, b"images ", images_count(p, table))?;
     push_images(&mut out, p, table)?;
     push_bracket_part(alloc, &mut out, table)?;
     out.extend_from_slice(b"end\n")?;

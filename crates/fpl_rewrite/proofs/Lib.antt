@@ -1,9 +1,7 @@
 pub mod Cubes
 pub mod Listed
-pub mod Nought
 pub mod Onward
 pub mod Relations
 pub mod Thirds
 pub mod TriplesInOrder
-pub mod Spreading
 pub mod SymbolCounts

@@ -2,7 +2,7 @@
 use Rattle.std.proofs.Common.{◌≡◌, ◌<◌, ◌≤◌, ◌+◌, ◌-◌, ℕ, zero, suc, List, [], ◌++◌, refl, sym, ap, ◌∙◌, ◌⊎◌, inl, inr, append_assoc, arith}
 use Rattle.std.proofs.lemmas.Bool.{cases_order}
 use Rattle.std.proofs.lemmas.List.{append-nil}
-use Rattle.fpl_rewrite.specs.Origins.{joined}
+use Rattle.math_linear.specs.Lists.{joined}
 use Rattle.fpl_rewrite.specs.Triples.{onward, from_to}
 
 pub below_or_not : (a b : ℕ) → (a < b) ⊎ (b ≤ a)

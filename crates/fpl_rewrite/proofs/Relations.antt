@@ -17,7 +17,8 @@ use Rattle.fpl_log.specs.declared.step.Origin.TheVariants.{Relation}
 use Rattle.fpl_table.specs.Plain.{PlainTable}
 use Rattle.fpl_table.specs.Shape.{Agrees}
 use Rattle.fpl_rewrite.specs.Rows.{has_weight, counts, relation_row_of, equation_row}
-use Rattle.fpl_rewrite.specs.Origins.{relation_weight, relations_from, is_exactly}
+use Rattle.fpl_model.specs.Degrees.{is_exactly}
+use Rattle.fpl_rewrite.specs.Origins.{relation_weight, relations_from}
 
 -- weights are those of the generators, whatever the numbers
 mutual

@@ -5,7 +5,8 @@ use Rattle.std.proofs.lemmas.Bool.Decides.{nat_tests}
 use Rattle.fpl_log.specs.declared.step.Origin.{Origin}
 use Rattle.fpl_table.specs.Plain.{PlainTable, plain_basis, through}
 use Rattle.fpl_table.specs.Shape.{HasShape}
-use Rattle.fpl_rewrite.specs.Origins.{joined, triples_of}
+use Rattle.math_linear.specs.Lists.{joined}
+use Rattle.fpl_rewrite.specs.Origins.{triples_of}
 use Rattle.fpl_rewrite.specs.Triples.{from_to, triple_at, thirds_from, seconds_from, firsts_from}
 use Rattle.fpl_rewrite.proofs.Onward.{below_or_not, from_to_step, from_to_end, from_to_skip, from_to_none, from_to_same, joined_is}
 use Rattle.fpl_rewrite.proofs.Thirds.{triple_none, thirds_none, heavy_past}

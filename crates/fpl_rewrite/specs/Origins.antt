@@ -1,6 +1,5 @@
 -- The origins of the weight after a table's, in their order.
 --
---   joined n f             the lists f 0, .., f (n - 1), one after the other
 --   relation_weight T q    the weight of an equation, its two sides taken as one sum
 --   relations_of T p       the relations of the weight, in order
 --   triples_of T           the triples i <= j <= k of basis elements whose weights sum to it, in lexicographic order
@@ -8,29 +7,22 @@
 --   origins_of T p         all of them, in this order
 --
 -- Relations and basis elements are numbered from 1 in origins, and from 0 elsewhere here.
-use Rattle.std.specs.Prelude.{ℕ, zero, suc, ◌+◌, ◌*◌, List, [], ◌∷◌, ◌++◌, length, cond, Bool, false, nat_eq, nat_le, ◌&&◌}
+use Rattle.std.specs.Prelude.{ℕ, suc, ◌+◌, ◌*◌, List, [], ◌∷◌, ◌++◌, length, cond, Bool, false, nat_eq, nat_le, ◌&&◌}
+use Rattle.math_linear.specs.Lists.{joined}
 use Rattle.fpl_numbers.specs.declared.number.Kind.{Kind}
 use Rattle.fpl_numbers.specs.declared.number.Kind.TheVariants.{Rational, Prime}
-use Rattle.math_algebra.specs.Degrees.{Degree, any, exact, mixed, weight_of_both}
+use Rattle.math_algebra.specs.Degrees.{Degree, weight_of_both}
 use Rattle.math_algebra.specs.Symbols.{is_odd}
 use Rattle.fpl_model.specs.declared.presentation.Equation.{Equation}
 use Rattle.fpl_model.specs.declared.presentation.Presentation.{Presentation}
+use Rattle.fpl_model.specs.Degrees.{is_exactly}
 use Rattle.fpl_model.specs.Meaning.{tree_in}
 use Rattle.fpl_log.specs.declared.step.Origin.{Origin}
 use Rattle.fpl_log.specs.declared.step.Origin.TheVariants.{Relation, Jacobi, Cube}
 use Rattle.fpl_table.specs.Plain.{PlainTable, plain_basis, shell_in}
 
-unfoldable pub joined : {A : Type 0} → ℕ → (ℕ → List A) → List A
-joined zero f = []
-joined (suc n) f = joined n f ++ f n
-
 abbrev pub relation_weight : PlainTable → Equation → Degree ℕ
 relation_weight T q = weight_of_both (shell_in T.kind T) (tree_in T.kind q.left) (tree_in T.kind q.right)
-
-abbrev pub is_exactly : ℕ → Degree ℕ → Bool
-is_exactly w any = false
-is_exactly w (exact v) = nat_eq v w
-is_exactly w mixed = false
 
 -- those of a list that have the weight, the first being relation r, counted from 1
 abbrev pub relations_from : PlainTable → ℕ → List Equation → List Origin

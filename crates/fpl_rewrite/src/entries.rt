@@ -2,11 +2,10 @@ ghost use Rattle.std.specs.Prelude.{◌≡◌, ◌≤◌, ◌<◌, ◌+◌, ◌-
 ghost use Rattle.fpl_numbers.specs.Numbers.{IsElement};
 ghost use Rattle.fpl_numbers.specs.Results.{Gives};
 ghost use Rattle.fpl_scalar.specs.Vectors.{AreElements};
-ghost use Rattle.math_algebra.specs.Symbols.{place_of};
-ghost use Rattle.fpl_table.specs.Plain.{plain_basis, symbols_in, symbol_in, pairing};
-ghost use Rattle.fpl_table.specs.Shape.{IsNumbered, IsRowUpTo};
-ghost use Rattle.fpl_table.specs.Value.{add_at};
-ghost use Rattle.fpl_rewrite.specs.Rows.{add_signed, spread, entry_if};
+ghost use Rattle.fpl_table.specs.Plain.{plain_basis, symbols_in, pairing};
+ghost use Rattle.fpl_table.specs.Shape.{IsRowUpTo};
+ghost use Rattle.fpl_table.specs.Sums.{add_each};
+ghost use Rattle.fpl_rewrite.specs.Rows.{add_signed, entry_if};
 ghost use Rattle.fpl_rewrite.specs.Terms.{terms_of, IsPlace};
 
 use fpl_rows::Row;
@@ -20,28 +19,6 @@ pub enum Beside {
     After(u32),
     /// `[b_t, b_k]` for each `b_t`.
     Before(u32),
-}
-
-/// Adds `c` at a symbol. What is no symbol of the weight counts as 0.
-pub fn add_at_symbol<F: Field>(
-    table: &Table<F>,
-    symbols: &Symbols,
-    x: Symbol,
-    c: F::Elem,
-    row: &mut Row<F>,
-) -> Result<(), Fault>
-    requires numbered { IsNumbered x }
-    requires added { IsElement table.now.kind (F.number c) }
-    requires row { AreElements table.now.kind row.old }
-    requires whole { length row.old ≡ length symbols.now.symbols }
-    ensures value { Gives result row.new (add_at table.now.kind row.old (place_of (symbol_in x) symbols.now.symbols) (F.number c)) }
-    ensures elements { OnOk result (AreElements table.now.kind row.new) }
-    ensures whole { length row.new ≡ length row.old }
-{
-    match symbols.number(x) {
-        Some(s) => row.add_at(table.field(), s, c),
-        None => Ok(()),
-    }
 }
 
 /// Adds `c` at the bracket of basis elements `i` and `j`, with the sign of its pair.
@@ -63,18 +40,11 @@ pub fn add_signed<F: Field>(
     ensures elements { OnOk result (AreElements table.now.kind row.new) }
     ensures whole { length row.new ≡ length row.old }
 {
+    let field = table.field();
     match table.pair(i, j) {
         PairSign::Zero => Ok(()),
-        PairSign::Plus(k, l) => add_at_symbol(table, symbols, Symbol::Pair(k, l), c, row),
-        PairSign::Minus(k, l) => {
-            add_at_symbol(
-                table,
-                symbols,
-                Symbol::Pair(k, l),
-                table.field().neg(c),
-                row,
-            )
-        }
+        PairSign::Plus(k, l) => symbols.add_at(field, Symbol::Pair(k, l), c, row),
+        PairSign::Minus(k, l) => symbols.add_at(field, Symbol::Pair(k, l), field.neg(c), row),
     }
 }
 
@@ -119,7 +89,7 @@ fn add_terms<F: Field>(
     requires symbols { symbols.now.symbols ≡ symbols_in table.now }
     requires row { AreElements table.now.kind row.old }
     requires whole { length row.old ≡ length symbols.now.symbols }
-    ensures value { Gives result row.new (spread table.now (terms_of table.now beside negated) 0 entry.now row.old) }
+    ensures value { Gives result row.new (add_each (terms_of table.now beside negated) 0 entry.now row.old) }
     ensures elements { OnOk result (AreElements table.now.kind row.new) }
     ensures whole { length row.new ≡ length row.old }
 {
@@ -152,7 +122,7 @@ pub fn add_entry<F: Field>(
     requires symbols { symbols.now.symbols ≡ symbols_in table.now }
     requires row { AreElements table.now.kind row.old }
     requires whole { length row.old ≡ length symbols.now.symbols }
-    ensures value { Gives result row.new (spread table.now (terms_of table.now beside negated) 0 (entry_if table.now (i - 1) (j - 1)) row.old) }
+    ensures value { Gives result row.new (add_each (terms_of table.now beside negated) 0 (entry_if table.now (i - 1) (j - 1)) row.old) }
     ensures elements { OnOk result (AreElements table.now.kind row.new) }
     ensures whole { length row.new ≡ length row.old }
 {

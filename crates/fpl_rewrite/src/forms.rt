@@ -1,89 +1,21 @@
-ghost use Rattle.std.specs.Prelude.{◌≡◌, ◌≤◌, ◌<◌, ◌+◌, ◌-◌, ◌^◌, length, map, IfOk, OnOk, slice_index_or};
-ghost use Rattle.fpl_numbers.specs.Numbers.{IsElement, negative_of};
-ghost use Rattle.fpl_numbers.specs.Results.{Gives, GivesBy};
+ghost use Rattle.std.specs.Prelude.{◌≡◌, ◌≤◌, ◌<◌, ◌+◌, ◌-◌, ◌^◌, length, map, IfOk, slice_index_or};
+ghost use Rattle.fpl_numbers.specs.Numbers.{IsElement};
+ghost use Rattle.fpl_numbers.specs.Results.{GivesBy};
 ghost use Rattle.fpl_scalar.specs.Vectors.{AreElements, scale_of};
 ghost use Rattle.math_algebra.specs.Tree.{trees};
-ghost use Rattle.math_algebra.specs.Symbols.{place_of};
 ghost use Rattle.fpl_model.specs.Meaning.{plain};
 ghost use Rattle.fpl_model.specs.Sound.{IsSound, IsTerm, AreTerms, HaveWeights, count_tree, count_trees};
-ghost use Rattle.fpl_table.specs.Plain.{symbols_in, pairing};
-ghost use Rattle.fpl_table.specs.Shape.{Agrees, HasShape, IsRowUpTo};
-ghost use Rattle.fpl_table.specs.Value.{zero_row, add_row};
-ghost use Rattle.fpl_rewrite.specs.Rows.{add_outer, outer_with, outer_of, counts, symbol_unit, generator_place, form_of, forms_of, relation_row_of, equation_row};
+ghost use Rattle.fpl_table.specs.Plain.{symbols_in};
+ghost use Rattle.fpl_table.specs.Shape.{Agrees, IsRowUpTo};
+ghost use Rattle.fpl_table.specs.Value.{zero_row};
+ghost use Rattle.fpl_rewrite.specs.Rows.{outer_of, counts, symbol_unit, generator_place, form_of, forms_of, relation_row_of, equation_row};
 
-use crate::entries::add_at_symbol;
 use crate::jacobi::zero_row;
 use fpl_model::{Degree, Equation, Expr, Exprs, Presentation};
 use fpl_rows::Row;
 use fpl_scalar::{Fault, Field, Num};
-use fpl_table::{PairSign, Symbol, Symbols, Table};
+use fpl_table::{Symbol, Symbols, Table};
 use std::alloc::Global;
-
-/// Adds the product of `x` at position `i` and `y` at position `j`, at the pair's symbol.
-fn add_outer<F: Field>(
-    table: &Table<F>,
-    symbols: &Symbols,
-    i: u32,
-    j: u32,
-    x: F::Elem,
-    y: F::Elem,
-    row: &mut Row<F>,
-) -> Result<(), Fault>
-    requires left { (1 ≤ i) × (i ≤ length table.now.basis) }
-    requires right { (1 ≤ j) × (j ≤ length table.now.basis) }
-    requires symbols { symbols.now.symbols ≡ symbols_in table.now }
-    requires first { IsElement table.now.kind (F.number x) }
-    requires second { IsElement table.now.kind (F.number y) }
-    requires row { AreElements table.now.kind row.old }
-    requires whole { length row.old ≡ length symbols.now.symbols }
-    ensures value { Gives result row.new (add_outer table.now (pairing table.now (i - 1) (j - 1)) (F.number x) (F.number y) row.old) }
-    ensures elements { OnOk result (AreElements table.now.kind row.new) }
-    ensures whole { length row.new ≡ length row.old }
-{
-    let field = table.field();
-    match table.pair(i, j) {
-        PairSign::Zero => Ok(()),
-        PairSign::Plus(k, l) => match field.mul(x, y) {
-            Ok(m) => add_at_symbol(table, symbols, Symbol::Pair(k, l), m, row),
-            Err(u) => Err(Fault::Unfit(u)),
-        },
-        PairSign::Minus(k, l) => match field.mul(x, y) {
-            Ok(m) => add_at_symbol(table, symbols, Symbol::Pair(k, l), field.neg(m), row),
-            Err(u) => Err(Fault::Unfit(u)),
-        },
-    }
-}
-
-/// Adds the products of `x` at position `i` with the positions of `b`, ascending.
-fn add_products<F: Field>(
-    table: &Table<F>,
-    symbols: &Symbols,
-    i: u32,
-    x: F::Elem,
-    b: &Row<F>,
-    row: &mut Row<F>,
-) -> Result<(), Fault>
-    requires left { (1 ≤ i) × (i ≤ length table.now.basis) }
-    requires symbols { symbols.now.symbols ≡ symbols_in table.now }
-    requires first { IsElement table.now.kind (F.number x) }
-    requires second { IsRowUpTo table.now.kind (length table.now.basis) b.now }
-    requires row { AreElements table.now.kind row.old }
-    requires whole { length row.old ≡ length symbols.now.symbols }
-    ensures value { Gives result row.new (outer_with table.now (i - 1) (F.number x) 0 b.now row.old) }
-    ensures elements { OnOk result (AreElements table.now.kind row.new) }
-    ensures whole { length row.new ≡ length row.old }
-{
-    for j in 0..b.len() {
-        let y = b.at(j + 1);
-        if !table.field().is_zero(y) {
-            match add_outer(table, symbols, i, j + 1, x, y, row) {
-                Ok(()) => {}
-                Err(fault) => return Err(fault),
-            }
-        }
-    }
-    Ok(())
-}
 
 /// The bracket of two rows over the basis, with each pair's symbol in place of its entry.
 fn outer<F: Field>(
@@ -101,16 +33,10 @@ fn outer<F: Field>(
     ensures whole { IfOk result (λ r. length r ≡ length symbols.now.symbols) }
 {
     let mut row = zero_row(alloc, table, symbols)?;
-    for i in 0..a.len() {
-        let x = a.at(i + 1);
-        if !table.field().is_zero(x) {
-            match add_products(table, symbols, i + 1, x, b, &mut row) {
-                Ok(()) => {}
-                Err(fault) => return Err(fault),
-            }
-        }
+    match table.add_bracket(symbols, a, b, &mut row) {
+        Ok(()) => Ok(row),
+        Err(fault) => Err(fault),
     }
-    Ok(row)
 }
 
 /// 1 at the symbol of generator `g`.
@@ -126,14 +52,9 @@ fn unit<F: Field>(
     ensures elements { IfOk result (λ r. AreElements table.now.kind r) }
     ensures whole { IfOk result (λ r. length r ≡ length symbols.now.symbols) }
 {
+    let field = table.field();
     let mut row = zero_row(alloc, table, symbols)?;
-    add_at_symbol(
-        table,
-        symbols,
-        Symbol::Gen(g),
-        table.field().one(),
-        &mut row,
-    )?;
+    symbols.add_at(field, Symbol::Gen(g), field.one(), &mut row)?;
     Ok(row)
 }
 
@@ -165,43 +86,6 @@ fn multiple<F: Field>(table: &Table<F>, c: &Num, row: Row<F>) -> Result<Row<F>, 
         Ok(()) => Ok(product),
         Err(fault) => Err(fault),
     }
-}
-
-/// Adds `x` to `sum`, position by position.
-fn add_row<F: Field>(table: &Table<F>, sum: &mut Row<F>, x: &Row<F>) -> Result<(), Fault>
-    requires sum { AreElements table.now.kind sum.old }
-    requires row { AreElements table.now.kind x.now }
-    requires whole { length x.now ≡ length sum.old }
-    ensures value { Gives result sum.new (add_row table.now.kind sum.old x.now) }
-    ensures elements { OnOk result (AreElements table.now.kind sum.new) }
-    ensures whole { length sum.new ≡ length sum.old }
-{
-    for s in 0..x.len() {
-        match sum.add_at(table.field(), s + 1, x.at(s + 1)) {
-            Ok(()) => {}
-            Err(fault) => return Err(fault),
-        }
-    }
-    Ok(())
-}
-
-/// Takes `x` off `sum`, position by position.
-fn take_row<F: Field>(table: &Table<F>, sum: &mut Row<F>, x: &Row<F>) -> Result<(), Fault>
-    requires sum { AreElements table.now.kind sum.old }
-    requires row { AreElements table.now.kind x.now }
-    requires whole { length x.now ≡ length sum.old }
-    ensures value { Gives result sum.new (add_row table.now.kind sum.old (map (negative_of table.now.kind) x.now)) }
-    ensures elements { OnOk result (AreElements table.now.kind sum.new) }
-    ensures whole { length sum.new ≡ length sum.old }
-{
-    let field = table.field();
-    for s in 0..x.len() {
-        match sum.add_at(field, s + 1, field.neg(x.at(s + 1))) {
-            Ok(()) => {}
-            Err(fault) => return Err(fault),
-        }
-    }
-    Ok(())
 }
 
 /// An expression over the symbols: a generator is its symbol, an outermost bracket of two
@@ -270,7 +154,7 @@ fn form_all<F: Field>(
     for e in members.as_slice() {
         if is_of_some_weight(table, p, e) {
             let x = form(alloc, table, p, symbols, e)?;
-            match add_row(table, &mut sum, &x) {
+            match sum.axpy(table.field(), table.field().one(), &x) {
                 Ok(()) => {}
                 Err(fault) => return Err(fault),
             }
@@ -299,7 +183,8 @@ fn difference<F: Field>(
 {
     let mut row = form(alloc, table, p, symbols, &q.left)?;
     let right = form(alloc, table, p, symbols, &q.right)?;
-    take_row(table, &mut row, &right)?;
+    let field = table.field();
+    row.axpy(field, field.neg(field.one()), &right)?;
     Ok(row)
 }
 

@@ -4,8 +4,9 @@ ghost use Rattle.fpl_scalar.specs.Vectors.{AreElements};
 ghost use Rattle.math_algebra.specs.Tree.{odd};
 ghost use Rattle.fpl_table.specs.Plain.{plain_basis, symbols_in};
 ghost use Rattle.fpl_table.specs.Shape.{HasShape};
+ghost use Rattle.fpl_table.specs.Sums.{add_each};
 ghost use Rattle.fpl_table.specs.Value.{zero_row};
-ghost use Rattle.fpl_rewrite.specs.Rows.{jacobi_row_of, cube_row_of, swapped, spread, third_terms, entry_if};
+ghost use Rattle.fpl_rewrite.specs.Rows.{jacobi_row_of, cube_row_of, swapped, third_terms, entry_if};
 ghost use Rattle.fpl_rewrite.specs.Terms.{signed};
 ghost use Rattle.fpl_numbers.specs.declared.number.Num.{Num};
 
@@ -61,7 +62,7 @@ fn add_third<F: Field>(
     requires reached { (plain_basis table.now (i - 1)).weight + (plain_basis table.now (k - 1)).weight ≤ table.now.weight }
     requires row { AreElements table.now.kind row.old }
     requires whole { length row.old ≡ length symbols.now.symbols }
-    ensures value { Gives result row.new (spread table.now (third_terms table.now (i - 1) (j - 1)) 0 (entry_if table.now (i - 1) (k - 1)) row.old) }
+    ensures value { Gives result row.new (add_each (third_terms table.now (i - 1) (j - 1)) 0 (entry_if table.now (i - 1) (k - 1)) row.old) }
     ensures elements { OnOk result (AreElements table.now.kind row.new) }
     ensures whole { length row.new ≡ length row.old }
 {
@@ -81,7 +82,8 @@ pub fn jacobi_row<F: Field>(
 ) -> Result<Row<F>, Fault>
     requires symbols { symbols.now.symbols ≡ symbols_in table.now }
     requires order { (1 ≤ i) × (i ≤ j) × (j ≤ k) × (k ≤ length table.now.basis) }
-    requires weight { (plain_basis table.now (i - 1)).weight + (plain_basis table.now (j - 1)).weight + (plain_basis table.now (k - 1)).weight ≡ table.now.weight + 1 }
+    requires weight { (plain_basis table.now (i - 1)).weight + (plain_basis table.now (j - 1)).weight + (plain_basis table.now (k - 1)).weight
+        ≡ table.now.weight + 1 }
     ensures value { GivesBy (λ r. r) result (jacobi_row_of table.now (i - 1) (j - 1) (k - 1)) }
     ensures elements { IfOk result (λ r. AreElements table.now.kind r) }
     ensures whole { IfOk result (λ r. length r ≡ length symbols.now.symbols) }

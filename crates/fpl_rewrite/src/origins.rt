@@ -1,18 +1,16 @@
 ghost use Rattle.std.specs.Prelude.{◌≡◌, ◌≤◌, ◌<◌, ◌+◌, ◌^◌, ◌++◌, ◌∷◌, [], drop, length, IfSome, MatchOption};
-ghost use Rattle.math_algebra.specs.Degrees.{weight_of_both};
-ghost use Rattle.fpl_model.specs.Meaning.{plain, tree_in, presentation_in};
-ghost use Rattle.fpl_model.specs.Sound.{IsSound, IsTerm, HaveWeights, count_tree};
+ghost use Rattle.fpl_model.specs.Sound.{IsSound};
 ghost use Rattle.fpl_log.specs.declared.step.Origin.TheVariants.{Relation, Cube};
 ghost use Rattle.fpl_table.specs.Plain.{plain_basis};
 ghost use Rattle.fpl_table.specs.Shape.{Agrees, HasShape};
 ghost use Rattle.math_algebra.specs.Symbols.{is_odd};
-ghost use Rattle.fpl_rewrite.specs.Origins.{origins_of, relations_from, triples_of, cubes_of, is_exactly, is_three};
+ghost use Rattle.fpl_rewrite.specs.Origins.{origins_of, relations_from, triples_of, cubes_of, is_three};
 ghost use Rattle.fpl_rewrite.specs.Triples.{firsts_from};
 ghost use Rattle.fpl_rewrite.specs.Cursor.{cubes_from, to_come, IsNext};
 
 use crate::triples::{Triple, next_triple};
 use fpl_log::Origin;
-use fpl_model::{Degree, Equation, Parity, Presentation};
+use fpl_model::{Parity, Presentation};
 use fpl_scalar::{Field, Kind};
 use fpl_table::Table;
 
@@ -31,20 +29,6 @@ pub struct Origins {
     place: Place,
 }
 
-/// Whether a relation has weight `w`, its two sides taken as one sum.
-fn is_of_weight(p: &Presentation, q: &Equation, w: u32) -> bool
-    requires weights { HaveWeights p.now.generators }
-    requires left { IsTerm p.now.field (length p.now.generators) (plain q.now.left) }
-    requires right { IsTerm p.now.field (length p.now.generators) (plain q.now.right) }
-    requires few { count_tree (plain q.now.left) + count_tree (plain q.now.right) < 2 ^ 40 }
-    ensures { result ≡ is_exactly w (weight_of_both (presentation_in p.now) (tree_in p.now.field q.now.left) (tree_in p.now.field q.now.right)) }
-{
-    match p.equation_weight(q) {
-        Degree::Exact(v) => v == u64::from(w),
-        Degree::Any | Degree::Mixed => false,
-    }
-}
-
 /// The place of the first relation of weight `w` from place `r` on.
 fn next_relation<F: Field>(table: &Table<F>, p: &Presentation, w: u32, r: u32) -> Option<u32>
     requires sound { IsSound p.now }
@@ -59,7 +43,7 @@ fn next_relation<F: Field>(table: &Table<F>, p: &Presentation, w: u32, r: u32) -
     let relations = p.relations.as_slice();
     for at in r as usize..relations.len() {
         let relation = &relations[at];
-        if is_of_weight(p, relation, w) {
+        if p.has_weight(relation, w) {
             return Some(at as u32);
         }
     }
@@ -153,7 +137,8 @@ impl Origins {
         requires sound { IsSound p.now }
         requires agrees { Agrees table.now p.now }
         requires weight { self.old.weight ≡ table.now.weight + 1 }
-        ensures value { IsNext table.now p.now (relations_from table.now (r + 1) (drop r p.now.relations) ++ triples_of table.now ++ cubes_of table.now) result self.new.place }
+        ensures value { IsNext table.now p.now (relations_from table.now (r + 1) (drop r p.now.relations) ++ triples_of table.now ++ cubes_of table.now) result
+            self.new.place }
         ensures weight { self.new.weight ≡ self.old.weight }
     {
         match next_relation(table, p, self.weight, r) {

@@ -2,7 +2,8 @@
 use Rattle.std.proofs.Common.{◌≡◌, ◌≢◌, ◌≤◌, ◌<◌, ◌+◌, ◌-◌, ◌++◌, ◌⊎◌, inl, inr, ℕ, zero, suc, List, [], ◌∷◌, length, map, get_or, cond, Bool, true, false, refl, ap, sym, ◌∙◌, arith, append-nil, length-append, add-suc, add-one}
 use Rattle.std.proofs.lemmas.Bool.Decides.{nat_tests}
 use Rattle.math_algebra.specs.Table.{Symbol, of_generator, of_pair}
-use Rattle.math_algebra.specs.Symbols.{joined, is_odd, symbols_of}
+use Rattle.math_linear.specs.Lists.{joined}
+use Rattle.math_algebra.specs.Symbols.{is_odd, symbols_of}
 use Rattle.math_algebra.specs.Tree.{no_generator}
 use Rattle.fpl_table.specs.declared.shape.Shape.{Shape}
 use Rattle.fpl_table.specs.Whole.{shape_in}

@@ -5,11 +5,13 @@ pub mod Entries
 pub mod Cells
 pub mod Numbering
 pub mod Light
-pub mod Padded
 pub mod Leads
 pub mod Walking
+pub mod Nought
 pub mod Places
 pub mod NewNumbers
 pub mod NewRows
 pub mod Pushed
+pub mod PushedTrees
+pub mod PushedFields
 pub mod Truncated

@@ -2,7 +2,8 @@
 use Rattle.std.proofs.Common.{◌≡◌, ◌≤◌, ◌<◌, ◌+◌, ◌-◌, ◌++◌, inl, inr, ℕ, zero, suc, List, [], ◌∷◌, length, get_or, ap, sym, ◌∙◌, arith, append_assoc, append-nil, length-append}
 use Rattle.fpl_numbers.specs.Kinds.{field_of}
 use Rattle.math_algebra.specs.Table.{Symbol, of_generator, of_pair}
-use Rattle.math_algebra.specs.Symbols.{joined, symbols, pairs_of, place_of, no_symbol, IsSymbol, is_generator, is_pair}
+use Rattle.math_linear.specs.Lists.{joined}
+use Rattle.math_algebra.specs.Symbols.{symbols, pairs_of, place_of, no_symbol, IsSymbol, is_generator, is_pair, symbols_of}
 use Rattle.math_values.proofs.SymbolLists.{place_number, place_symbol}
 use Rattle.fpl_table.specs.Plain.{PlainTable, plain_basis, generator_at, through, partner_from, table_in, shell_in, symbols_in}
 use Rattle.fpl_table.specs.Shape.{HasShape, IsOfTable}
@@ -41,14 +42,14 @@ regroup a b c x d e = simp append_assoc
 
 module _ (T : PlainTable) where
   generator_stands : (g : ℕ) → g < length T.generators → (generator_at T g).weight ≡ suc T.weight → StandsAfter T (joined g (generator_cell T (suc T.weight))) (of_generator g)
-  unfolding symbols
+  unfolding symbols symbols_of
   generator_stands g lt is =
       let r = joined_split (generator_cell T (suc T.weight)) (length T.generators) g lt in
       let one : generator_cell T (suc T.weight) g ≡ of_generator g ∷ [] = grind (arith, nat_tests) in
       record {
-        after = r.0 ++ pairs_of (table_in T.kind T);
-        all = ap (λ l. l ++ pairs_of (table_in T.kind T)) (r.1 ∙ ap (λ c. joined g (generator_cell T (suc T.weight)) ++ (c ++ r.0)) one)
-            ∙ append_assoc (joined g (generator_cell T (suc T.weight))) (of_generator g ∷ r.0) (pairs_of (table_in T.kind T));
+        after = r.0 ++ pairs_of (table_in T.kind T) (suc T.weight);
+        all = ap (λ l. l ++ pairs_of (table_in T.kind T) (suc T.weight)) (r.1 ∙ ap (λ c. joined g (generator_cell T (suc T.weight)) ++ (c ++ r.0)) one)
+            ∙ append_assoc (joined g (generator_cell T (suc T.weight))) (of_generator g ∷ r.0) (pairs_of (table_in T.kind T) (suc T.weight));
       }
 
   pub generator_within : (g : ℕ) → g < length T.generators → (generator_at T g).weight ≡ suc T.weight → length (joined g (generator_cell T (suc T.weight))) < length (symbols_in T)
@@ -66,7 +67,7 @@ module _ (T : PlainTable) (shape : HasShape T) (i : ℕ) (lti : i < length T.bas
     before = generator_cells T (suc T.weight) ++ (pairs_to T (suc T.weight) i ++ joined j (pair_cell T (suc T.weight) i))
 
     pair_stands : StandsAfter T before (of_pair i j)
-    unfolding symbols before
+    unfolding symbols symbols_of before
     pair_stands =
         let within : through T (suc T.weight - (plain_basis T i).weight) ≤ length T.basis = through_within T shape (suc T.weight - (plain_basis T i).weight) in
         let r = joined_split (pair_cells T (suc T.weight)) (length T.basis) i lti in

@@ -1,53 +1,18 @@
 -- A table with one weight more has its shape.
-use Rattle.std.proofs.Common.{◌≡◌, ◌≤◌, ◌<◌, ◌+◌, ◌-◌, ◌*◌, ◌++◌, ◌⊎◌, inl, inr, ℕ, zero, suc, max, List, [], ◌∷◌, length, map, get_or, cond, nat_le, All, refl, ap, ap₂, sym, subst, ◌∙◌, arith, length-append, append_assoc, append-nil, add-one, Result, Ok, Err, IsOk}
-use Rattle.std.specs.Prelude.{is_ok, if◌then◌else◌, OnOk}
-use Rattle.std.proofs.lemmas.List.{length-map, map-append}
-use Rattle.std.proofs.lemmas.Bool.Decides.{nat_tests}
+use Rattle.std.proofs.Common.{◌≡◌, ◌≤◌, ◌<◌, ◌+◌, ◌-◌, ◌*◌, ◌++◌, ◌⊎◌, inl, inr, ℕ, zero, suc, max, List, [], ◌∷◌, length, map, get_or, cond, All, refl, ap, ap₂, sym, subst, ◌∙◌, arith, length-append}
+use Rattle.std.proofs.lemmas.List.{get_or_append_left, get_or-append-add, length-map}
 use Rattle.fpl_numbers.specs.declared.number.Num.{Num}
-use Rattle.fpl_numbers.specs.declared.number.Kind.{Kind}
-use Rattle.math_algebra.specs.Tree.{Generator, Tree, none, bracket_of}
+use Rattle.math_algebra.specs.Tree.{Generator}
 use Rattle.math_algebra.specs.Table.{Symbol, of_generator, of_pair, Basis, no_basis}
 use Rattle.math_algebra.specs.Symbols.{no_symbol, is_odd, symbols, symbols_of}
-use Rattle.fpl_table.specs.Plain.{PlainTable, leading, through, plain_basis, first_partner, symbols_in, shell_in, table_in}
-use Rattle.fpl_table.specs.Shape.{HasShape, IsRowUpTo, IsOfTable, IsBefore, partners, images_at, entries_at, IsNumbered, grown, basis_trees, symbol_tree_in}
+use Rattle.fpl_table.specs.Plain.{PlainTable, through, plain_basis, first_partner, symbols_in, shell_in, table_in}
+use Rattle.fpl_table.specs.Shape.{HasShape, IsRowUpTo, IsOfTable, IsBefore, partners, images_at, entries_at}
 use Rattle.fpl_table.specs.Push.{free_of, new_basis, new_images, new_entries, new_partners, push_of}
-use Rattle.fpl_table.specs.Standard.{count_of}
-use Rattle.fpl_table.specs.Leads.{trees_of, IsNext}
-use Rattle.fpl_table.specs.Whole.{IsWhole}
-use Rattle.fpl_table.specs.declared.symbol.Symbol as code
-use Rattle.fpl_table.proofs.Lists.{nat_split, at_middle, all_append}
+use Rattle.fpl_table.proofs.Lists.{nat_split, at_middle}
 use Rattle.fpl_table.proofs.Leads.{free_few, free_below}
 use Rattle.fpl_table.proofs.Places.{symbol_of_table}
 use Rattle.fpl_table.proofs.NewRows.{partners_length}
-use Rattle.fpl_table.proofs.Weights.{leading_within}
-
--- elements of a list with another behind it
-pub front_at : {A : Type 0} (xs ys : List A) (i : ℕ) (d : A) → i < length xs → get_or (xs ++ ys) i d ≡ get_or xs i d
-front_at [] ys i d lt = absurd (omega (arith, lt))
-front_at (x ∷ xs) ys zero d lt = refl
-front_at (x ∷ xs) ys (suc i) d lt = front_at xs ys i d (omega (arith, lt))
-
-pub back_at : {A : Type 0} (xs ys : List A) (i : ℕ) (d : A) → get_or (xs ++ ys) (length xs + i) d ≡ get_or ys i d
-back_at [] ys i d = let same : 0 + i ≡ i = omega arith in ap (λ k. get_or ys k d) same
-back_at (x ∷ xs) ys i d = let same : suc (length xs) + i ≡ suc (length xs + i) = omega arith in ap (λ k. get_or (x ∷ (xs ++ ys)) k d) same ∙ back_at xs ys i d
-
-leading_none : (cs : List Basis) (w : ℕ) → ((i : ℕ) → i < length cs → w < (get_or cs i no_basis).weight) → leading cs w ≡ 0
-unfolding leading
-leading_none [] w h = refl
-leading_none (c ∷ cs) w h = let heavy : w < c.weight = h 0 (omega arith) in grind (arith, nat_tests)
-
-pub leading_front : (bs cs : List Basis) (w : ℕ) → ((i : ℕ) → i < length cs → w < (get_or cs i no_basis).weight) → leading (bs ++ cs) w ≡ leading bs w
-unfolding leading
-leading_front [] cs w h = leading_none cs w h
-leading_front (b ∷ bs) cs w h = ap (λ n. cond (nat_le b.weight w) (suc n) 0) (leading_front bs cs w h)
-
-pub leading_all : (bs : List Basis) (w : ℕ) → ((i : ℕ) → i < length bs → (get_or bs i no_basis).weight ≤ w) → leading bs w ≡ length bs
-unfolding leading
-leading_all [] w h = refl
-leading_all (b ∷ bs) w h =
-    let light : b.weight ≤ w = h 0 (omega arith) in
-    let rest : leading bs w ≡ length bs = leading_all bs w (λ i lt. h (suc i) (omega (arith, lt))) in
-    grind (arith, nat_tests)
+use Rattle.fpl_table.proofs.Weights.{leading_within, leading_front, leading_all}
 
 length-images : (T : PlainTable) (rows : List (List Num)) (g : ℕ) (gs : List Generator) → length (new_images T rows g gs) ≡ length gs
 length-images T rows g [] = refl
@@ -64,7 +29,7 @@ entries_at_place T rows k (b ∷ bs) (suc i) lt =
     let same : k + 1 + i ≡ k + suc i = omega arith in
     entries_at_place T rows (k + 1) bs i (omega (arith, lt)) ∙ ap (λ j. new_partners T rows j 0 T.basis) same
 
-map_place : (T : PlainTable) (free : List ℕ) (q : ℕ) → q < length free → get_or (map (new_basis T) free) q no_basis ≡ new_basis T (get_or free q 0)
+pub map_place : (T : PlainTable) (free : List ℕ) (q : ℕ) → q < length free → get_or (map (new_basis T) free) q no_basis ≡ new_basis T (get_or free q 0)
 map_place T [] q lt = absurd (omega (arith, lt))
 map_place T (t ∷ ts) zero lt = refl
 map_place T (t ∷ ts) (suc q) lt = map_place T ts q (omega (arith, lt))
@@ -83,10 +48,10 @@ module _ (T : PlainTable) (rows : List (List Num)) (shape : HasShape T) (below :
   basis_length = length-append T.basis (map (new_basis T) (free_of T rows)) ∙ ap (λ n. length T.basis + n) fresh_length
 
   old_basis : (i : ℕ) → i < length T.basis → plain_basis (push_of T rows) i ≡ plain_basis T i
-  old_basis i lt = front_at T.basis (map (new_basis T) (free_of T rows)) i no_basis lt
+  old_basis i lt = get_or_append_left T.basis (map (new_basis T) (free_of T rows)) no_basis i lt
 
   fresh_basis : (q : ℕ) → q < length (free_of T rows) → plain_basis (push_of T rows) (length T.basis + q) ≡ new_basis T (get_or (free_of T rows) q 0)
-  fresh_basis q lt = back_at T.basis (map (new_basis T) (free_of T rows)) q no_basis ∙ map_place T (free_of T rows) q lt
+  fresh_basis q lt = get_or-append-add T.basis (map (new_basis T) (free_of T rows)) q no_basis ∙ map_place T (free_of T rows) q lt
 
   fresh_heavy : (w : ℕ) → w < suc T.weight → (i : ℕ) → i < length (map (new_basis T) (free_of T rows)) → w < (get_or (map (new_basis T) (free_of T rows)) i no_basis).weight
   fresh_heavy w lt i within = let h : (get_or (map (new_basis T) (free_of T rows)) i no_basis).weight ≡ suc T.weight = ap (λ b. b.weight) (map_place T (free_of T rows) i (rw (← fresh_length) within)) in omega arith
@@ -187,7 +152,7 @@ module _ (T : PlainTable) (rows : List (List Num)) (shape : HasShape T) (below :
 
   -- what stands at a weight of the table, and at the new one
   level_old : {A : Type 0} (levels : List (List A)) (l : List A) (v : ℕ) → length levels ≡ T.weight → v < T.weight → get_or (levels ++ l ∷ []) v [] ≡ get_or levels v []
-  level_old levels l v is lt = front_at levels (l ∷ []) v [] (omega arith)
+  level_old levels l v is lt = get_or_append_left levels (l ∷ []) [] v (omega arith)
 
   level_new : {A : Type 0} (levels : List (List A)) (l : List A) (v : ℕ) → length levels ≡ T.weight → T.weight ≡ v → get_or (levels ++ l ∷ []) v [] ≡ l
   level_new levels l v is at = ap (λ k. get_or (levels ++ l ∷ []) k []) (sym (is ∙ at)) ∙ at_middle levels l [] []
@@ -308,106 +273,3 @@ module _ (T : PlainTable) (rows : List (List Num)) (shape : HasShape T) (below :
 pub symbols_next : (T : PlainTable) → symbols_of (shell_in T.kind T) (table_in T.kind T) (suc T.weight) ≡ symbols_in T
 unfolding symbols symbols_of
 symbols_next T = refl
-
-pub grown_more : (ts : List (Tree Num)) (bs cs : List Basis) → grown ts (bs ++ cs) ≡ grown (grown ts bs) cs
-unfolding grown
-grown_more ts [] cs = refl
-grown_more ts (b ∷ bs) cs = grown_more (ts ++ symbol_tree_in ts b.symbol ∷ []) bs cs
-
-pub length-grown : (ts : List (Tree Num)) (bs : List Basis) → length (grown ts bs) ≡ length ts + length bs
-unfolding grown
-length-grown ts [] = omega arith
-length-grown ts (b ∷ bs) = let h : length (ts ++ symbol_tree_in ts b.symbol ∷ []) ≡ length ts + 1 = length-append ts (symbol_tree_in ts b.symbol ∷ []) in length-grown (ts ++ symbol_tree_in ts b.symbol ∷ []) bs ∙ omega arith
-
--- the tree of a symbol over some trees does not change when more come behind them
-tree_same : (ts us : List (Tree Num)) (x : Symbol) → ((i j : ℕ) → x ≡ of_pair i j → (i < length ts) × (j < length ts)) → symbol_tree_in (ts ++ us) x ≡ symbol_tree_in ts x
-tree_same ts us (of_generator g) h = refl
-tree_same ts us (of_pair i j) h = let within : (i < length ts) × (j < length ts) = h i j refl in ap₂ bracket_of (front_at ts us i none within.0) (front_at ts us j none within.1)
-
-grown_by : (ts us : List (Tree Num)) (bs : List Basis) → ((q : ℕ) → q < length bs → (i j : ℕ) → (get_or bs q no_basis).symbol ≡ of_pair i j → (i < length ts) × (j < length ts)) →
-    grown (ts ++ us) bs ≡ (ts ++ us) ++ map (λ b. symbol_tree_in ts b.symbol) bs
-unfolding grown
-grown_by ts us [] h = sym (append-nil (ts ++ us))
-grown_by ts us (b ∷ bs) h =
-    ap (λ t. grown ((ts ++ us) ++ t ∷ []) bs) (tree_same ts us b.symbol (h 0 (omega arith)))
-    ∙ ap (λ l. grown l bs) (append_assoc ts us (symbol_tree_in ts b.symbol ∷ []))
-    ∙ grown_by ts (us ++ symbol_tree_in ts b.symbol ∷ []) bs (λ q lt. h (suc q) (omega (arith, lt)))
-    ∙ ap (λ l. l ++ map (λ c. symbol_tree_in ts c.symbol) bs) (sym (append_assoc ts us (symbol_tree_in ts b.symbol ∷ [])))
-    ∙ append_assoc (ts ++ us) (symbol_tree_in ts b.symbol ∷ []) (map (λ c. symbol_tree_in ts c.symbol) bs)
-
-map_trees : (T : PlainTable) (ts : List (Tree Num)) (free : List ℕ) → map (λ b. symbol_tree_in ts b.symbol) (map (new_basis T) free) ≡ map (λ s. symbol_tree_in ts (get_or (symbols_in T) s no_symbol)) free
-map_trees T ts [] = refl
-map_trees T ts (s ∷ ss) = ap (λ l. symbol_tree_in ts (get_or (symbols_in T) s no_symbol) ∷ l) (map_trees T ts ss)
-
-pub push_trees : (T : PlainTable) (rows : List (List Num)) → basis_trees (push_of T rows) ≡ basis_trees T ++ trees_of T (free_of T rows)
-push_trees T rows =
-    let size : length (basis_trees T) ≡ length T.basis = length-grown [] T.basis ∙ omega arith in
-    grown_more [] T.basis (map (new_basis T) (free_of T rows)) ∙ ap (λ l. grown l (map (new_basis T) (free_of T rows))) (sym (append-nil (basis_trees T)))
-    ∙ grown_by (basis_trees T) [] (map (new_basis T) (free_of T rows))
-    (λ q lt i j is.
-    let ltq : q < length (free_of T rows) = let e : length (map (new_basis T) (free_of T rows)) ≡ length (free_of T rows) = length-map (free_of T rows) (new_basis T) in omega arith in
-    let at : get_or (free_of T rows) q 0 < length (symbols_in T) = free_below rows (length (symbols_in T)) q 0 ltq in
-    let here : get_or (symbols_in T) (get_or (free_of T rows) q 0) no_symbol ≡ of_pair i j = ap (λ b. b.symbol) (sym (map_place T (free_of T rows) q ltq)) ∙ is in
-    let within : IsOfTable T (of_pair i j) = subst (IsOfTable T) here (symbol_of_table T (get_or (free_of T rows) q 0) at) in
-    (omega (arith, within.0), omega (arith, within.1)))
-    ∙ ap₂ (λ a b. a ++ b) (append-nil (basis_trees T)) (map_trees T (basis_trees T) (free_of T rows))
-
--- all that the fields of a table keep, with one weight more
-pub push_whole : (T : PlainTable) (rows : List (List Num)) (counts : List ℕ) (trees : List (Tree Num)) (codes : List code.Symbol)
-    (basis : List Basis) (shoots : List (Tree Num)) (more : List code.Symbol) (count : ℕ) (images : List (List Num)) (entries : List (List (List Num))) →
-    T.weight < 1000 → length (symbols_in T) ≤ 2000000 → length counts ≡ T.weight → IsWhole T counts trees codes → IsNext T rows (free_of T rows) basis shoots more count images entries →
-    IsWhole (push_of T rows) (counts ++ count ∷ []) (trees ++ shoots) (codes ++ more)
-push_whole T rows counts trees codes basis shoots more count images entries below few size whole next = record {
-  shape = push_shape T rows whole.shape below few (subst (All (IsRowUpTo T.kind (length T.basis + length (free_of T rows)))) next.images_are next.images_whole)
-      (subst (All (λ l. All (IsRowUpTo T.kind (length T.basis + length (free_of T rows))) l)) next.entries_are next.entries_whole);
-  counts_are = λ v lt.
-      elim (nat_split v T.weight) [
-        | inl before ↦ front_at counts (count ∷ []) v 0 (omega arith) ∙ whole.counts_are v before ∙ sym (through_old T rows whole.shape below few (suc v) (omega arith))
-        | inr last ↦
-            let here : length counts ≡ v = omega arith in
-            ap (λ k. get_or (counts ++ count ∷ []) k 0) (sym here) ∙ at_middle counts count [] 0 ∙ next.count_is ∙ sym (through_new T rows whole.shape below few) ∙ ap (λ k. through (push_of T rows) (suc k)) (sym size ∙ here)
-      ];
-  trees_are = ap₂ (λ a b. a ++ b) whole.trees_are next.trees_are ∙ sym (push_trees T rows);
-  numbered = all_append IsNumbered codes more whole.numbered next.numbered;
-}
-
-push_is : (T : PlainTable) (rows : List (List Num)) (basis : List Basis) (trees : List (Tree Num)) (codes : List code.Symbol) (count : ℕ) (images : List (List Num)) (entries : List (List (List Num))) →
-    IsNext T rows (free_of T rows) basis trees codes count images entries →
-    ◌≡◌ {A = PlainTable} (record { kind = T.kind; generators = T.generators; weight = suc T.weight; basis = T.basis ++ basis; images = T.images ++ images ∷ []; entries = T.entries ++ entries ∷ [] }) (push_of T rows)
-push_is T rows basis trees codes count images entries next = rw (next.basis_is, next.images_are, next.entries_are) refl
-
--- a table whose fields are lists of levels and of elements, with one level and some elements more
-module _ {L E : Type 0} (kind : Kind) (generators : List Generator) (through_of : L → ℕ) (images : L → List (List Num)) (entries : L → List (List (List Num))) (basis : E → Basis) (tree : E → Tree Num) (code_of : E → code.Symbol) where
-  abbrev view : List L → List E → PlainTable
-  view levels elements = record { kind = kind; generators = generators; weight = length levels; basis = map basis elements; images = map images levels; entries = map entries levels }
-
-  abbrev Whole : List L → List E → Type 0
-  Whole levels elements = IsWhole (view levels elements) (map through_of levels) (map tree elements) (map code_of elements)
-
-  view_more : (levels : List L) (level : L) (elements fresh : List E) →
-      view (levels ++ level ∷ []) (elements ++ fresh) ≡ record { kind = kind; generators = generators; weight = suc (length levels); basis = map basis elements ++ map basis fresh; images = map images levels ++ images level ∷ []; entries = map entries levels ++ entries level ∷ [] }
-  view_more levels level elements fresh = rw (map-append basis elements fresh, map-append images levels (level ∷ []), map-append entries levels (level ∷ []), length-append levels (level ∷ []), add-one) refl
-
-  pub pushed_fields : (levels : List L) (level : L) (elements fresh : List E) (T : PlainTable) (rows : List (List Num)) → view levels elements ≡ T → T.weight < 1000 → count_of T (T.weight + 1) ≤ 2000000 →
-      Whole levels elements → IsNext T rows (free_of T rows) (map basis fresh) (map tree fresh) (map code_of fresh) (through_of level) (images level) (entries level) →
-      (later : List L) (all : List E) → later ≡ levels ++ level ∷ [] → all ≡ elements ++ fresh → Whole later all × (view later all ≡ push_of T rows)
-  pushed_fields levels level elements fresh T rows is below few whole next later all is_later is_all =
-      let old : PlainTable = view levels elements in
-      let here : IsNext old rows (free_of old rows) (map basis fresh) (map tree fresh) (map code_of fresh) (through_of level) (images level) (entries level) =
-      subst (λ U. IsNext U rows (free_of U rows) (map basis fresh) (map tree fresh) (map code_of fresh) (through_of level) (images level) (entries level)) (sym is) next in
-      let light : old.weight < 1000 = subst (λ U. U.weight < 1000) (sym is) below in
-      let many : count_of old (old.weight + 1) ≤ 2000000 = subst (λ U. count_of U (U.weight + 1) ≤ 2000000) (sym is) few in
-      let symbols_few : length (symbols_in old) ≤ 2000000 = rw (add-one, symbols_next old) at many in
-      let same : view (levels ++ level ∷ []) (elements ++ fresh) ≡ push_of old rows =
-      view_more levels level elements fresh ∙ push_is old rows (map basis fresh) (map tree fresh) (map code_of fresh) (through_of level) (images level) (entries level) here in
-      let kept : IsWhole (push_of old rows) (map through_of levels ++ through_of level ∷ []) (map tree elements ++ map tree fresh) (map code_of elements ++ map code_of fresh) =
-      push_whole old rows (map through_of levels) (map tree elements) (map code_of elements) (map basis fresh) (map tree fresh) (map code_of fresh) (through_of level) (images level) (entries level) light symbols_few (length-map levels through_of) whole here in
-      (rw (is_later, is_all, same, map-append through_of levels (level ∷ []), map-append tree elements fresh, map-append code_of elements fresh) kept, rw (is_later, is_all) (same ∙ ap (λ U. push_of U rows) is))
-
-pub ok_items : {A B E : Type 0} (r : Result A E) (xs ys zs : List B) → IsOk r → zs ≡ (if is_ok r then xs else ys) → zs ≡ xs
-ok_items (Ok x) xs ys zs h e = e
-ok_items (Err x) xs ys zs h e = absurd cc
-
-pub ok_always : {A E : Type 0} (P : Type 0) (r : Result A E) → P → OnOk r P
-ok_always P (Ok x) p = p
-ok_always P (Err x) p = tt

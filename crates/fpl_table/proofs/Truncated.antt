@@ -12,7 +12,7 @@ use Rattle.fpl_table.specs.Shape.{HasShape, IsRowUpTo, IsOfTable, IsBefore, part
 use Rattle.fpl_table.specs.Truncate.{truncate_of}
 use Rattle.fpl_table.specs.Whole.{IsWhole}
 use Rattle.fpl_table.specs.declared.symbol.Symbol as code
-use Rattle.fpl_table.proofs.Pushed.{grown_more, length-grown}
+use Rattle.fpl_table.proofs.PushedTrees.{grown_more, length-grown}
 use Rattle.fpl_table.proofs.Weights.{leading_within, through_below, through_within}
 
 -- counting up to a weight sees only the elements up to a greater one
@@ -108,7 +108,7 @@ module _ (T : PlainTable) (shape : HasShape T) (d : ℕ) (within : d ≤ T.weigh
   }
 
 -- trees grow behind those that are there
-grows : (ts : List (Tree Num)) (bs : List Basis) → (us : List (Tree Num)) × (grown ts bs ≡ ts ++ us)
+pub grows : (ts : List (Tree Num)) (bs : List Basis) → (us : List (Tree Num)) × (grown ts bs ≡ ts ++ us)
 unfolding grown
 grows ts [] = ([], sym (append-nil ts))
 grows ts (b ∷ bs) = let r = grows (ts ++ symbol_tree_in ts b.symbol ∷ []) bs in (symbol_tree_in ts b.symbol ∷ r.0, r.1 ∙ append_assoc ts (symbol_tree_in ts b.symbol ∷ []) r.0)

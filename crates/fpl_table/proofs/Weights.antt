@@ -1,5 +1,5 @@
 -- How many basis elements weigh at most a weight.
-use Rattle.std.proofs.Common.{◌≡◌, ◌≤◌, ◌<◌, ℕ, zero, suc, List, [], ◌∷◌, length, get_or, arith}
+use Rattle.std.proofs.Common.{◌≡◌, ◌≤◌, ◌<◌, ◌++◌, ℕ, zero, suc, List, [], ◌∷◌, length, get_or, cond, nat_le, refl, ap, arith}
 use Rattle.std.proofs.lemmas.Bool.Decides.{nat_tests}
 use Rattle.math_algebra.specs.Table.{Basis, no_basis}
 use Rattle.fpl_table.specs.Plain.{PlainTable, leading, through, plain_basis}
@@ -24,6 +24,25 @@ leading_above (b ∷ bs) w zero up lt le = grind (arith, nat_tests)
 leading_above (b ∷ bs) w (suc i) up lt le =
     let h : i < leading bs w = leading_above bs w i (λ j k below within. up (suc j) (suc k) (omega (arith, below)) (omega (arith, within))) (omega (arith, lt)) le in
     let first : b.weight ≤ (get_or bs i no_basis).weight = up 0 (suc i) (omega arith) lt in
+    grind (arith, nat_tests)
+
+-- a list with another behind it that weighs more, and one that weighs no more
+leading_none : (cs : List Basis) (w : ℕ) → ((i : ℕ) → i < length cs → w < (get_or cs i no_basis).weight) → leading cs w ≡ 0
+unfolding leading
+leading_none [] w h = refl
+leading_none (c ∷ cs) w h = let heavy : w < c.weight = h 0 (omega arith) in grind (arith, nat_tests)
+
+pub leading_front : (bs cs : List Basis) (w : ℕ) → ((i : ℕ) → i < length cs → w < (get_or cs i no_basis).weight) → leading (bs ++ cs) w ≡ leading bs w
+unfolding leading
+leading_front [] cs w h = leading_none cs w h
+leading_front (b ∷ bs) cs w h = ap (λ n. cond (nat_le b.weight w) (suc n) 0) (leading_front bs cs w h)
+
+pub leading_all : (bs : List Basis) (w : ℕ) → ((i : ℕ) → i < length bs → (get_or bs i no_basis).weight ≤ w) → leading bs w ≡ length bs
+unfolding leading
+leading_all [] w h = refl
+leading_all (b ∷ bs) w h =
+    let light : b.weight ≤ w = h 0 (omega arith) in
+    let rest : leading bs w ≡ length bs = leading_all bs w (λ i lt. h (suc i) (omega (arith, lt))) in
     grind (arith, nat_tests)
 
 module _ (T : PlainTable) (shape : HasShape T) where

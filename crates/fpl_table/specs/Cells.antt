@@ -3,10 +3,11 @@
 --   generator_cells T w   the generators of weight w, ascending
 --   pairs_to T w i        the regular pairs of weight w whose first basis element stands before place i
 --   pair_cells T w i      the regular pairs (i, j) of weight w, by ascending j
-use Rattle.std.specs.Prelude.{ℕ, List, [], ◌∷◌, ◌+◌, length, cond, true, false, nat_eq, nat_lt}
+use Rattle.std.specs.Prelude.{ℕ, List, [], ◌∷◌, length, cond, nat_eq}
 use Rattle.math_algebra.specs.Table.{Symbol, of_generator, of_pair}
-use Rattle.math_algebra.specs.Symbols.{joined, is_odd}
-use Rattle.fpl_table.specs.Plain.{PlainTable, plain_basis, generator_at}
+use Rattle.math_linear.specs.Lists.{joined}
+use Rattle.math_algebra.specs.Symbols.{is_pair_of}
+use Rattle.fpl_table.specs.Plain.{PlainTable, generator_at, table_in}
 
 abbrev pub generator_cell : PlainTable → ℕ → ℕ → List Symbol
 generator_cell T w g = cond (nat_eq (generator_at T g).weight w) (of_generator g ∷ []) []
@@ -15,8 +16,7 @@ abbrev pub generator_cells : PlainTable → ℕ → List Symbol
 generator_cells T w = joined (length T.generators) (generator_cell T w)
 
 abbrev pub pair_cell : PlainTable → ℕ → ℕ → ℕ → List Symbol
-pair_cell T w i j =
-    cond (cond (nat_eq ((plain_basis T i).weight + (plain_basis T j).weight) w) (cond (nat_lt i j) true (cond (nat_eq i j) (is_odd (plain_basis T i).parity) false)) false) (of_pair i j ∷ []) []
+pair_cell T w i j = cond (is_pair_of (table_in T.kind T) w i j) (of_pair i j ∷ []) []
 
 abbrev pub pair_cells : PlainTable → ℕ → ℕ → List Symbol
 pair_cells T w i = joined (length T.basis) (pair_cell T w i)

@@ -33,7 +33,7 @@ pub record AreRanks (rows : List (List Num)) (n : ℕ) (ranks : List ℕ) : Type
   pub count : length ranks ≡ n
   pub ranks_are : (s : ℕ) → s < n → get_or ranks s 0 ≡ length (free_in rows s)
 
-pub record ArePlaces {F E : Type 0} (n : ℕ) (closed : ClosedRows F E) : Type 0 where
+pub record ArePlaces {F E S : Type 0} (n : ℕ) (closed : ClosedRows F E S) : Type 0 where
   pub are_leads : AreLeads closed.rows.now n closed.leads.items
   pub are_ranks : AreRanks closed.rows.now n closed.ranks.items
   pub free_is : closed.free.items ≡ free_in closed.rows.now n
@@ -46,7 +46,7 @@ abbrev pub trees_of : PlainTable → List ℕ → List (Tree Num)
 trees_of T free = map (λ s. symbol_tree_in (basis_trees T) (get_or (symbols_in T) s no_symbol)) free
 
 -- the closed rows over the symbols of the next weight, with what they say of each
-pub record IsSolved {F E : Type 0} (T : PlainTable) (closed : ClosedRows F E) : Type 0 where
+pub record IsSolved {F E S : Type 0} (T : PlainTable) (closed : ClosedRows F E S) : Type 0 where
   pub below : T.weight < 1000
   pub few : length (symbols_in T) ≤ 2000000
   pub are_rows : AreRows T.kind (length (symbols_in T)) closed.rows.now

@@ -1,5 +1,6 @@
 pub mod Plain
 pub mod Shape
+pub mod Sums
 pub mod Value
 pub mod Push
 pub mod Standard

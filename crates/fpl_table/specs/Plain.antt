@@ -10,7 +10,6 @@
 --   partner_from T i w    the least j for which (i, j) is regular and may be of weight w
 --   image_row T g         the image of a generator
 --   entry_row T i j       the entry of a regular pair
---   vector_in k row       the vector of a row over the field of kind k
 --   table_in k T          the table over the field of kind k
 --   shell_in k T          the generators of the table, without relations
 --   symbols_in T          the symbols of the weight after the table's
@@ -20,11 +19,10 @@
 -- Numbers of generators, basis elements, symbols and positions count from 0 here, and from 1 in code and texts.
 -- A row is a list of numbers; positions past its length count as 0.
 use Rattle.std.specs.Prelude.{ℕ, suc, ◌-◌, ◌+◌, List, [], ◌∷◌, get_or, max, cond, nat_lt, nat_le}
-use Rattle.math_linear.specs.Vector.{Vector}
-use Rattle.math_linear.specs.Lists.{vector_of}
 use Rattle.fpl_numbers.specs.declared.number.Num.{Num}
 use Rattle.fpl_numbers.specs.declared.number.Kind.{Kind}
-use Rattle.fpl_numbers.specs.Kinds.{Number, field_of, number_of}
+use Rattle.fpl_numbers.specs.Kinds.{Number, field_of}
+use Rattle.fpl_rows.specs.Meaning.{vector_in}
 use Rattle.math_algebra.specs.Tree.{Parity, even, odd, Generator, no_generator, Presentation}
 use Rattle.math_algebra.specs.Table.{Symbol, of_generator, of_pair, Basis, no_basis, Table}
 use Rattle.math_algebra.specs.Symbols.{symbols, is_odd}
@@ -74,9 +72,6 @@ abbrev pub entry_row : PlainTable → ℕ → ℕ → List Num
 entry_row T i j =
     let w = (plain_basis T i).weight + (plain_basis T j).weight in
     get_or (get_or (get_or T.entries (w - 1) []) i []) (j - partner_from T i w) []
-
-abbrev pub vector_in : (k : Kind) → List Num → Vector (field_of k)
-vector_in k row = vector_of (field_of k) (number_of k) row
 
 abbrev pub table_in : (k : Kind) → PlainTable → Table (field_of k)
 table_in k T = record {

@@ -1,65 +1,36 @@
 -- The plain run of brackets and values in a table: the exact row, or the first operation that does not fit.
 --
 --   zero_row n            n times 0
---   padded n row          the row over n positions
---   add_at kind v s c     c is added at s
---   add_row kind v x      x is added, place by place
---   bracket_of T x y      the bracket of two rows: for each i of x and each j of y, ascending, that are not 0, but not where i = j is even:
---                         the product m of their numbers, with the pair's sign; then m times the pair's entry is added, where the weights sum
---                         to at most the table's
+--   add_row kind v x      x is added, as the multiple by 1: a product with 1 is the other factor, and always fits
+--   add_entry T i j m v   m times the entry of (i, j) is added, where the weights sum to at most the table's
+--   bracket_of T x y      the bracket of two rows: the product of each number of x with each of y, but not where i = j is even, times the entry of the pair
 --   is_light T e          e has a weight as written, and it is at most the table's; or it is mixed
 --   value_of T e          the value of an expression, member by member; 0 without operations where it isn't light
-use Rattle.std.specs.Prelude.{ℕ, ◌+◌, ◌-◌, List, [], ◌∷◌, ◌++◌, length, replicate, get_or, slice_set, nat_le, Bool, true, false, Result, Ok, if◌then◌else◌}
+use Rattle.std.specs.Prelude.{ℕ, ◌+◌, ◌-◌, List, length, replicate, nat_le, Bool, true, false, Result, Ok, if◌then◌else◌}
 use Rattle.fpl_numbers.specs.declared.number.Num.{Num}
 use Rattle.fpl_numbers.specs.declared.number.Kind.{Kind}
-use Rattle.fpl_numbers.specs.declared.number.Op.TheVariants.{Add, Mul}
 use Rattle.fpl_numbers.specs.declared.number.Unfit.{Unfit}
-use Rattle.fpl_numbers.specs.Numbers.{operate, is_nought, residue, negative_of}
-use Rattle.fpl_numbers.specs.Results.{map_ok, and_then}
+use Rattle.fpl_numbers.specs.Numbers.{residue}
+use Rattle.fpl_numbers.specs.Results.{and_then}
 use Rattle.fpl_scalar.specs.Vectors.{axpy_of, scale_of}
 use Rattle.math_algebra.specs.Tree.{Tree, Trees, gen, none, sum_of, multiple, bracket_of as bracket, end, more}
 use Rattle.math_algebra.specs.Degrees.{Degree, any, exact, mixed, weight_of}
 use Rattle.fpl_model.specs.Meaning.{in_field}
-use Rattle.fpl_table.specs.Plain.{PlainTable, plain_basis, image_row, entry_row, shell_in, Pairing, nothing, plus, minus, pairing}
+use Rattle.fpl_table.specs.Plain.{PlainTable, plain_basis, image_row, entry_row, shell_in}
+use Rattle.fpl_table.specs.Sums.{bilinear_of}
 
 abbrev pub zero_row : ℕ → List Num
 zero_row n = replicate n (residue 0)
 
-abbrev pub padded : ℕ → List Num → List Num
-padded n row = row ++ zero_row (n - length row)
-
-abbrev pub add_at : Kind → List Num → ℕ → Num → Result (List Num) Unfit
-add_at kind v s c = map_ok (λ x. slice_set v s x) (operate kind Add (get_or v s (residue 0)) c)
-
 abbrev pub add_row : Kind → List Num → List Num → Result (List Num) Unfit
-add_row kind [] x = Ok []
-add_row kind (v ∷ vs) [] = Ok (v ∷ vs)
-add_row kind (v ∷ vs) (x ∷ xs) = and_then (λ s. map_ok (λ rest. s ∷ rest) (add_row kind vs xs)) (operate kind Add v x)
+add_row kind v x = axpy_of kind v (residue 1) x
 
--- m times the entry of (i, j) is added, where the table has it
 abbrev pub add_entry : PlainTable → ℕ → ℕ → Num → List Num → Result (List Num) Unfit
 add_entry T i j m v =
     if nat_le ((plain_basis T i).weight + (plain_basis T j).weight) T.weight then axpy_of T.kind v m (entry_row T i j) else Ok v
 
-abbrev pub add_product : PlainTable → Pairing → Num → Num → List Num → Result (List Num) Unfit
-add_product T nothing x y v = Ok v
-add_product T (plus i j) x y v = and_then (λ m. add_entry T i j m v) (operate T.kind Mul x y)
-add_product T (minus i j) x y v = and_then (λ m. add_entry T i j (negative_of T.kind m) v) (operate T.kind Mul x y)
-
--- the products of x at place i with the places of ys from j on
-abbrev pub bracket_with : PlainTable → ℕ → Num → ℕ → List Num → List Num → Result (List Num) Unfit
-bracket_with T i x j [] v = Ok v
-bracket_with T i x j (y ∷ ys) v =
-    and_then (λ w. bracket_with T i x (j + 1) ys w) (if is_nought y then Ok v else add_product T (pairing T i j) x y v)
-
--- the products of the places of xs from i on with y
-abbrev pub bracket_from : PlainTable → ℕ → List Num → List Num → List Num → Result (List Num) Unfit
-bracket_from T i [] y v = Ok v
-bracket_from T i (x ∷ xs) y v =
-    and_then (λ w. bracket_from T (i + 1) xs y w) (if is_nought x then Ok v else bracket_with T i x 0 y v)
-
 abbrev pub bracket_of : PlainTable → List Num → List Num → Result (List Num) Unfit
-bracket_of T x y = bracket_from T 0 x y (zero_row (length T.basis))
+bracket_of T x y = bilinear_of T (add_entry T) x y (zero_row (length T.basis))
 
 abbrev pub is_weight_light : ℕ → Degree ℕ → Bool
 is_weight_light d any = false
@@ -72,7 +43,7 @@ is_light T e = is_weight_light T.weight (weight_of (shell_in T.kind T) (in_field
 abbrev mutual
   pub value_of : PlainTable → Tree Num → Result (List Num) Unfit
   value_of T (gen g) =
-      if is_light T (gen g) then Ok (padded (length T.basis) (image_row T (g - 1))) else Ok (zero_row (length T.basis))
+      if is_light T (gen g) then add_row T.kind (zero_row (length T.basis)) (image_row T (g - 1)) else Ok (zero_row (length T.basis))
   value_of T none = Ok (zero_row (length T.basis))
   value_of T (sum_of es) =
       if is_light T (sum_of es) then values_of T es (zero_row (length T.basis)) else Ok (zero_row (length T.basis))

@@ -1,12 +1,17 @@
-ghost use Rattle.std.specs.Prelude.{◌≡◌, ◌≤◌, ◌<◌, ◌+◌, ◌-◌, ◌^◌, length, map, slice_index_or, IfOk, All};
+ghost use Rattle.std.specs.Prelude.{◌≡◌, ◌≤◌, ◌<◌, ◌+◌, ◌-◌, ◌^◌, length, map, slice_index_or, IfOk, OnOk, All};
 ghost use Rattle.indexmap.specs.IndexMap.{get};
-ghost use Rattle.math_algebra.specs.Symbols.{symbols_of, no_symbol};
+ghost use Rattle.fpl_numbers.specs.Numbers.{IsElement};
+ghost use Rattle.fpl_numbers.specs.Results.{Gives};
+ghost use Rattle.fpl_scalar.specs.Vectors.{AreElements};
+ghost use Rattle.fpl_rows.specs.Positions.{added_at};
+ghost use Rattle.math_algebra.specs.Symbols.{symbols_of, place_of, no_symbol};
 ghost use Rattle.fpl_table.specs.Plain.{symbol_in, symbols_in, shell_in, table_in};
 ghost use Rattle.fpl_table.specs.Shape.{IsNumbered};
 ghost use Rattle.fpl_table.specs.Numbering.{IsNumberOf, number_from};
 
 use crate::{Symbol, Table};
-use fpl_scalar::Field;
+use fpl_rows::Row;
+use fpl_scalar::{Fault, Field};
 use indexmap::IndexMap;
 use std::alloc::{AllocError, Global};
 use std::marker::Model;
@@ -79,6 +84,28 @@ impl Symbols {
         ensures { IsNumberOf self.now.symbols (symbol_in x) result }
     {
         self.numbers.get(&x).copied()
+    }
+
+    /// Adds `c` at a symbol. What is none of the symbols counts as 0.
+    pub fn add_at<F: Field>(
+        &self,
+        field: &F,
+        x: Symbol,
+        c: F::Elem,
+        row: &mut Row<F>,
+    ) -> Result<(), Fault>
+        requires numbered { IsNumbered x }
+        requires added { IsElement (F.kind_of field.now) (F.number c) }
+        requires row { AreElements (F.kind_of field.now) row.old }
+        requires whole { length row.old ≡ length self.now.symbols }
+        ensures value { Gives result row.new (added_at (F.kind_of field.now) row.old (place_of (symbol_in x) self.now.symbols) (F.number c)) }
+        ensures elements { OnOk result (AreElements (F.kind_of field.now) row.new) }
+        ensures whole { length row.new ≡ length row.old }
+    {
+        match self.number(x) {
+            Some(s) => row.add_at(field, s, c),
+            None => Ok(()),
+        }
     }
 }
 

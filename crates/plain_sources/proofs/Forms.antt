@@ -1,6 +1,6 @@
 -- Expressions of the next weight: their plain rows over the symbols stand for their rows in the mathematics.
-use Rattle.std.specs.Prelude.{◌≡◌, ℕ, suc, ◌+◌, ◌-◌, ◌<◌, ◌⊎◌, List, [], ◌∷◌, length, get_or, map, Result, Ok, true, false, Bool, cond, nat_eq, if◌then◌else◌}
-use mathlib.Core.Path.{sym, refl, ap, ap₂, ◌∙◌, subst, fun_ext}
+use Rattle.std.specs.Prelude.{◌≡◌, ℕ, suc, ◌+◌, ◌-◌, ◌<◌, ◌⊎◌, List, length, get_or, Result, Ok, true, false, Bool, cond, nat_eq, if◌then◌else◌}
+use mathlib.Core.Path.{sym, refl, ap, ap₂, ◌∙◌, subst}
 use mathlib.Core.Logic.{inl, inr}
 use native.Mathlib.Omega.{arith}
 use Rattle.math_fields.specs.Field.{Field}
@@ -11,7 +11,7 @@ use Rattle.math_linear.proofs.Numbers.{minus-times, unit-times}
 use Rattle.fpl_numbers.specs.declared.number.Num.{Num}
 use Rattle.fpl_numbers.specs.declared.number.Op.TheVariants.{Mul}
 use Rattle.fpl_numbers.specs.declared.number.Unfit.{Unfit}
-use Rattle.fpl_numbers.specs.Numbers.{IsField, IsElement, operate, is_nought, residue, negative_of}
+use Rattle.fpl_numbers.specs.Numbers.{IsField, IsElement, operate, residue, negative_of}
 use Rattle.fpl_numbers.specs.Results.{and_then}
 use Rattle.fpl_numbers.specs.Kinds.{field_of, number_of, Number}
 use Rattle.fpl_scalar.specs.Vectors.{AreElements, scale_of}
@@ -31,11 +31,13 @@ use Rattle.math_values.proofs.SymbolLists as lists
 use Rattle.fpl_model.specs.declared.presentation.Equation.{Equation}
 use Rattle.fpl_model.specs.Meaning.{plain, in_field, all_in_field, tree_in}
 use Rattle.fpl_model.specs.Sound.{IsWithin, AreWithin}
-use Rattle.fpl_table.specs.Plain.{PlainTable, vector_in, table_in, shell_in, symbols_in, Pairing, nothing, plus, minus, pairing}
+use Rattle.fpl_rows.specs.Meaning.{vector_in}
+use Rattle.fpl_table.specs.Plain.{PlainTable, table_in, shell_in, symbols_in, Pairing, nothing, plus, minus, pairing}
+use Rattle.fpl_table.specs.Sums.{add_product}
 use Rattle.fpl_table.specs.Value.{zero_row, add_row, value_of}
-use Rattle.fpl_rewrite.specs.Rows.{pair_place, generator_place, add_signed, add_outer, outer_with, outer_from, outer_of, has_weight, counts, symbol_unit, form_of, forms_of, relation_row_of, spread}
+use Rattle.fpl_rewrite.specs.Rows.{pair_place, generator_place, add_symbol, add_signed, outer_of, has_weight, counts, symbol_unit, form_of, forms_of, take_off, relation_row_of}
 use Rattle.plain_sources.specs.Premises.{IsRowIn, HasRows, HasWeights}
-use Rattle.plain_sources.proofs.Rows.{zero_row_reads, add_at_reads, add_row_reads, scale_reads, minus_reads, at_place}
+use Rattle.plain_sources.proofs.Rows.{zero_row_reads, add_at_reads, add_row_reads, take_off_reads, scale_reads, at_place}
 use Rattle.plain_sources.proofs.Walks.{Places, both_walks}
 use Rattle.plain_sources.proofs.Pairs.{paired, weight, paired_is, IsPairOf, IsPaired, pairing_is}
 use Rattle.plain_sources.proofs.Products.{reads, units, Stands, same, times_twice}
@@ -76,27 +78,19 @@ module _ (T : PlainTable) (is_field : IsField T.kind) where
   outer_is i j w = sym (outer_within F (table_in T.kind T) pairs i j w ∙ paired_is T F (λ i j. place F (pairs i j)) i j)
 
   outer_step : (i j : ℕ) (pr : Pairing) → IsPaired T i j pr → weight T i + weight T j ≡ suc T.weight → (x y : Num) (v z : List Num) (w : Vector F) → IsElement T.kind x → IsElement T.kind y →
-      Stands T is_field m w v → add_outer T pr x y v ≡ Ok z →
+      Stands T is_field m w v → add_product T (add_symbol T) pr x y v ≡ Ok z →
       Stands T is_field m (vplus F w (scale F (number_of T.kind y) (scale F (number_of T.kind x) (paired F (λ i j. place F (pairs i j)) pr)))) z
   outer_step i j nothing p s x y v z w a b k e =
       subst (Stands T is_field m _) (ok_same e)
       (same T is_field m w _ v (sym (ap (vplus F w) (ap (scale F (number_of T.kind y)) (scale-vzero F _) ∙ scale-vzero F _) ∙ vplus-vzero F w)) k)
   outer_step i j (plus c d) p s x y v z w a b k e =
-      let q = first_fits (λ m. add_signed T (plus c d) m v) (operate T.kind Mul x y) z e in
+      let q = first_fits (λ m. add_symbol T c d m v) (operate T.kind Mul x y) z e in
       let r = (reads T is_field).product x y q.0 a b q.1.0 in
       same T is_field m _ _ z (ap (vplus F w) (times_twice T is_field x y q.0 (place F (pairs c d)) r.1)) (signed_reads i j (plus c d) p s q.0 v z w r.0 k q.1.1)
   outer_step i j (minus c d) p s x y v z w a b k e =
-      let q = first_fits (λ m. add_signed T (minus c d) m v) (operate T.kind Mul x y) z e in
+      let q = first_fits (λ m. add_symbol T c d (negative_of T.kind m) v) (operate T.kind Mul x y) z e in
       let r = (reads T is_field).product x y q.0 a b q.1.0 in
       same T is_field m _ _ z (ap (vplus F w) (times_twice T is_field x y q.0 (scale F (F.minus F.unit) (place F (pairs c d))) r.1)) (signed_reads i j (minus c d) p s q.0 v z w r.0 k q.1.1)
-
-  with_is : (i : ℕ) (x : Num) (j : ℕ) (ys v : List Num) → outer_with T i x j ys v ≡ spread T (λ j y v. add_outer T (pairing T i j) x y v) j ys v
-  with_is i x j [] v = refl
-  with_is i x j (y ∷ ys) v = ap (λ f. and_then f (if is_nought y then Ok v else add_outer T (pairing T i j) x y v)) (fun_ext (λ w. with_is i x (j + 1) ys w))
-
-  from_is : (i : ℕ) (xs y v : List Num) → outer_from T i xs y v ≡ spread T (λ i x v. spread T (λ j b v. add_outer T (pairing T i j) x b v) 0 y v) i xs v
-  from_is i [] y v = refl
-  from_is i (x ∷ xs) y v = ap₂ (λ f r. and_then f (if is_nought x then Ok v else r)) (fun_ext (λ w. from_is (i + 1) xs y w)) (with_is i x 0 y v)
 
   abbrev pub HasWeight : ℕ → ℕ → Type 0
   HasWeight b i = (i < length T.basis) × (weight T i ≡ b)
@@ -118,13 +112,13 @@ module _ (T : PlainTable) (is_field : IsField T.kind) where
   unfolding outer
   outer_reads b c w x y z p q h k e =
       same T is_field m _ _ z (vzero-vplus F _)
-      (both_walks T.kind F (number_of T.kind) (reads T is_field) (units T is_field) T (length T.basis) m (HasWeight b) (HasWeight c) (λ i j x y v. add_outer T (pairing T i j) x y v)
+      (both_walks T.kind F (number_of T.kind) (reads T is_field) (units T is_field) (length T.basis) m (HasWeight b) (HasWeight c) (λ i j x y v. add_product T (add_symbol T) (pairing T i j) x y v)
       (outer_place F (table_in T.kind T) pairs)
       (λ i j x y v z u r s a b k e.
       let sum : weight T i + weight T j ≡ suc T.weight = let r1 = r.1 in let s1 = s.1 in omega arith in
       same T is_field m _ _ z (ap (λ f. vplus F u (scale F (number_of T.kind y) (scale F (number_of T.kind x) f))) (outer_is i j sum))
       (outer_step i j (pairing T i j) (pairing_is T i j r.0 s.0) sum x y v z u a b k e))
-      x y (zero_row m) z (vzero F) p.elements q.elements p.short q.short (places_of b x p.elements h) (places_of c y q.elements k) zero_symbols (sym (from_is 0 x y (zero_row m)) ∙ e))
+      x y (zero_row m) z (vzero F) p.elements q.elements p.short q.short (places_of b x p.elements h) (places_of c y q.elements k) zero_symbols e)
 
   -- void expressions have row 0
   outer_vzero : (x : Vector F) → outer F (table_in T.kind T) pairs x (vzero F) ≡ vzero F
@@ -268,7 +262,9 @@ module _ (T : PlainTable) (is_field : IsField T.kind) where
         Stands T is_field m (vplus F (row_in (tree_in T.kind q.left)) (scale F (F.minus F.unit) (row_in (tree_in T.kind q.right)))) v
     relation_reads q h k w v e =
         let s = suits_both (suc T.weight) (written (plain q.left)) (written (plain q.right)) (subst (Suits (suc T.weight)) (sym w) refl) in
-        let x = first_fits (λ x. and_then (λ y. add_row T.kind x (map (negative_of T.kind) y)) (form_of T (plain q.right))) (form_of T (plain q.left)) v e in
-        let y = first_fits (λ y. add_row T.kind x.0 (map (negative_of T.kind) y)) (form_of T (plain q.right)) v x.1.1 in
-        add_reads _ _ x.0 (map (negative_of T.kind) y.0) v (form_reads (plain q.left) h s.0 x.0 x.1.0)
-        (minus_reads T.kind F (number_of T.kind) (reads T is_field) (units T is_field) m _ y.0 (form_reads (plain q.right) k s.1 y.0 y.1.0)) y.1.1
+        let x = first_fits (λ x. and_then (λ y. take_off T.kind x y) (form_of T (plain q.right))) (form_of T (plain q.left)) v e in
+        let y = first_fits (λ y. take_off T.kind x.0 y) (form_of T (plain q.right)) v x.1.1 in
+        let right = form_reads (plain q.right) k s.1 y.0 y.1.0 in
+        same T is_field m _ _ v (ap (λ u. vplus F (row_in (tree_in T.kind q.left)) (scale F (F.minus F.unit) u)) right.vector)
+        (take_off_reads T.kind F (number_of T.kind) (reads T is_field) (units T is_field) m _ x.0 y.0 v (form_reads (plain q.left) h s.0 x.0 x.1.0) right.elements
+        (let l = right.long in omega arith) y.1.1)

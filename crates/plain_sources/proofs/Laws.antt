@@ -1,20 +1,19 @@
 -- The laws of tables, over the field of a sound presentation.
-use Rattle.std.specs.Prelude.{◌≡◌, ◌≢◌, ℕ, ◌+◌, ◌<◌, ◌≤◌, ◌-◌, ◌⊎◌, true, List, [], length, get_or, map, Ok, All, Contains}
-use mathlib.Core.Path.{sym, ap, refl, subst}
+use Rattle.std.specs.Prelude.{◌≡◌, ℕ, ◌+◌, ◌<◌, ◌≤◌, ◌-◌, ◌⊎◌, true, List, [], length, get_or, map, Ok, All, Contains}
+use mathlib.Core.Path.{sym, ap, subst}
 use mathlib.Core.Logic.{inl, inr}
 use native.Mathlib.Omega.{arith}
 use native.Mathlib.Decide.{dec_le}
-use Rattle.std.proofs.lemmas.List.{get_or-map, get_or_past, length-map}
+use Rattle.std.proofs.lemmas.List.{get_or_past, length-map}
 use Rattle.std.proofs.lemmas.List.Elements.{All-nil}
 use Rattle.math_linear.specs.Vector.{Vector}
 use Rattle.fpl_numbers.specs.declared.number.Num.{Num}
 use Rattle.fpl_numbers.specs.declared.number.Kind.{Kind}
 use Rattle.fpl_numbers.specs.Numbers.{IsField, IsElement}
 use Rattle.fpl_numbers.specs.Kinds.{field_of, Number}
-use Rattle.math_algebra.specs.Tree.{Tree, none, odd, Generator, no_generator, Presentation as Abstract, IsOver}
-use Rattle.math_algebra.specs.Degrees.{mixed, weight_of_both, parity_of_both}
+use Rattle.math_algebra.specs.Tree.{Tree, odd, Generator, no_generator, Presentation as Abstract}
 use Rattle.math_algebra.specs.Table.{ObeysLaw, IsOf, product, bracket, val}
-use Rattle.math_algebra.specs.Symbols.{symbols, is_odd}
+use Rattle.math_algebra.specs.Symbols.{is_odd}
 use Rattle.math_algebra.specs.SourceRows.{IsSource}
 use Rattle.math_algebra.specs.Built.{Built}
 use Rattle.math_algebra.proofs.Equations.{sound_homogeneous}
@@ -24,51 +23,22 @@ use Rattle.fpl_model.specs.declared.presentation.Presentation.{Presentation}
 use Rattle.fpl_model.specs.Meaning.{plain, in_field, generator_in, generators_in, equation_in, presentation_in}
 use Rattle.fpl_model.specs.Sound.{IsWithin, IsSound}
 use Rattle.fpl_log.specs.declared.step.Origin.{Origin}
-use Rattle.fpl_table.specs.Plain.{PlainTable, plain_basis, first_partner, generator_at, image_row, vector_in, table_in, symbols_in}
+use Rattle.fpl_rows.specs.Meaning.{vector_in}
+use Rattle.fpl_table.specs.Plain.{PlainTable, plain_basis, first_partner, generator_at, image_row, table_in, symbols_in}
 use Rattle.fpl_table.specs.Shape.{HasShape}
+use Rattle.fpl_table.specs.Standard.{printed_tree}
 use Rattle.fpl_table.proofs.Entries.{entry_row_within, image_row_within}
 use Rattle.fpl_table.specs.Value.{bracket_of, value_of}
 use Rattle.fpl_rewrite.specs.Origins.{origins_of}
 use Rattle.fpl_rewrite.specs.Rows.{row_of_origin}
+use Rattle.plain_tables.proofs.Holding.{sound_is_sound}
 use Rattle.plain_sources.specs.Premises.{IsRowIn, HasRows, HasWeights}
 use Rattle.plain_sources.specs.RowLaws.{Stands}
-use Rattle.plain_sources.specs.TableLaws.{SoundStands, WeightsOfTable, vector_of_origin}
+use Rattle.plain_sources.specs.TableLaws.{WeightsOfTable, vector_of_origin}
 use Rattle.plain_sources.proofs.Products.{bracket_reads}
-use Rattle.plain_sources.proofs.Values.{over_is, value_reads}
+use Rattle.plain_sources.proofs.Values.{value_reads}
 use Rattle.plain_sources.proofs.Listed.{listed, is_listed}
-use Rattle.plain_sources.proofs.Sources.{some_of, origin_reads, origin_source, source_origin}
-
--- the sides of a relation of a presentation
-sides : (p : Presentation) (k : ℕ) (l : k < length p.relations) → get_or (map (equation_in p.field) p.relations) k (none, none) ≡ equation_in p.field (get_or p.relations k (some_of p.relations k l))
-sides p k l = get_or-map (equation_in p.field) p.relations k (some_of p.relations k l) (none, none) l
-
--- a sound presentation is sound in the sense of the mathematics
-pub sound_stands : (p : Presentation) → SoundStands p
-sound_stands p sound = record {
-  positive = λ g l.
-      let l' = inside g l in
-      let d = some_of p.generators g l' in
-      subst (λ x. 0 < x.weight) (sym (get_or-map generator_in p.generators g d no_generator l')) (sound.weights g d l').0;
-  over = λ k l.
-      let l' = relation k l in
-      let h = sound.relations k (some_of p.relations k l') l' in
-      subst (λ q. IsOver (presentation_in p) (q.0) × IsOver (presentation_in p) (q.1)) (sym (sides p k l')) (over _ h.0.0, over _ h.1.0);
-  weights = λ k l.
-      let l' = relation k l in
-      subst (λ q. weight_of_both (presentation_in p) (q.0) (q.1) ≢ mixed) (sym (sides p k l')) (sound.relations k (some_of p.relations k l') l').2.0;
-  parities = λ k l.
-      let l' = relation k l in
-      subst (λ q. parity_of_both (presentation_in p) (q.0) (q.1) ≢ mixed) (sym (sides p k l')) (sound.relations k (some_of p.relations k l') l').2.1;
-}
-  where
-    inside : (g : ℕ) → g < length (generators_in p) → g < length p.generators
-    inside g l = omega (arith, length-map p.generators generator_in)
-
-    relation : (k : ℕ) → k < length (map (equation_in p.field) p.relations) → k < length p.relations
-    relation k l = omega (arith, length-map p.relations (equation_in p.field))
-
-    over : (e : Tree Num) → IsWithin p.field (length p.generators) e → IsOver (presentation_in p) (in_field p.field e)
-    over e h = over_is p.field (presentation_in p) e (subst (λ n. IsWithin p.field n e) (sym (length-map p.generators generator_in)) h)
+use Rattle.plain_sources.proofs.Sources.{origin_reads, origin_source, source_origin}
 
 -- the rows of a table of code
 pub rows_of_shape : (T : PlainTable) → HasShape T → HasRows T
@@ -98,12 +68,6 @@ module _ (p : Presentation) (T : PlainTable) (kind : T.kind ≡ p.field) (genera
   abbrev over : (k : Kind) → List Generator → Abstract (Number k)
   over k gs = record { generators = gs; relations = map (equation_in k) p.relations }
 
-  pub symbols_stand : symbols (presentation_in p) (table_in p.field T) ≡ symbols_in T
-  symbols_stand = there (λ k gs. symbols (over k gs) (table_in k T) ≡ symbols_in T) here
-    where
-      here : symbols (over T.kind T.generators) (table_in T.kind T) ≡ symbols_in T
-      here = unfold symbols in refl
-
   abbrev ImagesAt : Kind → List Generator → Type 0
   ImagesAt k gs = (g : ℕ) → g < length gs → IsOf (field_of k) (table_in k T) (get_or gs g no_generator).weight (vector_in k (image_row T g))
 
@@ -116,7 +80,7 @@ module _ (p : Presentation) (T : PlainTable) (kind : T.kind ≡ p.field) (genera
 
   pub weights_of_built : IsSound p → Built (field_of p.field) (presentation_in p) (table_in p.field T) → HasWeights T
   weights_of_built sound built =
-      let facts = (built_whole (field_of p.field) (presentation_in p) (sound_homogeneous (presentation_in p) (sound_stands p sound)) (table_in p.field T) built).facts in
+      let facts = (built_whole (field_of p.field) (presentation_in p) (sound_homogeneous (presentation_in p) (sound_is_sound p sound)) (table_in p.field T) built).facts in
       record { positive = facts.positive; within = facts.within; images = back ImagesAt facts.image_of; products = back ProductsAt facts.entry_of }
 
   within_here : (e : Tree Num) → IsWithin p.field (length p.generators) e → IsWithin T.kind (length T.generators) e
@@ -161,4 +125,4 @@ module _ (p : Presentation) (T : PlainTable) (kind : T.kind ≡ p.field) (genera
 pub weights_of_table : (p : Presentation) → WeightsOfTable p
 weights_of_table p sound d T table =
     weights_of_built p T table.kind table.generators sound
-    (standard_is_built (field_of p.field) (presentation_in p) (sound_stands p sound) (table_in p.field T) table.tree table.standard)
+    (standard_is_built (field_of p.field) (presentation_in p) (sound_is_sound p sound) (table_in p.field T) (printed_tree p T) table.standard)

@@ -2,6 +2,7 @@ pub mod Fits
 pub mod Rows
 pub mod Walks
 pub mod Units
+pub mod UnitMultiples
 pub mod Pairs
 pub mod Products
 pub mod Values

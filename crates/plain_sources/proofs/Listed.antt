@@ -15,7 +15,9 @@ use Rattle.fpl_model.specs.declared.presentation.Presentation.{Presentation}
 use Rattle.fpl_log.specs.declared.step.Origin.{Origin}
 use Rattle.fpl_log.specs.declared.step.Origin.TheVariants.{Relation, Jacobi, Cube}
 use Rattle.fpl_table.specs.Plain.{PlainTable}
-use Rattle.fpl_rewrite.specs.Origins.{joined, relation_weight, is_exactly, relations_from, relations_of, is_triple, triples_of, is_cube, is_three, cubes_of, origins_of}
+use Rattle.math_linear.specs.Lists.{joined}
+use Rattle.fpl_model.specs.Degrees.{is_exactly}
+use Rattle.fpl_rewrite.specs.Origins.{relation_weight, relations_from, relations_of, is_triple, triples_of, is_cube, is_three, cubes_of, origins_of}
 use Rattle.fpl_rewrite.proofs.Listed.{one_if, in_joined, odd_is}
 use Rattle.plain_sources.proofs.Pairs.{weight, parity}
 

@@ -1,6 +1,6 @@
 -- The plain bracket of two rows is the bracket of their vectors in the table.
-use Rattle.std.specs.Prelude.{◌≡◌, ℕ, ◌+◌, ◌<◌, ◌≤◌, List, [], ◌∷◌, length, Ok, true, false, nat_le, if◌then◌else◌}
-use mathlib.Core.Path.{sym, refl, ap, ap₂, ◌∙◌, subst, fun_ext}
+use Rattle.std.specs.Prelude.{◌≡◌, ℕ, ◌+◌, ◌<◌, ◌≤◌, List, [], length, Ok, true, false, nat_le}
+use mathlib.Core.Path.{sym, refl, ap, ◌∙◌, subst}
 use native.Mathlib.Omega.{arith}
 use native.Mathlib.Decide.{dec_le}
 use Rattle.std.proofs.lemmas.List.Elements.{All-nil}
@@ -10,8 +10,7 @@ use Rattle.math_linear.proofs.Vectors.{vplus-vzero, vzero-vplus, scale_scale, sc
 use Rattle.math_linear.proofs.Numbers.{minus-times, unit-times}
 use Rattle.fpl_numbers.specs.declared.number.Num.{Num}
 use Rattle.fpl_numbers.specs.declared.number.Op.TheVariants.{Mul}
-use Rattle.fpl_numbers.specs.Numbers.{IsField, IsElement, operate, is_nought, negative_of}
-use Rattle.fpl_numbers.specs.Results.{and_then}
+use Rattle.fpl_numbers.specs.Numbers.{IsField, IsElement, operate, negative_of}
 use Rattle.fpl_numbers.specs.Kinds.{field_of, number_of}
 use Rattle.fpl_numbers.specs.Reads.{Reads}
 use Rattle.fpl_numbers.proofs.KindReads.{kind_reads}
@@ -19,9 +18,10 @@ use Rattle.fpl_scalar.specs.Vectors.{axpy_of}
 use Rattle.fpl_rows.proofs.Fits.{ok_same, first_fits}
 use Rattle.math_algebra.specs.Table.{product, bracket}
 use Rattle.math_values.proofs.Parts.{product_past}
-use Rattle.fpl_table.specs.Plain.{PlainTable, entry_row, vector_in, table_in, Pairing, nothing, plus, minus, pairing}
-use Rattle.fpl_table.specs.Value.{zero_row, add_entry, add_product, bracket_with, bracket_from, bracket_of}
-use Rattle.fpl_rewrite.specs.Rows.{spread}
+use Rattle.fpl_rows.specs.Meaning.{vector_in}
+use Rattle.fpl_table.specs.Plain.{PlainTable, entry_row, table_in, Pairing, nothing, plus, minus, pairing}
+use Rattle.fpl_table.specs.Sums.{add_product}
+use Rattle.fpl_table.specs.Value.{zero_row, add_entry, bracket_of}
 use Rattle.plain_sources.specs.Premises.{IsFor, IsRowIn, HasRows}
 use Rattle.plain_sources.proofs.Rows.{HasUnits, for_same, zero_row_reads, axpy_reads}
 use Rattle.plain_sources.proofs.Units.{kind_units}
@@ -80,7 +80,7 @@ module _ (T : PlainTable) (is_field : IsField T.kind) where
     n = length T.basis
 
     within_reads : (i j : ℕ) (pr : Pairing) → IsPaired T i j pr → weight T i + weight T j ≤ T.weight → (x y : Num) (v z : List Num) (w : Vector K) → IsElement T.kind x → IsElement T.kind y →
-        Stands n w v → add_product T pr x y v ≡ Ok z → Stands n (vplus K w (scale K (number_of T.kind y) (scale K (number_of T.kind x) (paired K entry pr)))) z
+        Stands n w v → add_product T (add_entry T) pr x y v ≡ Ok z → Stands n (vplus K w (scale K (number_of T.kind y) (scale K (number_of T.kind x) (paired K entry pr)))) z
     within_reads i j nothing p h x y v z w a b k e =
         subst (Stands n _) (ok_same e) (same n w _ v (sym (ap (vplus K w) (ap (scale K (number_of T.kind y)) (scale-vzero K _) ∙ scale-vzero K _) ∙ vplus-vzero K w)) k)
     within_reads i j (plus c d) p h x y v z w a b k e =
@@ -97,14 +97,14 @@ module _ (T : PlainTable) (is_field : IsField T.kind) where
         (axpy_reads T.kind K (number_of T.kind) reads units n w v (entry_row T c d) z (negative_of T.kind m.0) k (reads.negative m.0 q.0).0 r.elements r.short
         (sym (entry_within c d (negative_of T.kind m.0) v (omega (arith, p.weights))) ∙ m.1.1))
 
-    past_same : (i j : ℕ) (pr : Pairing) → IsPaired T i j pr → T.weight < weight T i + weight T j → (x y : Num) (v z : List Num) → add_product T pr x y v ≡ Ok z → v ≡ z
+    past_same : (i j : ℕ) (pr : Pairing) → IsPaired T i j pr → T.weight < weight T i + weight T j → (x y : Num) (v z : List Num) → add_product T (add_entry T) pr x y v ≡ Ok z → v ≡ z
     past_same i j nothing p h x y v z e = ok_same e
     past_same i j (plus c d) p h x y v z e =
         let m = first_fits (λ m. add_entry T c d m v) (operate T.kind Mul x y) z e in ok_same (sym (entry_past c d m.0 v (omega (arith, p.weights))) ∙ m.1.1)
     past_same i j (minus c d) p h x y v z e =
         let m = first_fits (λ m. add_entry T c d (negative_of T.kind m) v) (operate T.kind Mul x y) z e in ok_same (sym (entry_past c d (negative_of T.kind m.0) v (omega (arith, p.weights))) ∙ m.1.1)
 
-    product_reads : (i j : ℕ) (x y : Num) (v z : List Num) (w : Vector K) → i < n → j < n → IsElement T.kind x → IsElement T.kind y → Stands n w v → add_product T (pairing T i j) x y v ≡ Ok z →
+    product_reads : (i j : ℕ) (x y : Num) (v z : List Num) (w : Vector K) → i < n → j < n → IsElement T.kind x → IsElement T.kind y → Stands n w v → add_product T (add_entry T) (pairing T i j) x y v ≡ Ok z →
         Stands n (vplus K w (scale K (number_of T.kind y) (scale K (number_of T.kind x) (product K (table_in T.kind T) i j)))) z
     product_reads i j x y v z w l l' a b k e = go (dec_le (weight T i + weight T j) T.weight)
       where
@@ -121,15 +121,6 @@ module _ (T : PlainTable) (is_field : IsField T.kind) where
             ∙ vplus-vzero K w))
             k)
 
-    with_is : (i : ℕ) (x : Num) (j : ℕ) (ys v : List Num) → bracket_with T i x j ys v ≡ spread T (λ j y v. add_product T (pairing T i j) x y v) j ys v
-    with_is i x j [] v = refl
-    with_is i x j (y ∷ ys) v = ap (λ f. and_then f (if is_nought y then Ok v else add_product T (pairing T i j) x y v)) (fun_ext (λ w. with_is i x (j + 1) ys w))
-
-    from_is : (i : ℕ) (xs y v : List Num) → bracket_from T i xs y v ≡ spread T (λ i x v. spread T (λ j b v. add_product T (pairing T i j) x b v) 0 y v) i xs v
-    from_is i [] y v = refl
-    from_is i (x ∷ xs) y v =
-        ap₂ (λ f r. and_then f (if is_nought x then Ok v else r)) (fun_ext (λ w. from_is (i + 1) xs y w)) (with_is i x 0 y v)
-
     below : (row : List Num) → length row ≤ n → Places (λ i. i < n) 0 row
     below row l s d h e = omega arith
 
@@ -139,6 +130,6 @@ module _ (T : PlainTable) (is_field : IsField T.kind) where
     unfolding bracket
     bracket_reads x y z a b e =
         same n _ _ z (vzero-vplus K _)
-        (both_walks T.kind K (number_of T.kind) reads units T n n (λ i. i < n) (λ j. j < n) (λ i j x y v. add_product T (pairing T i j) x y v) (product K (table_in T.kind T))
+        (both_walks T.kind K (number_of T.kind) reads units n n (λ i. i < n) (λ j. j < n) (λ i j x y v. add_product T (add_entry T) (pairing T i j) x y v) (product K (table_in T.kind T))
         (λ i j x y v z w l l' a b k e. product_reads i j x y v z w l l' a b k e) x y (zero_row n) z (vzero K) a.elements b.elements a.short b.short (below x a.short) (below y b.short)
-        (zero_row_reads T.kind K (number_of T.kind) reads units n) (sym (from_is 0 x y (zero_row n)) ∙ e))
+        (zero_row_reads T.kind K (number_of T.kind) reads units n) e)

@@ -1,15 +1,15 @@
 -- Rows of plain numbers, and the vectors that they stand for.
-use Rattle.std.specs.Prelude.{◌≡◌, ◌≢◌, ℕ, zero, suc, ◌-◌, ◌<◌, ◌≤◌, List, [], ◌∷◌, ◌++◌, length, get_or, map, set, replicate, Ok}
+use Rattle.std.specs.Prelude.{◌≡◌, ◌≢◌, ℕ, zero, suc, ◌<◌, ◌≤◌, List, [], ◌∷◌, length, get_or, map, set, replicate, Ok}
 use mathlib.Core.Path.{sym, refl, ap, ◌∙◌, fun_ext, subst}
 use native.Mathlib.Omega.{arith}
 use native.Mathlib.Decide.{ℕ_discrete}
-use Rattle.std.proofs.lemmas.List.{length-set, length-append, length-replicate, length-map}
-use Rattle.std.proofs.lemmas.List.Elements.{All-nil, All-cons, All-head, All-tail, All-append, All-replicate, All-set}
+use Rattle.std.proofs.lemmas.List.{length-set, length-replicate, length-map}
+use Rattle.std.proofs.lemmas.List.Elements.{All-nil, All-cons, All-head, All-tail, All-replicate, All-set}
 use Rattle.math_fields.specs.Field.{Field}
 use Rattle.math_linear.specs.Vector.{Vector, vzero, vplus, scale, place}
 use Rattle.math_linear.specs.Lists.{vector_of}
 use Rattle.math_linear.proofs.Numbers.{times-nought, minus-times, unit-times}
-use Rattle.math_linear.proofs.Vectors.{place_same, place_other}
+use Rattle.math_linear.proofs.Vectors.{place_same, place_other, scale-unit}
 use Rattle.fpl_numbers.specs.declared.number.Num.{Num}
 use Rattle.fpl_numbers.specs.declared.number.Kind.{Kind}
 use Rattle.fpl_numbers.specs.declared.number.Op.TheVariants.{Add, Mul}
@@ -18,7 +18,9 @@ use Rattle.fpl_numbers.specs.Results.{and_then}
 use Rattle.fpl_numbers.specs.Reads.{Reads}
 use Rattle.fpl_scalar.specs.Vectors.{AreElements, axpy_of, scale_of}
 use Rattle.fpl_rows.proofs.Fits.{ok_same, first_fits, part_fits}
-use Rattle.fpl_table.specs.Value.{zero_row, padded, add_at, add_row}
+use Rattle.fpl_rows.specs.Positions.{added_at}
+use Rattle.fpl_table.specs.Value.{zero_row, add_row}
+use Rattle.fpl_rewrite.specs.Rows.{take_off}
 use Rattle.plain_sources.specs.Premises.{IsFor}
 
 -- 0 and 1 as plain numbers
@@ -53,18 +55,6 @@ module _ (kind : Kind) (K : Field) (value : Num → K.Carrier) (reads : Reads ki
   unfolding vzero
   zero_row_reads n = record { elements = All-replicate (IsElement kind) n (residue 0) units.nought; long = length-replicate n (residue 0); vector = fun_ext (zeros_at n) }
 
-  padded_at : (row : List Num) (n s : ℕ) → vector_of K value (row ++ replicate n (residue 0)) s ≡ vector_of K value row s
-  padded_at [] n s = zeros_at n s
-  padded_at (x ∷ xs) n zero = refl
-  padded_at (x ∷ xs) n (suc s) = padded_at xs n s
-
-  pub padded_reads : (n : ℕ) (row : List Num) → AreElements kind row → length row ≤ n → IsFor kind K value n (vector_of K value row) (padded n row)
-  padded_reads n row h l = record {
-    elements = All-append (IsElement kind) row (zero_row (n - length row)) h (All-replicate (IsElement kind) (n - length row) (residue 0) units.nought);
-    long = omega (arith, length-append row (zero_row (n - length row)), length-replicate (n - length row) (residue 0));
-    vector = fun_ext (padded_at row (n - length row));
-  }
-
   set_same : (row : List Num) (s : ℕ) (x : Num) → s < length row → vector_of K value (set row s x) s ≡ value x
   set_same [] s x l = absurd (omega arith)
   set_same (y ∷ ys) zero x l = refl
@@ -77,9 +67,9 @@ module _ (kind : Kind) (K : Field) (value : Num → K.Carrier) (reads : Reads ki
   set_other (y ∷ ys) (suc s) zero x d = refl
   set_other (y ∷ ys) (suc s) (suc t) x d = set_other ys s t x (λ e. d (ap suc e))
 
-  added_at : (row : List Num) (s t : ℕ) (x c : Num) → s < length row → value x ≡ K.plus (vector_of K value row s) (value c) →
+  sum_at : (row : List Num) (s t : ℕ) (x c : Num) → s < length row → value x ≡ K.plus (vector_of K value row s) (value c) →
       vector_of K value (set row s x) t ≡ K.plus (vector_of K value row t) (K.times (value c) (place K s t))
-  added_at row s t x c l e = go (ℕ_discrete s t)
+  sum_at row s t x c l e = go (ℕ_discrete s t)
     where
       go : Dec (s ≡ t) → vector_of K value (set row s x) t ≡ K.plus (vector_of K value row t) (K.times (value c) (place K s t))
       go (yes d) =
@@ -89,7 +79,7 @@ module _ (kind : Kind) (K : Field) (value : Num → K.Carrier) (reads : Reads ki
           set_other row s t x d ∙ sym (K.plus-nought _) ∙ ap (K.plus (vector_of K value row t)) (sym (ap (K.times (value c)) (place_other K s t d) ∙ times-nought K (value c)))
 
   -- a number added at a place
-  pub add_at_reads : (n : ℕ) (w : Vector K) (v z : List Num) (s : ℕ) (c : Num) → IsFor kind K value n w v → IsElement kind c → s < n → add_at kind v s c ≡ Ok z →
+  pub add_at_reads : (n : ℕ) (w : Vector K) (v z : List Num) (s : ℕ) (c : Num) → IsFor kind K value n w v → IsElement kind c → s < n → added_at kind v s c ≡ Ok z →
       IsFor kind K value n (vplus K w (scale K (value c) (place K s))) z
   unfolding vplus scale
   add_at_reads n w v z s c h b l e =
@@ -101,37 +91,9 @@ module _ (kind : Kind) (K : Field) (value : Num → K.Carrier) (reads : Reads ki
         long = ap length f.1.1 ∙ length-set v s f.0 ∙ h.long;
         vector =
             ap (vector_of K value) f.1.1
-            ∙ fun_ext (λ t. added_at v s t f.0 c inside (q.1 ∙ ap (λ a. K.plus a (value c)) (sym (at_place v s (residue 0) inside))))
+            ∙ fun_ext (λ t. sum_at v s t f.0 c inside (q.1 ∙ ap (λ a. K.plus a (value c)) (sym (at_place v s (residue 0) inside))))
             ∙ ap (λ u t. K.plus (u t) (K.times (value c) (place K s t))) h.vector;
       }
-
-  sum_places : (xs ys zs : List Num) → AreElements kind xs → AreElements kind ys → length ys ≤ length xs → add_row kind xs ys ≡ Ok zs →
-      AreElements kind zs × ((length zs ≡ length xs) × ((s : ℕ) → vector_of K value zs s ≡ K.plus (vector_of K value xs s) (vector_of K value ys s)))
-  sum_places [] [] zs a d l e =
-      let is : [] ≡ zs = ok_same e in
-      (subst (AreElements kind) is a, (ap length (sym is), λ s. ap (λ w. vector_of K value w s) (sym is) ∙ sym (K.plus-nought K.nought)))
-  sum_places [] (y ∷ ys) zs a d l e = absurd (omega arith)
-  sum_places (x ∷ xs) [] zs a d l e =
-      let is : x ∷ xs ≡ zs = ok_same e in
-      (subst (AreElements kind) is a, (ap length (sym is), λ s. ap (λ w. vector_of K value w s) (sym is) ∙ sym (K.plus-nought _)))
-  sum_places (x ∷ xs) (y ∷ ys) zs a d l e =
-      let t = first_fits _ (operate kind Add x y) zs e in
-      let q = reads.sum x y t.0 (All-head (IsElement kind) x xs a) (All-head (IsElement kind) y ys d) t.1.0 in
-      let r = part_fits _ (add_row kind xs ys) zs t.1.1 in
-      let k = sum_places xs ys r.0 (All-tail (IsElement kind) x xs a) (All-tail (IsElement kind) y ys d) (omega arith) r.1.0 in
-      (subst (AreElements kind) (sym r.1.1) (All-cons (IsElement kind) t.0 r.0 q.0 k.0), (ap length r.1.1 ∙ ap suc k.1.0, λ s. ap (λ w. vector_of K value w s) r.1.1 ∙ go t.0 r.0 q.1 k.1.1 s))
-    where
-      go : (t : Num) (rest : List Num) → value t ≡ K.plus (value x) (value y) → ((s : ℕ) → vector_of K value rest s ≡ K.plus (vector_of K value xs s) (vector_of K value ys s)) →
-          (s : ℕ) → vector_of K value (t ∷ rest) s ≡ K.plus (vector_of K value (x ∷ xs) s) (vector_of K value (y ∷ ys) s)
-      go t rest h k zero = h
-      go t rest h k (suc s) = k s
-
-  -- a row added
-  pub add_row_reads : (n : ℕ) (w : Vector K) (v x z : List Num) → IsFor kind K value n w v → AreElements kind x → length x ≤ n → add_row kind v x ≡ Ok z → IsFor kind K value n (vplus K w (vector_of K value x)) z
-  unfolding vplus
-  add_row_reads n w v x z h d l e =
-      let k = sum_places v x z h.elements d (omega (arith, h.long)) e in
-      record { elements = k.0; long = k.1.0 ∙ h.long; vector = fun_ext k.1.1 ∙ ap (λ u s. K.plus (u s) (vector_of K value x s)) h.vector }
 
   axpy_places : (xs ys zs : List Num) (c : Num) → AreElements kind xs → IsElement kind c → AreElements kind ys → length ys ≤ length xs → axpy_of kind xs c ys ≡ Ok zs →
       AreElements kind zs × ((length zs ≡ length xs) × ((s : ℕ) → vector_of K value zs s ≡ K.plus (vector_of K value xs s) (K.times (value c) (vector_of K value ys s))))
@@ -164,6 +126,18 @@ module _ (kind : Kind) (K : Field) (value : Num → K.Carrier) (reads : Reads ki
   axpy_reads n w v x z c h b d l e =
       let k = axpy_places v x z c h.elements b d (omega (arith, h.long)) e in
       record { elements = k.0; long = k.1.0 ∙ h.long; vector = fun_ext k.1.1 ∙ ap (λ u s. K.plus (u s) (K.times (value c) (vector_of K value x s))) h.vector }
+
+  -- a row added
+  pub add_row_reads : (n : ℕ) (w : Vector K) (v x z : List Num) → IsFor kind K value n w v → AreElements kind x → length x ≤ n → add_row kind v x ≡ Ok z → IsFor kind K value n (vplus K w (vector_of K value x)) z
+  add_row_reads n w v x z h d l e =
+      for_same n _ _ z (ap (vplus K w) (ap (λ c. scale K c (vector_of K value x)) units.unit_is ∙ scale-unit K _)) (axpy_reads n w v x z (residue 1) h units.unit d l e)
+
+  -- a row taken off
+  pub take_off_reads : (n : ℕ) (w : Vector K) (v x z : List Num) → IsFor kind K value n w v → AreElements kind x → length x ≤ n → take_off kind v x ≡ Ok z →
+      IsFor kind K value n (vplus K w (scale K (K.minus K.unit) (vector_of K value x))) z
+  take_off_reads n w v x z h d l e =
+      let minus = reads.negative (residue 1) units.unit in
+      for_same n _ _ z (ap (λ c. vplus K w (scale K c (vector_of K value x))) (minus.1 ∙ ap K.minus units.unit_is)) (axpy_reads n w v x z (negative_of kind (residue 1)) h minus.0 d l e)
 
   scale_places : (xs zs : List Num) (c : Num) → AreElements kind xs → IsElement kind c → scale_of kind c xs ≡ Ok zs →
       AreElements kind zs × ((length zs ≡ length xs) × ((s : ℕ) → vector_of K value zs s ≡ K.times (value c) (vector_of K value xs s)))

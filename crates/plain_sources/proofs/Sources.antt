@@ -11,7 +11,7 @@ use Rattle.fpl_numbers.specs.Kinds.{field_of, Number}
 use Rattle.math_algebra.specs.Tree.{Tree, Trees, gen, none, sum_of, multiple, bracket_of as br, end, more, Generator, Presentation as Abstract, left, right}
 use Rattle.math_algebra.specs.Degrees.{exact, of_both, of_bracket, weight_of, weights_of, weight_of_both}
 use Rattle.math_algebra.specs.Table.{Symbol, of_generator, of_pair, bracket}
-use Rattle.math_algebra.specs.Symbols.{symbols, place_of, pair_number}
+use Rattle.math_algebra.specs.Symbols.{symbols, place_of, pair_number, symbols_of}
 use Rattle.math_algebra.specs.SourceRows.{outer, row_of, jacobi_row, relation_row, cube_row, IsSource}
 use Rattle.math_algebra.specs.SourceRows.IsSource.{of_relation, of_triple, of_cube}
 use Rattle.fpl_model.specs.declared.presentation.Equation.{Equation}
@@ -85,7 +85,7 @@ module _ (T : PlainTable) (is_field : IsField T.kind) (rows : HasRows T) (weight
   m = length (symbols_in T)
 
   symbols_same : symbols P (table_in T.kind T) ≡ symbols_in T
-  unfolding symbols
+  unfolding symbols symbols_of
   symbols_same = refl
 
   equation_is : (k : ℕ) (d : Equation) → k < length p.relations → get_or (map (equation_in T.kind) p.relations) k (none, none) ≡ equation_in T.kind (get_or p.relations k d)

@@ -18,9 +18,11 @@ use Rattle.math_algebra.specs.Derives.{sign}
 use Rattle.math_algebra.specs.Table.{IsOf, product}
 use Rattle.math_algebra.specs.SourceRows.{outer_place, jacobi_row, cube_row}
 use Rattle.math_standard.proofs.Views.{jacobi_entries, cube_entries}
-use Rattle.fpl_table.specs.Plain.{PlainTable, vector_in, table_in, shell_in, Pairing, nothing, plus, minus, itself, pairing}
+use Rattle.fpl_rows.specs.Meaning.{vector_in}
+use Rattle.fpl_table.specs.Plain.{PlainTable, table_in, shell_in, Pairing, nothing, plus, minus, itself, pairing}
 use Rattle.fpl_table.specs.Value.{zero_row}
-use Rattle.fpl_rewrite.specs.Rows.{add_signed, entry_by, entry_if, spread, first_terms, second_terms, swapped, third_terms, jacobi_row_of, cube_row_of}
+use Rattle.fpl_table.specs.Sums.{add_each}
+use Rattle.fpl_rewrite.specs.Rows.{add_signed, entry_by, entry_if, first_terms, second_terms, swapped, third_terms, jacobi_row_of, cube_row_of}
 use Rattle.plain_sources.specs.Premises.{IsRowIn, HasRows, HasWeights}
 use Rattle.plain_sources.proofs.Walks.{Adds, Places, walk_reads}
 use Rattle.plain_sources.proofs.Pairs.{paired, weight, parity, pairing_below, pairing_itself, IsPaired, pairing_is}
@@ -75,11 +77,11 @@ module _ (T : PlainTable) (is_field : IsField T.kind) where
       same T is_field (m T is_field) _ _ z (ap (λ f. vplus F w (scale F (number_of T.kind c) f)) (outer_is T is_field i j h))
       (signed_reads T is_field i j (pairing T i j) (pairing_is T i j l k) h c v z w is s e)
 
-  first_adds : (i b : ℕ) → i < n → weight T i + b ≡ suc T.weight → Adds T.kind F (number_of T.kind) (reads T is_field) (units T is_field) T (m T is_field) (HasWeight T is_field b) (first_terms T i) (at i)
+  first_adds : (i b : ℕ) → i < n → weight T i + b ≡ suc T.weight → Adds T.kind F (number_of T.kind) (reads T is_field) (units T is_field) (m T is_field) (HasWeight T is_field b) (first_terms T i) (at i)
   first_adds i b l h t c v z w s is k e = at_reads i t l s.0 (let d = s.1 in omega arith) c v z w is k e
 
   second_adds : (k b : ℕ) → k < n → b + weight T k ≡ suc T.weight →
-      Adds T.kind F (number_of T.kind) (reads T is_field) (units T is_field) T (m T is_field) (HasWeight T is_field b) (second_terms T k) (λ t. scale F (F.minus F.unit) (at t k))
+      Adds T.kind F (number_of T.kind) (reads T is_field) (units T is_field) (m T is_field) (HasWeight T is_field b) (second_terms T k) (λ t. scale F (F.minus F.unit) (at t k))
   second_adds k b l h t c v z w s is q e =
       same T is_field (m T is_field) _ _ z (ap (vplus F w) (minus_once T is_field c (at t k) is))
       (at_reads t k s.0 l (let d = s.1 in omega arith) (negative_of T.kind c) v z w ((reads T is_field).negative c is).0 q e)
@@ -93,7 +95,7 @@ module _ (T : PlainTable) (is_field : IsField T.kind) where
   turn i j = F.minus (sign F (parity T i) (parity T j))
 
   third_adds : (i j b : ℕ) → j < n → weight T j + b ≡ suc T.weight →
-      Adds T.kind F (number_of T.kind) (reads T is_field) (units T is_field) T (m T is_field) (HasWeight T is_field b) (third_terms T i j) (λ t. scale F (turn i j) (at j t))
+      Adds T.kind F (number_of T.kind) (reads T is_field) (units T is_field) (m T is_field) (HasWeight T is_field b) (third_terms T i j) (λ t. scale F (turn i j) (at j t))
   third_adds i j b l h t c v z w s is q e =
       let r = swapped_is (parity T i) (parity T j) c is in
       same T is_field (m T is_field) _ _ z (ap (vplus F w) (ap (λ a. scale F a (at j t)) r.1 ∙ sym (scale_scale F _ _ (at j t))))
@@ -117,13 +119,13 @@ module _ (T : PlainTable) (is_field : IsField T.kind) where
 
     -- a walk over the entry of an ordered pair adds the sum over its product
     entry_walk : (i j : ℕ) → i ≤ j → j < n → weight T i + weight T j ≤ T.weight → (step : ℕ → Num → List Num → Result (List Num) Unfit) (form : ℕ → Vector F) →
-        Adds T.kind F (number_of T.kind) (reads T is_field) (units T is_field) T (m T is_field) (HasWeight T is_field (weight T i + weight T j)) step form → (v z : List Num) (w : Vector F) →
-        Stands T is_field (m T is_field) w v → spread T step 0 (entry_if T i j) v ≡ Ok z →
+        Adds T.kind F (number_of T.kind) (reads T is_field) (units T is_field) (m T is_field) (HasWeight T is_field (weight T i + weight T j)) step form → (v z : List Num) (w : Vector F) →
+        Stands T is_field (m T is_field) w v → add_each step 0 (entry_if T i j) v ≡ Ok z →
         Stands T is_field (m T is_field) (vplus F w (total F n (λ t. scale F (product F (table_in T.kind T) i j t) (form t)))) z
     entry_walk i j l k h step form adds v z w s e =
         let r = entry_in i j l k h in
         same T is_field (m T is_field) _ _ z (ap (λ u. vplus F w (total F n (λ t. scale F (u t) (form t)))) (entry_is i j l h))
-        (walk_reads T.kind F (number_of T.kind) (reads T is_field) (units T is_field) T n (m T is_field) (HasWeight T is_field (weight T i + weight T j)) step form adds
+        (walk_reads T.kind F (number_of T.kind) (reads T is_field) (units T is_field) n (m T is_field) (HasWeight T is_field (weight T i + weight T j)) step form adds
         (entry_if T i j) v z w r.elements r.short (entry_places i j l k h) s e)
 
     scaled_total : (a : F.Carrier) (f : ℕ → F.Carrier) (g : ℕ → Vector F) → total F n (λ t. scale F (f t) (scale F a (g t))) ≡ scale F a (total F n (λ t. scale F (f t) (g t)))
@@ -133,8 +135,8 @@ module _ (T : PlainTable) (is_field : IsField T.kind) where
     pub jacobi_reads : (i j k : ℕ) → i ≤ j → j ≤ k → k < n → weight T i + weight T j + weight T k ≡ suc T.weight → (v : List Num) → jacobi_row_of T i j k ≡ Ok v →
         Stands T is_field (m T is_field) (jacobi_row F (table_in T.kind T) (pairs T is_field) i j k) v
     jacobi_reads i j k l l' q h v e =
-        let y = first_fits (λ w. spread T (third_terms T i j) 0 (entry_if T i k) w) (and_then (λ w. spread T (second_terms T k) 0 (entry_if T i j) w) (spread T (first_terms T i) 0 (entry_if T j k) (zero_row (m T is_field)))) v e in
-        let x = first_fits (λ w. spread T (second_terms T k) 0 (entry_if T i j) w) (spread T (first_terms T i) 0 (entry_if T j k) (zero_row (m T is_field))) y.0 y.1.0 in
+        let y = first_fits (λ w. add_each (third_terms T i j) 0 (entry_if T i k) w) (and_then (λ w. add_each (second_terms T k) 0 (entry_if T i j) w) (add_each (first_terms T i) 0 (entry_if T j k) (zero_row (m T is_field)))) v e in
+        let x = first_fits (λ w. add_each (second_terms T k) 0 (entry_if T i j) w) (add_each (first_terms T i) 0 (entry_if T j k) (zero_row (m T is_field))) y.0 y.1.0 in
         let pi = weights.positive i (omega arith) in
         let pj = weights.positive j (omega arith) in
         let pk = weights.positive k q in

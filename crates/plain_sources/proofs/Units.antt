@@ -8,7 +8,8 @@ use Rattle.math_fields.specs.Field.{Field}
 use Rattle.fpl_numbers.specs.declared.number.Kind.{Kind}
 use Rattle.fpl_numbers.specs.declared.number.Kind.TheVariants.{Rational, Prime}
 use Rattle.fpl_numbers.specs.declared.number.Op.TheVariants.{Mul}
-use Rattle.fpl_numbers.specs.Numbers.{IsListed, IsField, IsElement, operate, residue, gcd_within, gcd}
+use Rattle.math_fields.specs.Gcd.{gcd_within, gcd}
+use Rattle.fpl_numbers.specs.Numbers.{IsListed, IsField, IsElement, operate, residue}
 use Rattle.fpl_numbers.specs.Kinds.{field_of, number_of}
 use Rattle.fpl_numbers.proofs.KindReads.{kind_reads, listed_prime}
 use Rattle.plain_sources.proofs.Rows.{HasUnits}

@@ -25,9 +25,9 @@ use Rattle.math_standard.proofs.Next.{of_past}
 use Rattle.fpl_model.specs.Meaning.{in_field, all_in_field}
 use Rattle.fpl_model.specs.Sound.{IsWithin, AreWithin}
 use Rattle.fpl_table.specs.Plain.{PlainTable, image_row, table_in, shell_in}
-use Rattle.fpl_table.specs.Value.{zero_row, padded, add_row, bracket_of, is_weight_light, is_light, value_of, values_of}
+use Rattle.fpl_table.specs.Value.{zero_row, add_row, bracket_of, is_weight_light, is_light, value_of, values_of}
 use Rattle.plain_sources.specs.Premises.{IsRowIn, HasRows, HasWeights}
-use Rattle.plain_sources.proofs.Rows.{zero_row_reads, padded_reads, scale_reads, add_row_reads}
+use Rattle.plain_sources.proofs.Rows.{zero_row_reads, scale_reads, add_row_reads}
 use Rattle.plain_sources.proofs.Products.{reads, units, Stands, same, bracket_reads}
 
 -- an expression within the generators of a presentation is one over it
@@ -94,9 +94,10 @@ module _ (T : PlainTable) (is_field : IsField T.kind) (rows : HasRows T) (weight
 
     pub value_reads : (e : Tree Num) → IsWithin T.kind (length T.generators) e → (v : List Num) → value_of T e ≡ Ok v → Stands T is_field n (value_in (in_field T.kind e)) v
     value_reads (gen g) h v f =
-        by_light (gen g) (is_light T (gen g)) h refl (Ok (padded n (image_row T (g - 1)))) v f
+        by_light (gen g) (is_light T (gen g)) h refl (add_row T.kind (zero_row n) (image_row T (g - 1))) v f
         (λ e. let i = rows.images (g - 1) (let l = h.0 in let m = h.1 in omega arith) in
-        subst (Stands T is_field n _) (ok_same e) (padded_reads T.kind (field_of T.kind) (number_of T.kind) (reads T is_field) (units T is_field) n (image_row T (g - 1)) i.elements i.short))
+        same T is_field n _ _ v (vzero-vplus (field_of T.kind) _)
+        (add_row_reads T.kind (field_of T.kind) (number_of T.kind) (reads T is_field) (units T is_field) n (vzero (field_of T.kind)) (zero_row n) (image_row T (g - 1)) v zero_reads i.elements i.short e))
     value_reads none h v f = subst (Stands T is_field n _) (ok_same f) zero_reads
     value_reads (sum_of es) h v f =
         by_light (sum_of es) (is_light T (sum_of es)) h refl (values_of T es (zero_row n)) v f

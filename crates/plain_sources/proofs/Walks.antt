@@ -14,8 +14,7 @@ use Rattle.fpl_numbers.specs.Numbers.{IsElement, is_nought}
 use Rattle.fpl_numbers.specs.Reads.{Reads}
 use Rattle.fpl_scalar.specs.Vectors.{AreElements}
 use Rattle.fpl_rows.proofs.Fits.{ok_same, first_fits}
-use Rattle.fpl_table.specs.Plain.{PlainTable}
-use Rattle.fpl_rewrite.specs.Rows.{spread}
+use Rattle.fpl_table.specs.Sums.{add_each}
 use Rattle.plain_sources.specs.Premises.{IsFor}
 use Rattle.plain_sources.proofs.Rows.{HasUnits, for_same}
 
@@ -35,7 +34,7 @@ bilinear_nested K n form x y =
 abbrev pub Places : (ℕ → Type 0) → ℕ → List Num → Type 0
 Places S t cs = (s : ℕ) (d : Num) → s < length cs → is_nought (get_or cs s d) ≡ false → S (t + s)
 
-module _ (kind : Kind) (K : Field) (value : Num → K.Carrier) (reads : Reads kind K value) (units : HasUnits kind K value) (T : PlainTable) where
+module _ (kind : Kind) (K : Field) (value : Num → K.Carrier) (reads : Reads kind K value) (units : HasUnits kind K value) where
   -- the sum of the row's numbers times form t, form (t + 1), ..
   pub walked : (ℕ → Vector K) → ℕ → List Num → Vector K
   walked form t [] = vzero K
@@ -63,7 +62,7 @@ module _ (kind : Kind) (K : Field) (value : Num → K.Carrier) (reads : Reads ki
       IsFor kind K value m (vplus K w (scale K (value c) (form t))) z
 
   walk_from : (m : ℕ) (S : ℕ → Type 0) (step : Step) (form : ℕ → Vector K) → Adds m S step form → (t : ℕ) (cs v z : List Num) (w : Vector K) → AreElements kind cs → Places S t cs →
-      IsFor kind K value m w v → spread T step t cs v ≡ Ok z → IsFor kind K value m (vplus K w (walked form t cs)) z
+      IsFor kind K value m w v → add_each step t cs v ≡ Ok z → IsFor kind K value m (vplus K w (walked form t cs)) z
   unfolding walked
   walk_from m S step form each t [] v z w a h k e =
       subst (IsFor kind K value m (vplus K w (vzero K))) (ok_same e) (for_same kind K value reads units m w _ v (sym (vplus-vzero K w)) k)
@@ -82,7 +81,7 @@ module _ (kind : Kind) (K : Field) (value : Num → K.Carrier) (reads : Reads ki
 
   -- a walk over a row adds the sum over its places
   pub walk_reads : (n m : ℕ) (S : ℕ → Type 0) (step : Step) (form : ℕ → Vector K) → Adds m S step form → (cs v z : List Num) (w : Vector K) → AreElements kind cs → length cs ≤ n → Places S 0 cs →
-      IsFor kind K value m w v → spread T step 0 cs v ≡ Ok z → IsFor kind K value m (vplus K w (total K n (λ s. scale K (vector_of K value cs s) (form s)))) z
+      IsFor kind K value m w v → add_each step 0 cs v ≡ Ok z → IsFor kind K value m (vplus K w (total K n (λ s. scale K (vector_of K value cs s) (form s)))) z
   walk_reads n m S step form each cs v z w a l h k e =
       for_same kind K value reads units m _ _ z (ap (vplus K w) (walked_is form cs n l)) (walk_from m S step form each 0 cs v z w a h k e)
 
@@ -91,11 +90,11 @@ module _ (kind : Kind) (K : Field) (value : Num → K.Carrier) (reads : Reads ki
       ((i j : ℕ) (x y : Num) (v z : List Num) (w : Vector K) → S i → R j → IsElement kind x → IsElement kind y → IsFor kind K value m w v → step i j x y v ≡ Ok z →
       IsFor kind K value m (vplus K w (scale K (value y) (scale K (value x) (form i j)))) z) →
       (x y v z : List Num) (w : Vector K) → AreElements kind x → AreElements kind y → length x ≤ n → length y ≤ n → Places S 0 x → Places R 0 y →
-      IsFor kind K value m w v → spread T (λ i a v. spread T (λ j b v. step i j a b v) 0 y v) 0 x v ≡ Ok z →
+      IsFor kind K value m w v → add_each (λ i a v. add_each (λ j b v. step i j a b v) 0 y v) 0 x v ≡ Ok z →
       IsFor kind K value m (vplus K w (bilinear K n form (vector_of K value x) (vector_of K value y))) z
   both_walks n m S R step form each x y v z w a b l l' h h' k e =
       for_same kind K value reads units m _ _ z (ap (vplus K w) (bilinear_nested K n form (vector_of K value x) (vector_of K value y)))
-      (walk_reads n m S (λ i a v. spread T (λ j b v. step i j a b v) 0 y v) (λ i. total K n (λ j. scale K (vector_of K value y j) (form i j)))
+      (walk_reads n m S (λ i a v. add_each (λ j b v. step i j a b v) 0 y v) (λ i. total K n (λ j. scale K (vector_of K value y j) (form i j)))
       (λ i c v z w s d k e.
       for_same kind K value reads units m _ _ z
       (ap (vplus K w) (total_same K n _ _ (λ j. scale_comm K (vector_of K value y j) (value c) (form i j)) ∙ total_scale K n (value c) (λ j. scale K (vector_of K value y j) (form i j))))

@@ -18,7 +18,8 @@ use Rattle.math_algebra.specs.Tree.{generator}
 use Rattle.math_algebra.specs.Table.{IsOf, IsRegular, product}
 use Rattle.fpl_model.specs.declared.presentation.Presentation.{Presentation}
 use Rattle.fpl_model.specs.Meaning.{generators_in}
-use Rattle.fpl_table.specs.Plain.{PlainTable, plain_basis, image_row, entry_row, vector_in, table_in, shell_in}
+use Rattle.fpl_rows.specs.Meaning.{vector_in}
+use Rattle.fpl_table.specs.Plain.{PlainTable, plain_basis, image_row, entry_row, table_in, shell_in}
 use Rattle.fpl_table.specs.Shape.{IsRowUpTo}
 
 abbrev pub IsRowIn : PlainTable → List Num → Type 0
@@ -26,13 +27,15 @@ IsRowIn T row = IsRowUpTo T.kind (length T.basis) row
 
 pub record HasRows (T : PlainTable) : Type 0 where
   pub images : (g : ℕ) → g < length T.generators → IsRowIn T (image_row T g)
-  pub entries : (i j : ℕ) → i < length T.basis → j < length T.basis → IsRegular (table_in T.kind T) i j → (plain_basis T i).weight + (plain_basis T j).weight ≤ T.weight →
+  pub entries : (i j : ℕ) → i < length T.basis → j < length T.basis → IsRegular (table_in T.kind T) i j →
+      (plain_basis T i).weight + (plain_basis T j).weight ≤ T.weight →
       IsRowIn T (entry_row T i j)
 
 pub record HasWeights (T : PlainTable) : Type 0 where
   pub positive : (i : ℕ) → i < length T.basis → 0 < (plain_basis T i).weight
   pub within : (i : ℕ) → i < length T.basis → (plain_basis T i).weight ≤ T.weight
-  pub images : (g : ℕ) → g < length T.generators → IsOf (field_of T.kind) (table_in T.kind T) (generator (shell_in T.kind T) g).weight (vector_in T.kind (image_row T g))
+  pub images : (g : ℕ) → g < length T.generators →
+      IsOf (field_of T.kind) (table_in T.kind T) (generator (shell_in T.kind T) g).weight (vector_in T.kind (image_row T g))
   pub products : (i j : ℕ) → i < length T.basis → j < length T.basis →
       IsOf (field_of T.kind) (table_in T.kind T) ((plain_basis T i).weight + (plain_basis T j).weight) (product (field_of T.kind) (table_in T.kind T) i j)
 

@@ -17,14 +17,15 @@ use Rattle.math_algebra.specs.Tree.{Tree}
 use Rattle.fpl_model.specs.declared.presentation.Presentation.{Presentation}
 use Rattle.fpl_log.specs.declared.step.Origin.{Origin}
 use Rattle.fpl_table.specs.Plain.{PlainTable}
-use Rattle.fpl_table.specs.Value.{add_at, add_row, bracket_of, value_of}
+use Rattle.fpl_rows.specs.Positions.{added_at}
+use Rattle.fpl_table.specs.Value.{add_row, bracket_of, value_of}
 use Rattle.fpl_rewrite.specs.Rows.{row_of_origin}
 
 abbrev pub DoesFit : {X : Type 0} → Result X Unfit → Type 0
 DoesFit {X} r = (x : X) × (r ≡ Ok x)
 
 abbrev pub AddAtFits : ℕ → Type 0
-AddAtFits p = (row : List Num) (s : ℕ) (c : Num) → DoesFit (add_at (Prime p) row s c)
+AddAtFits p = (row : List Num) (s : ℕ) (c : Num) → DoesFit (added_at (Prime p) row s c)
 
 abbrev pub AddRowFits : ℕ → Type 0
 AddRowFits p = (row x : List Num) → DoesFit (add_row (Prime p) row x)

@@ -1,11 +1,9 @@
 -- The plain run of a table T for a sound presentation p stands for the mathematics over the field of p.
 --
---   SoundStands           a sound presentation is one in the sense of the mathematics
 --   RowsOfShape           a table with the shape of a table of code has its rows
 --   WeightsOfLaw          if it obeys the law of the presentation, it has its weights
 --   WeightsOfBuilt        a table whose vectors are those of a built table has its weights
 --   WeightsOfTable        the standard table has its weights
---   SymbolsStand          the symbols of the table in plain numbers are those of the table
 --   BracketStands         bracket_of gives the bracket of two rows
 --   ValueStands           value_of gives the value of an expression
 --   vector_of_origin      the row of an origin, as a vector over the symbols
@@ -18,9 +16,8 @@ use Rattle.math_linear.specs.Vector.{Vector, vzero}
 use Rattle.fpl_numbers.specs.declared.number.Num.{Num}
 use Rattle.fpl_numbers.specs.Kinds.{field_of}
 use Rattle.math_algebra.specs.Tree.{Tree, Presentation as Abstract}
-use Rattle.math_algebra.specs.Degrees.{IsSoundPresentation}
 use Rattle.math_algebra.specs.Table.{Table, bracket, val, ObeysLaw}
-use Rattle.math_algebra.specs.Symbols.{symbols, pair_number}
+use Rattle.math_algebra.specs.Symbols.{pair_number}
 use Rattle.math_algebra.specs.SourceRows.{relation_row, jacobi_row, cube_row, IsSource}
 use Rattle.math_algebra.specs.Built.{Built}
 use Rattle.fpl_model.specs.declared.presentation.Presentation.{Presentation}
@@ -28,7 +25,8 @@ use Rattle.fpl_model.specs.Meaning.{in_field, generators_in, presentation_in}
 use Rattle.fpl_model.specs.Sound.{IsWithin, IsSound}
 use Rattle.fpl_log.specs.declared.step.Origin.{Origin}
 use Rattle.fpl_log.specs.declared.step.Origin.TheVariants.{Relation, Jacobi, Cube, Row}
-use Rattle.fpl_table.specs.Plain.{PlainTable, vector_in, table_in, symbols_in}
+use Rattle.fpl_rows.specs.Meaning.{vector_in}
+use Rattle.fpl_table.specs.Plain.{PlainTable, table_in, symbols_in}
 use Rattle.fpl_table.specs.Shape.{HasShape}
 use Rattle.fpl_table.specs.Value.{bracket_of, value_of}
 use Rattle.fpl_table.specs.Standard.{IsTableOf}
@@ -37,24 +35,20 @@ use Rattle.fpl_rewrite.specs.Rows.{row_of_origin}
 use Rattle.plain_sources.specs.Premises.{IsRowIn, HasRows, HasWeights, IsTableFor}
 use Rattle.plain_sources.specs.RowLaws.{Stands}
 
-abbrev pub SoundStands : Presentation → Type 0
-SoundStands p = IsSound p → IsSoundPresentation (presentation_in p)
-
 abbrev pub RowsOfShape : PlainTable → Type 0
 RowsOfShape T = HasShape T → HasRows T
 
 abbrev pub WeightsOfLaw : Presentation → Type 0
 WeightsOfLaw p =
-    (T : PlainTable) → HasShape T → T.kind ≡ p.field → T.generators ≡ generators_in p → ObeysLaw (field_of p.field) (presentation_in p) (table_in p.field T) → HasWeights T
+    (T : PlainTable) → HasShape T → T.kind ≡ p.field → T.generators ≡ generators_in p →
+    ObeysLaw (field_of p.field) (presentation_in p) (table_in p.field T) → HasWeights T
 
 abbrev pub WeightsOfBuilt : Presentation → Type 0
-WeightsOfBuilt p = IsSound p → (T : PlainTable) → T.kind ≡ p.field → T.generators ≡ generators_in p → Built (field_of p.field) (presentation_in p) (table_in p.field T) → HasWeights T
+WeightsOfBuilt p =
+    IsSound p → (T : PlainTable) → T.kind ≡ p.field → T.generators ≡ generators_in p → Built (field_of p.field) (presentation_in p) (table_in p.field T) → HasWeights T
 
 abbrev pub WeightsOfTable : Presentation → Type 0
 WeightsOfTable p = IsSound p → (d : ℕ) (T : PlainTable) → IsTableOf p d T → HasWeights T
-
-abbrev pub SymbolsStand : Presentation → Type 0
-SymbolsStand p = (T : PlainTable) → T.kind ≡ p.field → T.generators ≡ generators_in p → symbols (presentation_in p) (table_in p.field T) ≡ symbols_in T
 
 abbrev pub BracketStands : Presentation → Type 0
 BracketStands p =

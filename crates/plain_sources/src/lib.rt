@@ -6,29 +6,27 @@ ghost use Rattle.fpl_numbers.specs.Numbers.{IsField};
 ghost use Rattle.fpl_numbers.specs.declared.number.Kind.{Kind};
 ghost use Rattle.fpl_model.specs.declared.presentation.Presentation.{Presentation};
 ghost use Rattle.fpl_table.specs.Plain.{PlainTable};
-ghost use Rattle.plain_sources.specs.RowLaws.{AddAtStands, AddRowStands, AxpyStands, NegativesStand, PaddedStands, ScaleStands, ZeroRowStands};
-ghost use Rattle.plain_sources.specs.TableLaws.{BracketStands, OriginRowsStand, OriginsAreSources, RowsOfShape, SoundStands, SourcesAreOrigins, SymbolsStand, ValueStands, WeightsOfBuilt, WeightsOfLaw, WeightsOfTable};
+ghost use Rattle.plain_sources.specs.RowLaws.{AddAtStands, AddRowStands, AxpyStands, NegativesStand, ScaleStands, UnitMultiples, ZeroRowStands};
+ghost use Rattle.plain_sources.specs.TableLaws.{BracketStands, OriginRowsStand, OriginsAreSources, RowsOfShape, SourcesAreOrigins, ValueStands, WeightsOfBuilt, WeightsOfLaw, WeightsOfTable};
 ghost use Rattle.plain_sources.specs.PrimeLaws.{AddAtFits, AddRowFits, AxpyFits, BracketFits, OriginRowFits, ScaleFits, ValueFits};
 
 /// Rows of numbers: where the operations on them fit, they are those on vectors.
 pub fn plain_rows()
     ensures zero { (k : Kind) → IsField k → ZeroRowStands k }
-    ensures padded { (k : Kind) → IsField k → PaddedStands k }
     ensures at { (k : Kind) → IsField k → AddAtStands k }
+    ensures units { (k : Kind) → IsField k → UnitMultiples k }
     ensures sum { (k : Kind) → IsField k → AddRowStands k }
     ensures axpy { (k : Kind) → IsField k → AxpyStands k }
     ensures multiple { (k : Kind) → IsField k → ScaleStands k }
     ensures negatives { (k : Kind) → IsField k → NegativesStand k }
 {}
 
-/// What tables in plain numbers meet: presentations are sound, weights are right, and the symbols are the same.
+/// What tables in plain numbers meet: rows have their lengths, and weights are right.
 pub fn plain_tables()
-    ensures presentation { (p : Presentation) → SoundStands p }
     ensures rows { (T : PlainTable) → RowsOfShape T }
     ensures law { (p : Presentation) → WeightsOfLaw p }
     ensures built { (p : Presentation) → WeightsOfBuilt p }
     ensures standard { (p : Presentation) → WeightsOfTable p }
-    ensures symbols { (p : Presentation) → SymbolsStand p }
 {}
 
 /// Brackets and values: where the plain run fits, it gives those of the table over the field.

@@ -15,7 +15,8 @@ use Rattle.math_algebra.specs.Tree.IsOver.{over_gen, over_none, over_sum, over_m
 use Rattle.math_algebra.specs.Tree.AreOver.{over_end, over_more}
 use Rattle.math_algebra.specs.Degrees.{IsSoundPresentation, weight_of_both, parity_of_both, mixed}
 use Rattle.math_algebra.specs.Table.{Symbol, of_generator, of_pair}
-use Rattle.math_algebra.specs.Symbols.{joined, is_odd, pairs_of, symbols, symbols_of}
+use Rattle.math_linear.specs.Lists.{joined}
+use Rattle.math_algebra.specs.Symbols.{is_odd, pairs_of, symbols, symbols_of}
 use Rattle.math_algebra.specs.SourceRows.{IsSource}
 use Rattle.math_algebra.specs.Built.{Built}
 use Rattle.math_algebra.specs.Built.Built.{built_start}
@@ -27,10 +28,12 @@ use Rattle.fpl_model.specs.Sound.{IsWithin, AreWithin, IsSoundEquation}
 use Rattle.fpl_table.specs.Plain.{PlainTable, plain_basis, through, table_in, shell_in, symbols_in}
 use Rattle.fpl_table.specs.Push.{push_of}
 use Rattle.fpl_table.specs.Shape.{HasShape, images_at, entries_at}
+use Rattle.fpl_table.specs.Standard.{printed_tree}
 use Rattle.math_standard.proofs.NextTables.{length_map}
 use Rattle.plain_tables.specs.Holds.{StartHolds, PushKeepsShape, PushHolds, HeldIsTable, SymbolsAreSame, SoundIsSound}
 use Rattle.plain_tables.proofs.Pushed.{push_built}
 use Rattle.plain_tables.proofs.Shaped.{push_shape}
+use Rattle.plain_tables.proofs.Trees.{tree_printed, standard_along}
 use Rattle.fpl_table.proofs.Shapes.{start_whole}
 
 -- expressions of a presentation are over its algebra
@@ -75,9 +78,9 @@ sound_is_sound p s = record {
 
 -- symbols
 symbols_by : (k : Kind) (P : Algebra (Number k)) (T : PlainTable) → T.kind ≡ k → T.generators ≡ P.generators → symbols_in T ≡ symbols P (table_in k T)
-unfolding symbols
+unfolding symbols symbols_of
 symbols_by k P T e g =
-    ap₂ (λ j G. joined (length G) (λ g. cond (nat_eq (get_or G g no_generator).weight (suc T.weight)) (of_generator g ∷ []) []) ++ pairs_of (table_in j T)) e g
+    ap₂ (λ j G. joined (length G) (λ g. cond (nat_eq (get_or G g no_generator).weight (suc T.weight)) (of_generator g ∷ []) []) ++ pairs_of (table_in j T) (suc T.weight)) e g
 
 symbols_of_by : (k : Kind) (P : Algebra (Number k)) (T : PlainTable) → T.kind ≡ k → T.generators ≡ P.generators → (w : ℕ) → symbols_of (shell_in T.kind T) (table_in T.kind T) w ≡ symbols_of P (table_in k T) w
 unfolding symbols_of
@@ -163,7 +166,8 @@ held_is_table p T h =
       generators = h.generators;
       images = images_are T h.shape;
       entries = entries_are T h.shape;
-      tree = standard.0;
-      standard = standard.1;
+      standard =
+          standard_along (field_of p.field) (presentation_in p) (table_in p.field T) standard.0 (printed_tree p T) standard.1
+          (tree_printed p.field (presentation_in p) (table_in p.field T) standard.0 standard.1);
       values = λ e f o q t u. headline (field_of p.field) (presentation_in p) s (table_in p.field T) h.built e f o q t u;
     }

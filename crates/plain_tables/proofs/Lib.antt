@@ -2,7 +2,9 @@ pub mod Leads
 pub mod Solved
 pub mod Places
 pub mod Pushed
+pub mod Trees
 pub mod Holding
+pub mod Printed
 pub mod One
 pub mod OneRaised
 pub mod Shaped

@@ -10,7 +10,7 @@ use Rattle.fpl_numbers.specs.declared.number.Kind.{Kind}
 use Rattle.fpl_numbers.specs.Kinds.{Number, field_of}
 use Rattle.fpl_rows.specs.Meaning.{vector_in}
 use Rattle.math_algebra.specs.Tree.{Presentation as Algebra, generator, no_generator}
-use Rattle.math_algebra.specs.Built.{IsLower}
+use Rattle.math_algebra.specs.Extending.{IsLower}
 use Rattle.math_theorems.proofs.StandardLaws.{lower_is_built}
 use Rattle.fpl_model.specs.Meaning.{presentation_in}
 use Rattle.fpl_table.specs.Plain.{PlainTable, plain_basis, through, partner_from, generator_at, image_row, entry_row, table_in}

@@ -15,12 +15,13 @@ use Rattle.fpl_rows.specs.Meaning.{vector_in}
 use Rattle.fpl_rows.proofs.Readings.{at_place, vector_past}
 use Rattle.math_algebra.specs.Tree.{Parity, even, odd, Generator, no_generator}
 use Rattle.math_algebra.specs.Table.{Symbol, of_generator, of_pair, Basis, no_basis}
-use Rattle.math_algebra.specs.Symbols.{joined, is_odd, symbols_of}
-use Rattle.math_algebra.specs.Built.{Agree}
+use Rattle.math_linear.specs.Lists.{joined}
+use Rattle.math_algebra.specs.Symbols.{is_odd, symbols_of}
+use Rattle.math_algebra.specs.Extending.{Agree}
 use Rattle.math_theorems.proofs.StandardLaws.{one_standard}
 use Rattle.fpl_model.specs.Meaning.{presentation_in}
 use Rattle.fpl_table.specs.Plain.{PlainTable, plain_basis, first_partner, image_row, entry_row, table_in}
-use Rattle.fpl_table.specs.Standard.{count_of, count_through}
+use Rattle.fpl_table.specs.Standard.{printed_tree, count_of, count_through}
 use Rattle.plain_tables.specs.Holds.{TablesAreOne}
 use Rattle.plain_tables.proofs.Pushed.{zero_element}
 use Rattle.plain_tables.proofs.Holding.{sound_is_sound}
@@ -112,7 +113,7 @@ tables_are_one p d T S s t u = record {
   where
     agree : Agree (field_of p.field) (presentation_in p) (table_in p.field T) (table_in p.field S)
     agree =
-        (one_standard (field_of p.field) (presentation_in p) (sound_is_sound p s) (table_in p.field T) (table_in p.field S) t.tree u.tree t.standard u.standard (t.weight ∙ sym u.weight)).0
+        (one_standard (field_of p.field) (presentation_in p) (sound_is_sound p s) (table_in p.field T) (table_in p.field S) (printed_tree p T) (printed_tree p S) t.standard u.standard (t.weight ∙ sym u.weight)).0
 
     basis : T.basis ≡ S.basis
     basis = list_same T.basis S.basis no_basis agree.more agree.basis

@@ -7,7 +7,7 @@ use native.Mathlib.Decide.{ℕ_discrete, dec_lt, dec_le}
 use Rattle.std.proofs.lemmas.List.{length-append, get_or-append-add}
 use Rattle.std.proofs.lemmas.Nat.Gcd.{IsGcd-from_mod, IsGcd-from_zero}
 use Rattle.math_fields.specs.Field.{Field}
-use Rattle.math_linear.specs.Vector.{Vector, vzero, place}
+use Rattle.math_linear.specs.Vector.{Vector, vzero, place, EndsAt}
 use Rattle.math_linear.specs.Span.{SpansKind}
 use Rattle.math_linear.proofs.Places.{zero_at}
 use Rattle.fpl_numbers.specs.declared.number.Num.{Num}
@@ -23,9 +23,11 @@ use Rattle.fpl_rows.proofs.Readings.{vector_past}
 use Rattle.math_algebra.specs.Tree.{Parity, odd, Presentation, generator, no_generator}
 use Rattle.math_algebra.specs.Degrees.{IsSoundPresentation}
 use Rattle.math_algebra.specs.Table.{Table, Symbol, of_generator, of_pair, no_basis}
-use Rattle.math_algebra.specs.Symbols.{joined, is_odd, pairs_of, symbols, no_symbol, symbol_parity, place_of}
+use Rattle.math_linear.specs.Lists.{joined}
+use Rattle.math_algebra.specs.Symbols.{is_odd, pairs_of, symbols, no_symbol, symbol_parity, place_of, symbols_of}
 use Rattle.math_algebra.specs.SourceRows.{IsSource}
-use Rattle.math_algebra.specs.Built.{slot_of, meaning_of, Agree, Built}
+use Rattle.math_algebra.specs.Extending.{Agree}
+use Rattle.math_algebra.specs.Built.{slot_of, meaning_of, Built}
 use Rattle.math_algebra.specs.NextTable.{free_places, new_basis, next_table}
 use Rattle.math_standard.proofs.NextTables.{free_are, length_map, get_or_map, image_kept, image_filled, image_past, entry_kept, entry_filled, weight_next}
 use Rattle.math_theorems.proofs.StandardLaws.{closed_rows_build, agreeing_is_built}
@@ -73,9 +75,9 @@ module _ (T : PlainTable) (shape : HasShape T) (P : Presentation (Number T.kind)
   unit_is = one_is T.kind K (number_of T.kind) reads shape.field
 
   pub symbols_same : symbols P (table_in T.kind T) ≡ symbols_in T
-  unfolding symbols
+  unfolding symbols symbols_of
   symbols_same =
-      ap (λ G. joined (length G) (λ g. cond (nat_eq (get_or G g no_generator).weight (suc T.weight)) (of_generator g ∷ []) []) ++ pairs_of (table_in T.kind T)) gens
+      ap (λ G. joined (length G) (λ g. cond (nat_eq (get_or G g no_generator).weight (suc T.weight)) (of_generator g ∷ []) []) ++ pairs_of (table_in T.kind T) (suc T.weight)) gens
 
   parity_same : (x : Symbol) → symbol_parity P (table_in T.kind T) x ≡ symbol_parity (shell_in T.kind T) (table_in T.kind T) x
   parity_same (of_generator g) = ap (λ G. (get_or G g no_generator).parity) gens
@@ -199,7 +201,7 @@ module _ (T : PlainTable) (shape : HasShape T) (P : Presentation (Number T.kind)
   pub push_built : IsSoundPresentation P → Built K P (table_in T.kind T) → SpansKind K (IsSource K P (table_in T.kind T)) (length rows) (row_in T.kind rows) → Built K P (table_in T.kind (push_of T rows))
   push_built s b spans =
       agreeing_is_built K P s _ (table_in T.kind (push_of T rows))
-      (closed_rows_build K P (table_in T.kind T) b (length rows) (row_in T.kind rows) (pivot_in rows) closed.closed spans short) agrees
+      (closed_rows_build K P (table_in T.kind T) b (length rows) (row_in T.kind rows) (pivot_in rows) (record { closed = closed.closed; spans = spans; ends = ends })) agrees
     where
-      short : (i s : ℕ) → i < length rows → length (symbols P (table_in T.kind T)) ≤ s → row_in T.kind rows i s ≡ K.nought
-      short i s l h = vector_past K (number_of T.kind) (get_or rows i []) s (omega (arith, h, ap length symbols_same, (closed.are_rows i [] l).length_is))
+      ends : (i : ℕ) → i < length rows → EndsAt K (length (symbols P (table_in T.kind T))) (row_in T.kind rows i)
+      ends i l s h = vector_past K (number_of T.kind) (get_or rows i []) s (omega (arith, h, ap length symbols_same, (closed.are_rows i [] l).length_is))

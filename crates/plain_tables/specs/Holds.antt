@@ -40,12 +40,15 @@ StartHolds = (p : Presentation) → IsSound p → Holds p (start_of p)
 
 abbrev pub PushKeepsShape : Type 0
 PushKeepsShape =
-    (T : PlainTable) (rows : List (List Num)) → HasShape T → T.weight < 1000 → length (symbols_in T) ≤ 2000000 → AreRows T.kind (length (symbols_in T)) rows → HasShape (push_of T rows)
+    (T : PlainTable) (rows : List (List Num)) → HasShape T → T.weight < 1000 → length (symbols_in T) ≤ 2000000 →
+    AreRows T.kind (length (symbols_in T)) rows → HasShape (push_of T rows)
 
 abbrev pub PushHolds : Type 0
 PushHolds =
-    (p : Presentation) (T : PlainTable) (rows : List (List Num)) → Holds p T → T.weight < 1000 → length (symbols_in T) ≤ 2000000 → IsClosedList T.kind (length (symbols_in T)) rows →
-    SpansKind (field_of p.field) (IsSource (field_of p.field) (presentation_in p) (table_in p.field T)) (length rows) (row_in p.field rows) → Holds p (push_of T rows)
+    (p : Presentation) (T : PlainTable) (rows : List (List Num)) → Holds p T → T.weight < 1000 → length (symbols_in T) ≤ 2000000 →
+    IsClosedList T.kind (length (symbols_in T)) rows →
+    SpansKind (field_of p.field) (IsSource (field_of p.field) (presentation_in p) (table_in p.field T)) (length rows) (row_in p.field rows) →
+    Holds p (push_of T rows)
 
 abbrev pub HeldIsTable : Type 0
 HeldIsTable = (p : Presentation) (T : PlainTable) → Holds p T → IsTableOf p T.weight T
@@ -53,7 +56,8 @@ HeldIsTable = (p : Presentation) (T : PlainTable) → Holds p T → IsTableOf p 
 abbrev pub SymbolsAreSame : Type 0
 SymbolsAreSame =
     (p : Presentation) (T : PlainTable) → T.kind ≡ p.field → T.generators ≡ generators_in p →
-    (symbols_in T ≡ symbols (presentation_in p) (table_in p.field T)) × ((w : ℕ) → symbols_of (shell_in T.kind T) (table_in T.kind T) w ≡ symbols_of (presentation_in p) (table_in p.field T) w)
+    (symbols_in T ≡ symbols (presentation_in p) (table_in p.field T)) ×
+    ((w : ℕ) → symbols_of (shell_in T.kind T) (table_in T.kind T) w ≡ symbols_of (presentation_in p) (table_in p.field T) w)
 
 pub record AreOne (T S : PlainTable) : Type 0 where
   pub kind : T.kind ≡ S.kind

@@ -18,7 +18,8 @@ use Rattle.fpl_table.specs.Standard.{start_of}
 pub data IsRaised (p : Presentation) : PlainTable → Type 0 where
   started : IsRaised p (start_of p)
   pushed : (T : PlainTable) (rows : List (List Num)) → IsRaised p T → IsClosedList T.kind (length (symbols_in T)) rows →
-      SpansKind (field_of p.field) (IsSource (field_of p.field) (presentation_in p) (table_in p.field T)) (length rows) (row_in p.field rows) → IsRaised p (push_of T rows)
+      SpansKind (field_of p.field) (IsSource (field_of p.field) (presentation_in p) (table_in p.field T)) (length rows) (row_in p.field rows) →
+      IsRaised p (push_of T rows)
 
 abbrev pub RaisedAreOne : Type 0
 RaisedAreOne = (p : Presentation) (T S : PlainTable) → IsSound p → IsRaised p T → IsRaised p S → T.weight ≡ S.weight → T ≡ S

@@ -4,6 +4,7 @@
 #![tactic(auto)]
 
 ghost use Rattle.plain_tables.specs.Holds.{HeldIsTable, PushHolds, PushKeepsShape, SoundIsSound, StartHolds, SymbolsAreSame, TablesAreOne, TruncatesHold};
+ghost use Rattle.plain_tables.specs.Printed.{PrintedAreOver, PrintedHaveValues, StandardTreesArePrinted};
 ghost use Rattle.plain_tables.specs.Raised.{RaisedAreOne};
 
 /// A sound presentation is sound as far as the algebra goes, and a table names the symbols of its presentation.
@@ -30,4 +31,12 @@ pub fn one_table()
 /// The invariant holds of the part of a table through a lower weight.
 pub fn truncated()
     ensures { TruncatesHold }
+{}
+
+/// The bracket monomial that is printed for a basis element is its expression in the standard table, is over the presentation, and has that basis element
+/// as its value.
+pub fn printed_trees()
+    ensures any { StandardTreesArePrinted }
+    ensures over { PrintedAreOver }
+    ensures values { PrintedHaveValues }
 {}

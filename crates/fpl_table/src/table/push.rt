@@ -99,7 +99,9 @@ impl<F: Field> Table<F> {
         requires solved { IsSolved self.now closed.now }
         requires symbols { map symbol_in symbols.now ≡ symbols_in self.now }
         requires numbered { All IsNumbered symbols.now }
-        ensures { IfOk result (λ n. IsNext self.now closed.now.rows.now closed.now.free.items (map (λ e. basis_in e.basis) n.elements.items) (map (λ e. plain (expr_of e.tree.value)) n.elements.items) (map (λ e. e.basis.symbol) n.elements.items) n.level.through n.level.images.items (map (λ v. v.items) n.level.entries.items)) }
+        ensures { IfOk result (λ n. IsNext self.now closed.now.rows.now closed.now.free.items
+            (map (λ e. basis_in e.basis) n.elements.items) (map (λ e. plain (expr_of e.tree.value)) n.elements.items)
+            (map (λ e. e.basis.symbol) n.elements.items) n.level.through n.level.images.items (map (λ v. v.items) n.level.entries.items)) }
     {
         let images = self.new_images(alloc, closed)?;
         let entries = self.new_entries(alloc, closed)?;
@@ -120,7 +122,9 @@ impl<F: Field> Table<F> {
         requires below { self.now.weight < 1000 }
         requires few { count_of self.now (self.now.weight + 1) ≤ 2000000 }
         requires rows { AreRows self.now.kind (count_of self.now (self.now.weight + 1)) rows.now }
-        ensures next { IfOk result (λ n. IsNext self.now rows.now (free_of self.now rows.now) (map (λ e. basis_in e.basis) n.elements.items) (map (λ e. plain (expr_of e.tree.value)) n.elements.items) (map (λ e. e.basis.symbol) n.elements.items) n.level.through n.level.images.items (map (λ v. v.items) n.level.entries.items)) }
+        ensures next { IfOk result (λ n. IsNext self.now rows.now (free_of self.now rows.now)
+            (map (λ e. basis_in e.basis) n.elements.items) (map (λ e. plain (expr_of e.tree.value)) n.elements.items)
+            (map (λ e. e.basis.symbol) n.elements.items) n.level.through n.level.images.items (map (λ v. v.items) n.level.entries.items)) }
         ensures shape { HasShape self.now }
     {
         let symbols = self.symbol_list(alloc, self.weight() + 1)?;

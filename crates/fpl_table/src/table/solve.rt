@@ -1,7 +1,7 @@
 ghost use Rattle.std.specs.Prelude.{◌≡◌, ◌≤◌, ◌<◌, ◌+◌, ◌-◌, ◌*◌, ◌++◌, suc, nat_eq, cond, [], length, map, get_or, All, IfOk, Some};
 ghost use Rattle.fpl_rows.specs.Meaning.{IsRowOf};
 ghost use Rattle.fpl_scalar.specs.Vectors.{AreElements};
-ghost use Rattle.math_algebra.specs.Symbols.{joined};
+ghost use Rattle.math_linear.specs.Lists.{joined};
 ghost use Rattle.math_algebra.specs.Table.{of_generator};
 ghost use Rattle.fpl_table.specs.Plain.{symbols_in, plain_basis, generator_at};
 ghost use Rattle.fpl_table.specs.Cells.{generator_cell, generator_cells, pair_cells, pairs_to};
@@ -117,7 +117,8 @@ impl<F: Field> Table<F> {
         requires solved { IsSolved self.now closed.now }
         requires number { g < length self.now.generators }
         requires place { place ≡ length (joined g (generator_cell self.now (self.now.weight + 1))) }
-        ensures value { IfOk result (λ row. row ≡ cond (nat_eq (generator_at self.now g).weight (suc self.now.weight)) (row_of_symbol self.now closed.now.rows.now (of_generator g)) []) }
+        ensures value { IfOk result (λ row. row ≡ cond (nat_eq (generator_at self.now g).weight (suc self.now.weight))
+            (row_of_symbol self.now closed.now.rows.now (of_generator g)) []) }
         ensures whole { IfOk result (λ row. IsRowUpTo self.now.kind (length self.now.basis + length closed.now.free.items) row) }
     {
         if self.is_next(g) {
@@ -182,7 +183,8 @@ impl<F: Field> Table<F> {
     ) -> Result<Vec<Vec<Row<F>>>, AllocError>
         requires { IsSolved self.now closed.now }
         ensures value { IfOk result (λ entries. map (λ v. v.items) entries.items ≡ new_entries self.now closed.now.rows.now 0 self.now.basis) }
-        ensures whole { IfOk result (λ entries. All (λ partners. All (IsRowUpTo self.now.kind (length self.now.basis + length closed.now.free.items)) partners) (map (λ v. v.items) entries.items)) }
+        ensures whole { IfOk result (λ entries. All (λ partners. All (IsRowUpTo self.now.kind (length self.now.basis + length closed.now.free.items)) partners)
+            (map (λ v. v.items) entries.items)) }
     {
         let mut entries = Vec::new(alloc);
         let mut place = self.generator_count(self.weight() + 1) as usize;

@@ -60,7 +60,8 @@ fn copy_entries<F: Field>(
 fn copy_levels<F: Field>(alloc: Global, levels: &[Level<F>]) -> Result<Vec<Level<F>>, AllocError>
     ensures counts { IfOk result (λ v. map (λ l. l.through) v.items ≡ map (λ l. l.through) levels.now) }
     ensures images { IfOk result (λ v. map (λ l. l.images.items) v.items ≡ map (λ l. l.images.items) levels.now) }
-    ensures entries { IfOk result (λ v. map (λ l. map (λ rows. rows.items) l.entries.items) v.items ≡ map (λ l. map (λ rows. rows.items) l.entries.items) levels.now) }
+    ensures entries { IfOk result (λ v. map (λ l. map (λ rows. rows.items) l.entries.items) v.items
+        ≡ map (λ l. map (λ rows. rows.items) l.entries.items) levels.now) }
 {
     let mut all = Vec::new(alloc);
     for level in levels {

@@ -1,12 +1,12 @@
-ghost use Rattle.std.specs.Prelude.{◌≡◌, ◌≤◌, ◌<◌, ◌^◌, length, map, get_or, IfOk, OnOk};
-ghost use Rattle.fpl_numbers.specs.Numbers.{IsElement, residue};
-ghost use Rattle.fpl_numbers.specs.Results.{Gives, GivesBy};
+ghost use Rattle.std.specs.Prelude.{◌≡◌, ◌<◌, ◌^◌, length, map, IfOk};
+ghost use Rattle.fpl_numbers.specs.Numbers.{IsElement};
+ghost use Rattle.fpl_numbers.specs.Results.{GivesBy};
 ghost use Rattle.fpl_scalar.specs.Vectors.{AreElements, scale_of};
 ghost use Rattle.math_algebra.specs.Tree.{trees};
 ghost use Rattle.fpl_model.specs.Meaning.{plain};
 ghost use Rattle.fpl_model.specs.Sound.{IsTerm, AreTerms, HaveWeights, count_tree, count_trees};
 ghost use Rattle.fpl_table.specs.Shape.{IsRowUpTo, Agrees};
-ghost use Rattle.fpl_table.specs.Value.{zero_row, padded, add_row, is_light, value_of, values_of};
+ghost use Rattle.fpl_table.specs.Value.{zero_row, add_row, is_light, value_of, values_of};
 
 use super::Table;
 use fpl_model::{Degree, Expr, Exprs, Presentation};
@@ -30,53 +30,18 @@ impl<F: Field> Table<F> {
         }
     }
 
-    /// The number at place `s` of a row, from 0; it is 0 past the end.
-    fn number_at(&self, row: &Row<F>, s: u32) -> F::Elem
-        requires { AreElements self.now.kind row.now }
-        ensures value { F.number result ≡ get_or row.now s (residue 0) }
-        ensures element { IsElement self.now.kind (F.number result) }
-    {
-        if s < row.len() {
-            row.at(s + 1)
-        } else {
-            self.field().zero()
-        }
-    }
-
-    /// The row, with 0 past its end up to `basis_len`.
-    fn padded(&self, alloc: Global, row: &Row<F>) -> Result<Row<F>, Fault>
+    /// The row, as one of `basis_len` positions.
+    fn whole(&self, alloc: Global, row: &Row<F>) -> Result<Row<F>, Fault>
         requires { IsRowUpTo self.now.kind (length self.now.basis) row.now }
-        ensures value { GivesBy (λ r. r) result (Ok (padded (length self.now.basis) row.now)) }
+        ensures value { GivesBy (λ r. r) result (add_row self.now.kind (zero_row (length self.now.basis)) row.now) }
         ensures elements { IfOk result (λ r. AreElements self.now.kind r) }
         ensures whole { IfOk result (λ r. length r ≡ length self.now.basis) }
     {
-        let field = self.field();
-        let mut numbers = Vec::new(alloc);
-        for s in 0..self.basis_len() {
-            match numbers.push(self.number_at(row, s)) {
-                Ok(()) => {}
-                Err(_) => return Err(Fault::NoMemory),
-            }
+        let mut sum = self.zero_row(alloc)?;
+        match sum.axpy(self.field(), self.field().one(), row) {
+            Ok(()) => Ok(sum),
+            Err(fault) => Err(fault),
         }
-        Ok(Row::from_vec(field, numbers))
-    }
-
-    /// Adds `x` to `sum`, position by position.
-    fn add_row(&self, sum: &mut Row<F>, x: &Row<F>) -> Result<(), Fault>
-        requires sum { AreElements self.now.kind sum.old }
-        requires row { AreElements self.now.kind x.now }
-        requires whole { length x.now ≡ length sum.old }
-        ensures value { Gives result sum.new (add_row self.now.kind sum.old x.now) }
-        ensures elements { OnOk result (AreElements self.now.kind sum.new) }
-        ensures whole { length sum.new ≡ length sum.old }
-    {
-        for s in 0..x.len() {
-            match sum.add_at(self.field(), s + 1, x.at(s + 1)) {
-                Ok(()) => {}
-                Err(fault) => return Err(fault),
-            }
-        }
-        Ok(())
     }
 
     /// `c` times a row.
@@ -113,7 +78,7 @@ impl<F: Field> Table<F> {
             return self.zero_row(alloc);
         }
         match e {
-            Expr::Gen(g) => self.padded(alloc, self.image(*g)),
+            Expr::Gen(g) => self.whole(alloc, self.image(*g)),
             Expr::Zero => self.zero_row(alloc),
             Expr::Sum(members) => self.sum_of(alloc, p, members.get()),
             Expr::Times(c, factor) => {
@@ -143,7 +108,7 @@ impl<F: Field> Table<F> {
         let mut sum = self.zero_row(alloc)?;
         for e in members.as_slice() {
             let x = self.value(alloc, p, e)?;
-            match self.add_row(&mut sum, &x) {
+            match sum.axpy(self.field(), self.field().one(), &x) {
                 Ok(()) => {}
                 Err(fault) => return Err(fault),
             }

@@ -1,8 +1,5 @@
-use Rattle.plain_sources.proofs.Laws.{sound_stands, rows_of_shape, weights_of_law, weights_of_built, weights_of_table, symbols_stand}
+use Rattle.plain_sources.proofs.Laws.{rows_of_shape, weights_of_law, weights_of_built, weights_of_table}
 use Rattle.plain_sources.proofs.plain_tables.Goals as goal
-
-pub returns-clause-presentation : goal.returns-clause-presentation
-returns-clause-presentation c = sound_stands
 
 pub returns-clause-rows : goal.returns-clause-rows
 returns-clause-rows c = rows_of_shape
@@ -15,6 +12,3 @@ returns-clause-built c = λ p sound T kind generators built. weights_of_built p 
 
 pub returns-clause-standard : goal.returns-clause-standard
 returns-clause-standard c = weights_of_table
-
-pub returns-clause-symbols : goal.returns-clause-symbols
-returns-clause-symbols c = symbols_stand

@@ -3,10 +3,9 @@ use Rattle.fpl_numbers.specs.declared.number.Num.{Num}
 use Rattle.fpl_numbers.specs.Numbers.{IsElement, residue}
 use Rattle.fpl_numbers.specs.Results.{and_then}
 use Rattle.fpl_rows.proofs.Firsts.{next_is_at}
-use Rattle.fpl_table.proofs.Walking.{fault_next}
-use Rattle.fpl_rewrite.specs.Rows.{spread}
+use Rattle.fpl_table.proofs.Walking.{to_next, to_end, fault_next}
+use Rattle.fpl_table.specs.Sums.{add_each}
 use Rattle.fpl_rewrite.specs.Terms.{terms_of}
-use Rattle.fpl_rewrite.proofs.Spreading.{to_next, to_end}
 use Rattle.fpl_rewrite.proofs.entries.add_terms.Goals as goal
 
 pub at-requires : goal.at-requires
@@ -42,8 +41,8 @@ loop-t-preserved g c =
       within = h.to_end;
       elements = c.in-Ok.ensures.elements;
       whole = c.in-Ok.ensures.whole ∙ c.loop-t.invariant.whole;
-      left = c.loop-t.invariant.left ∙ to_next T add c.args.entry.now c.loop-t.after c.in-Some.t c.loop-t.row c.in-Some.ensures
-          ∙ ap (and_then (λ w. spread T add c.in-Some.t (drop c.in-Some.t c.args.entry.now) w))
+      left = c.loop-t.invariant.left ∙ to_next add c.args.entry.now c.loop-t.after c.in-Some.t c.loop-t.row c.in-Some.ensures
+          ∙ ap (and_then (λ w. add_each add c.in-Some.t (drop c.in-Some.t c.args.entry.now) w))
           (ap (λ (n : Num). add (c.in-Some.t - 1) n c.loop-t.row) (sym c.at.ensures) ∙ c.in-Ok.ensures.value);
     }
 
@@ -51,12 +50,12 @@ pub returns-in-Err-clause-value : goal.returns-in-Err-clause-value
 returns-in-Err-clause-value g c =
     let T = c.args.table.now in
     let add = terms_of T c.args.beside c.args.negated in
-    fault_next (λ w. spread T add c.in-Some.t (drop c.in-Some.t c.args.entry.now) w) c.in-Err.fault _ _
-    (c.loop-t.invariant.left ∙ to_next T add c.args.entry.now c.loop-t.after c.in-Some.t c.loop-t.row c.in-Some.ensures
-    ∙ ap (λ (n : Num). and_then (λ w. spread T add c.in-Some.t (drop c.in-Some.t c.args.entry.now) w) (add (c.in-Some.t - 1) n c.loop-t.row)) (sym c.at.ensures))
+    fault_next (λ w. add_each add c.in-Some.t (drop c.in-Some.t c.args.entry.now) w) c.in-Err.fault _ _
+    (c.loop-t.invariant.left ∙ to_next add c.args.entry.now c.loop-t.after c.in-Some.t c.loop-t.row c.in-Some.ensures
+    ∙ ap (λ (n : Num). and_then (λ w. add_each add c.in-Some.t (drop c.in-Some.t c.args.entry.now) w) (add (c.in-Some.t - 1) n c.loop-t.row)) (sym c.at.ensures))
     c.in-Err.ensures.value
 
 pub returns-clause-value : goal.returns-clause-value
 returns-clause-value g c =
     let T = c.args.table.now in
-    c.loop-t.invariant.left ∙ to_end T (terms_of T c.args.beside c.args.negated) c.args.entry.now c.loop-t.after c.loop-t.row c.loop-t.invariant.within c.in_default.ensures
+    c.loop-t.invariant.left ∙ to_end (terms_of T c.args.beside c.args.negated) c.args.entry.now c.loop-t.after c.loop-t.row c.loop-t.invariant.within c.in_default.ensures

@@ -1,6 +1,6 @@
 use Rattle.std.proofs.Common.{◌≡◌, ◌≤◌, ◌-◌, length, drop}
 use Rattle.fpl_scalar.specs.Vectors.{AreElements}
-use Rattle.fpl_rewrite.specs.Rows.{spread}
+use Rattle.fpl_table.specs.Sums.{add_each}
 use Rattle.fpl_rewrite.specs.Terms.{terms_of}
 use Rattle.fpl_rewrite.proofs.entries.add_terms.Given as goal
 
@@ -9,7 +9,7 @@ invariant-loop-t g l = record {
   within : l.after ≤ length l.entry;
   elements : AreElements l.table.kind l.row;
   whole : length l.row ≡ length l.initial.row;
-  left : spread l.table (terms_of l.table l.beside l.negated) 0 l.entry l.initial.row ≡ spread l.table (terms_of l.table l.beside l.negated) l.after (drop l.after l.entry) l.row;
+  left : add_each (terms_of l.table l.beside l.negated) 0 l.entry l.initial.row ≡ add_each (terms_of l.table l.beside l.negated) l.after (drop l.after l.entry) l.row;
 }
 
 abbrev pub decreases-loop-t : goal.decreases-loop-t

@@ -1,6 +1,6 @@
 use Rattle.std.proofs.Common.{◌≡◌, length, ap, subst, refl, sym, ◌∙◌, arith, length-append}
 use Rattle.std.proofs.lemmas.List.{length-map}
-use Rattle.math_algebra.specs.Symbols.{joined}
+use Rattle.math_linear.specs.Lists.{joined}
 use Rattle.fpl_table.specs.Plain.{generator_at}
 use Rattle.fpl_table.specs.Shape.{HasShape}
 use Rattle.fpl_table.specs.Whole.{shape_in}

@@ -1,6 +1,6 @@
 use Rattle.std.proofs.Common.{◌≡◌, ◌≢◌, ◌+◌, ◌++◌, All, drop, length, ap, sym, refl, ◌∙◌, arith, append_assoc, append-nil, length-append}
 use Rattle.std.proofs.lemmas.Bool.Decides.{nat_tests}
-use Rattle.math_algebra.specs.Symbols.{joined}
+use Rattle.math_linear.specs.Lists.{joined}
 use Rattle.fpl_table.specs.Plain.{generator_at}
 use Rattle.fpl_table.proofs.Cells.{generator_yes, generator_no}
 use Rattle.fpl_table.proofs.NewRows.{images_step, images_end}

@@ -1,5 +1,5 @@
 use Rattle.std.proofs.Common.{◌≡◌, All, ◌+◌, ◌≤◌, ◌++◌, length, drop}
-use Rattle.math_algebra.specs.Symbols.{joined}
+use Rattle.math_linear.specs.Lists.{joined}
 use Rattle.fpl_table.specs.Cells.{generator_cell}
 use Rattle.fpl_table.specs.Shape.{IsRowUpTo}
 use Rattle.fpl_table.specs.Push.{new_images}

@@ -1,6 +1,6 @@
 use Rattle.std.proofs.Common.{◌≡◌, ◌+◌, ◌-◌, ap, refl, sym, subst, ◌∙◌, arith, append-nil, append_assoc}
 use Rattle.std.proofs.lemmas.List.{map-append}
-use Rattle.math_algebra.specs.Symbols.{joined}
+use Rattle.math_linear.specs.Lists.{joined}
 use Rattle.fpl_table.specs.Plain.{generator_at}
 use Rattle.fpl_table.specs.Shape.{HasShape, IsNumbered}
 use Rattle.fpl_table.proofs.Cells.{generator_weight, generator_yes, generator_no}

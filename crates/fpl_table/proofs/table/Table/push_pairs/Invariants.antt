@@ -1,5 +1,5 @@
 use Rattle.std.proofs.Common.{◌≡◌, ◌++◌, ◌≤◌, map, length, All, ◌-◌}
-use Rattle.math_algebra.specs.Symbols.{joined}
+use Rattle.math_linear.specs.Lists.{joined}
 use Rattle.fpl_table.specs.Cells.{pair_cell}
 use Rattle.fpl_table.specs.Plain.{symbol_in}
 use Rattle.fpl_table.specs.Shape.{IsNumbered}

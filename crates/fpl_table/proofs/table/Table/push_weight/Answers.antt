@@ -3,7 +3,7 @@ use Rattle.fpl_model.specs.Meaning.{plain}
 use Rattle.fpl_model.specs.Mono.{expr_of}
 use Rattle.fpl_table.specs.Plain.{basis_in}
 use Rattle.fpl_table.specs.Whole.{shape_in}
-use Rattle.fpl_table.proofs.Pushed.{pushed_fields, ok_items, ok_always}
+use Rattle.fpl_table.proofs.PushedFields.{pushed_fields, ok_items, ok_always}
 use Rattle.fpl_table.proofs.table.Table.push_weight.Goals as goal
 
 pub invariant_of-self-2 : goal.invariant_of-self-2
