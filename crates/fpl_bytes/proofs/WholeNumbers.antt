@@ -85,23 +85,33 @@ wide128 = record {
       let h : from_be_bytes w128 bytes / 2 ^ 64 ≡ high = omega (arith, from_halves bytes) in
       let l : from_be_bytes w128 bytes % 2 ^ 64 ≡ low = omega (arith, from_halves bytes) in
       to_halves (from_be_bytes w128 bytes) ∙ ap₂ (λ (x y : ℕ). to_be_bytes w64 x ++ to_be_bytes w64 y) h l
-      ∙ ap₂ (λ (x y : List ℕ). x ++ y) (wide64.back (take 8 bytes) (omega (arith, length-take 8 bytes, len)) (IsBytes-take 8 bytes fits)) (wide64.back (drop 8 bytes) (omega (arith, length-drop 8 bytes, len)) (IsBytes-drop 8 bytes fits))
+      ∙ ap₂ (λ (x y : List ℕ). x ++ y) (wide64.back (take 8 bytes) (omega (arith, length-take 8 bytes, len)) (IsBytes-take 8 bytes fits))
+      (wide64.back (drop 8 bytes) (omega (arith, length-drop 8 bytes, len)) (IsBytes-drop 8 bytes fits))
       ∙ take-append-drop 8 bytes;
   again = λ n lt.
       ap (from_be_bytes w128) (to_halves n) ∙ from_halves (to_be_bytes w64 (n / 2 ^ 64) ++ to_be_bytes w64 (n % 2 ^ 64))
       ∙ ap₂ (λ (x y : ℕ). x * 2 ^ 64 + y) (wide64.again (n / 2 ^ 64) (omega arith)) (wide64.again (n % 2 ^ 64) (omega arith)) ∙ omega arith;
-  below = λ bytes fits. omega (arith, fits 0, fits 1, fits 2, fits 3, fits 4, fits 5, fits 6, fits 7, fits 8, fits 9, fits 10, fits 11, fits 12, fits 13, fits 14, fits 15);
+  below = λ bytes fits. omega
+      (arith, fits 0, fits 1, fits 2, fits 3, fits 4, fits 5, fits 6, fits 7, fits 8, fits 9, fits 10, fits 11, fits 12, fits 13, fits 14, fits 15);
 }
 
 -- what was read, by the bytes that it took
-pub raw_takes : (w : Width) → IsWide w → (bytes : List ℕ) (n : ℕ) (rest : List ℕ) → IsBytes bytes → raw_at w bytes ≡ Some (n, rest) → Takes bytes (to_be_bytes w n) rest × (n < 2 ^ bits w)
+pub raw_takes : (w : Width) → IsWide w → (bytes : List ℕ) (n : ℕ) (rest : List ℕ) → IsBytes bytes → raw_at w bytes ≡ Some (n, rest) →
+    Takes bytes (to_be_bytes w n) rest × (n < 2 ^ bits w)
 raw_takes w wide bytes n rest fits e =
     let g = there (ltb (length bytes) (byte_len w)) (from_be_bytes w (take (byte_len w) bytes), drop (byte_len w) bytes) (n, rest) e in
     let long : byte_len w ≤ length bytes = ltb-false _ _ g.0 in
     let n-is : from_be_bytes w (take (byte_len w) bytes) ≡ n = ap (λ (p : ℕ × List ℕ). p.0) g.1 in
     let rest-is : drop (byte_len w) bytes ≡ rest = ap (λ (p : ℕ × List ℕ). p.1) g.1 in
-    let front : to_be_bytes w n ≡ take (byte_len w) bytes = rw (← n-is) (wide.back (take (byte_len w) bytes) (omega (arith, length-take (byte_len w) bytes)) (IsBytes-take (byte_len w) bytes fits)) in
-    (record { parts = rw (front, ← rest-is) (sym (take-append-drop (byte_len w) bytes)); rest_fits = rw (← rest-is) (IsBytes-drop (byte_len w) bytes fits) }, rw (← n-is) (wide.below (take (byte_len w) bytes) (IsBytes-take (byte_len w) bytes fits)))
+    let front : to_be_bytes w n ≡ take (byte_len w) bytes =
+    rw (← n-is) (wide.back (take (byte_len w) bytes) (omega (arith, length-take (byte_len w) bytes)) (IsBytes-take (byte_len w) bytes fits)) in (
+      record {
+        parts = rw (front, ← rest-is) (sym (take-append-drop (byte_len w) bytes));
+        rest_fits = rw (← rest-is) (IsBytes-drop (byte_len w) bytes fits);
+      },
+      rw (← n-is)
+          (wide.below (take (byte_len w) bytes) (IsBytes-take (byte_len w) bytes fits)),
+    )
   where
     there : (t : Bool) (x y : ℕ × List ℕ) → cond t None (Some x) ≡ Some y → (t ≡ false) × (x ≡ y)
     there true x y e = absurd cc

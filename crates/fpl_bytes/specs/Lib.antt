@@ -1,3 +1,4 @@
-pub mod Reading
-pub mod Numbers
 pub mod Codes
+pub mod Numbers
+pub mod Reading
+pub mod Reasons

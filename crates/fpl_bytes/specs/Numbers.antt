@@ -16,7 +16,8 @@ use Rattle.std.specs.Int.{Width, w32, w64, w128, to_be_bytes, cast_signed, cast_
 use Rattle.fpl_numbers.specs.declared.number.Num.{Num}
 use Rattle.fpl_numbers.specs.declared.number.Kind.{Kind}
 use Rattle.fpl_numbers.specs.declared.number.Kind.TheVariants.{Rational, Prime}
-use Rattle.fpl_numbers.specs.Numbers.{residue, residue_of, gcd, bound, IsElement}
+use Rattle.math_fields.specs.Gcd.{gcd}
+use Rattle.fpl_numbers.specs.Numbers.{residue, residue_of, most_number, IsElement}
 use Rattle.fpl_bytes.specs.declared.version.Version.{Version}
 use Rattle.fpl_bytes.specs.declared.version.Version.TheVariants.{One, Two}
 use Rattle.fpl_bytes.specs.declared.fault.ByteWhy.TheVariants.{BadNumber}
@@ -32,13 +33,14 @@ part_width Two = w128
 
 abbrev pub limit_of : Version → ℕ
 limit_of One = 2 ^ 63 - 1
-limit_of Two = bound
+limit_of Two = most_number
 
 abbrev pub fraction_of : ℤ → ℕ → Num
 fraction_of above below = record { numerator = above; denominator = pos below }
 
 abbrev pub number_bytes : Version → Kind → Num → List ℕ
-number_bytes version Rational a = to_be_bytes (part_width version) (cast_unsigned (part_width version) a.numerator) ++ to_be_bytes (part_width version) (unsigned_abs a.denominator)
+number_bytes version Rational a =
+    to_be_bytes (part_width version) (cast_unsigned (part_width version) a.numerator) ++ to_be_bytes (part_width version) (unsigned_abs a.denominator)
 number_bytes version (Prime p) a = to_be_bytes w32 (residue_of a)
 
 abbrev pub is_lowest : Num → Bool
@@ -49,7 +51,8 @@ is_stored version Rational a = nat_le (unsigned_abs a.numerator) (limit_of versi
 is_stored version (Prime p) a = nat_lt (residue_of a) p
 
 abbrev pub parts_at : Width → List ℕ → Option (Num × List ℕ)
-parts_at w bytes = option_and_then (λ above. option_and_then (λ below. Some (fraction_of (cast_signed w above.0) below.0, below.1)) (raw_at w above.1)) (raw_at w bytes)
+parts_at w bytes =
+    option_and_then (λ above. option_and_then (λ below. Some (fraction_of (cast_signed w above.0) below.0, below.1)) (raw_at w above.1)) (raw_at w bytes)
 
 -- the number that was read, if it is stored
 abbrev pub stored_at : Version → Kind → ℕ → List ℕ → Num × List ℕ → Result (Num × List ℕ) BadBytes

@@ -1,36 +1,47 @@
 ghost use Rattle.std.specs.Prelude.{◌≡◌};
 ghost use Rattle.fpl_bytes.specs.declared.fault.ScanError.TheVariants.{NoMemory};
 ghost use Rattle.fpl_bytes.specs.Reading.{fault};
+ghost use Rattle.fpl_bytes.specs.Reasons.{byte_text};
 
 use std::alloc::{AllocError, AllocFailed};
 use thiserror::Error;
 
 /// Why bytes are no checkpoint.
-#[derive(Clone, Copy, Debug, PartialEq, Eq, Error)]
+#[derive(Clone, Copy, Debug, PartialEq, Eq)]
 pub enum ByteWhy {
-    #[error("not a checkpoint")]
     NotCheckpoint,
-    #[error("head cut")]
     HeadCut,
-    #[error("unknown version")]
     UnknownVersion,
-    #[error("head text")]
     HeadText,
-    #[error("section weight")]
     SectionWeight,
-    #[error("field cut")]
     FieldCut,
-    #[error("bad tag")]
     BadTag,
-    #[error("bad number")]
     BadNumber,
-    #[error("unread bytes")]
     UnreadBytes,
+}
+
+impl ByteWhy {
+    /// The reason in words.
+    pub fn text(self) -> &'static [u8]
+        ensures { result.now ≡ byte_text self }
+    {
+        match self {
+            ByteWhy::NotCheckpoint => b"not a checkpoint",
+            ByteWhy::HeadCut => b"head cut",
+            ByteWhy::UnknownVersion => b"unknown version",
+            ByteWhy::HeadText => b"head text",
+            ByteWhy::SectionWeight => b"section weight",
+            ByteWhy::FieldCut => b"field cut",
+            ByteWhy::BadTag => b"bad tag",
+            ByteWhy::BadNumber => b"bad number",
+            ByteWhy::UnreadBytes => b"unread bytes",
+        }
+    }
 }
 
 /// The first reason that holds, and the place where it first holds, counted in bytes from 0.
 #[derive(Clone, Copy, Debug, PartialEq, Eq, Error)]
-#[error("{why}")]
+#[error("bad byte at {place}")]
 pub struct BadBytes {
     pub place: u64,
     pub why: ByteWhy,

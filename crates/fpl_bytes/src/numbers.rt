@@ -1,7 +1,7 @@
 ghost use Rattle.std.specs.Prelude.{◌≡◌, ◌≤◌, ◌≤ℤ◌, ◌↔◌, Option, IsTrue, pos, unsigned_abs, option_map, if◌then◌else◌};
 ghost use Rattle.std.specs.Int.{w64, w128};
 ghost use Rattle.fpl_numbers.specs.declared.number.Kind.TheVariants.{Rational};
-ghost use Rattle.fpl_numbers.specs.Numbers.{bound};
+ghost use Rattle.fpl_numbers.specs.Numbers.{most_number};
 ghost use Rattle.fpl_numbers.specs.Quotients.{quotient_of};
 ghost use Rattle.fpl_bytes.specs.Reading.{Gives};
 ghost use Rattle.fpl_bytes.specs.Numbers.{fraction_of, parts_at, part_width, is_stored, fraction_at, residue_at, number_at};
@@ -39,7 +39,7 @@ fn parts(version: Version, bytes: &[u8]) -> Option<((i128, u128), &[u8])>
 
 /// Whether a fraction within the bound is in lowest terms over a positive denominator.
 fn is_lowest(number: Num) -> bool
-    requires above { unsigned_abs number.numerator ≤ bound }
+    requires above { unsigned_abs number.numerator ≤ most_number }
     requires below { pos 0 ≤ℤ number.denominator }
     ensures { IsTrue result ↔ (quotient_of Rational number.numerator number.denominator ≡ Some number) }
 {

@@ -2,7 +2,7 @@ ghost use Rattle.std.specs.Prelude.{◌≡◌, ◌++◌, OnOk};
 ghost use Rattle.fpl_numbers.specs.declared.number.Kind.TheVariants.{Rational};
 ghost use Rattle.fpl_numbers.specs.Numbers.{IsElement};
 ghost use Rattle.fpl_bytes.specs.declared.version.Version.TheVariants.{Two};
-ghost use Rattle.fpl_bytes.specs.Numbers.{number_bytes};
+ghost use Rattle.fpl_bytes.specs.Numbers.{IsStored, number_bytes};
 
 use fpl_scalar::{Kind, Num};
 use std::alloc::AllocError;
@@ -22,7 +22,8 @@ fn push_fraction(out: &mut Vec<u8>, number: &Num) -> Result<(), AllocError>
 /// Adds a number as version 2 writes it.
 pub fn push_number(out: &mut Vec<u8>, kind: Kind, number: &Num) -> Result<(), AllocError>
     requires { IsElement kind number.now }
-    ensures { OnOk result (out.new.items ≡ out.old.items ++ number_bytes Two kind number.now) }
+    ensures bytes { OnOk result (out.new.items ≡ out.old.items ++ number_bytes Two kind number.now) }
+    ensures stored { OnOk result (IsStored Two kind number.now) }
 {
     match kind {
         Kind::Rational => push_fraction(out, number),

@@ -32,7 +32,8 @@ named_earlier n m b e =
     let high = is_below m (n + 1) g.1 in
     record { from_one = low; to_end = omega arith }
 
-cites_earlier : (n : ℕ) (named : ℕ → Bool) → ((m : ℕ) → named m ≡ true → IsEarlier n m) → (ts : List Term) → test_cites named (n + 1) ts ≡ Ok tt → All (λ t. IsEarlier n t.step) ts
+cites_earlier : (n : ℕ) (named : ℕ → Bool) → ((m : ℕ) → named m ≡ true → IsEarlier n m) → (ts : List Term) → test_cites named (n + 1) ts ≡ Ok tt →
+    All (λ t. IsEarlier n t.step) ts
 cites_earlier n named h [] e = λ i d l. absurd (omega (arith, l))
 cites_earlier n named h (t ∷ ts) e =
     let f = passing_first (demand (named t.step) (AtStep (n + 1)) (BadCite t.step)) (test_cites named (n + 1) ts) tt e in
@@ -43,19 +44,26 @@ module _ (T : PlainTable) (p : Presentation) (steps : List Step) where
   step_names earlier (Insert origin terms scale) row e =
       let f = passing_first (demand (is_origin T p origin) (AtStep (length earlier + 1)) BadOrigin) _ row e in
       let g = passing_first (test_cites (names_insert steps (length earlier + 1)) (length earlier + 1) terms) _ row f.1 in
-      cites_earlier (length earlier) (names_insert steps (length earlier + 1)) (λ m h. named_earlier (length earlier) m (is_insert (slice_get steps (m - 1))) h) terms g.0
+      cites_earlier (length earlier) (names_insert steps (length earlier + 1))
+      (λ m h. named_earlier (length earlier) m (is_insert (slice_get steps (m - 1))) h) terms g.0
   step_names earlier (Close of terms) row e =
       let f = passing_first (demand (names_insert steps (length earlier + 1) of) (AtStep (length earlier + 1)) (BadCite of)) _ row e in
       let g = passing_first (test_cites (names_close steps (length earlier + 1)) (length earlier + 1) terms) _ row f.1 in (
-        named_earlier (length earlier) of (is_insert (slice_get steps (of - 1))) (demanded (names_insert steps (length earlier + 1) of) (AtStep (length earlier + 1)) (BadCite of) f.0),
-        cites_earlier (length earlier) (names_close steps (length earlier + 1)) (λ m h. named_earlier (length earlier) m (is_close (slice_get steps (m - 1))) h) terms g.0,
+        named_earlier (length earlier) of (is_insert (slice_get steps (of - 1)))
+            (demanded (names_insert steps (length earlier + 1) of) (AtStep (length earlier + 1)) (BadCite of) f.0),
+        cites_earlier (length earlier) (names_close steps (length earlier + 1))
+            (λ m h. named_earlier (length earlier) m (is_close (slice_get steps (m - 1))) h) terms g.0,
       )
 
-  conclusions_name : (earlier : List (List Num)) (ss : List Step) (rows : List (List Num)) → conclusions_from T p steps earlier ss ≡ Ok rows → AllNameEarlier (length earlier) ss
+  conclusions_name : (earlier : List (List Num)) (ss : List Step) (rows : List (List Num)) → conclusions_from T p steps earlier ss ≡ Ok rows →
+      AllNameEarlier (length earlier) ss
   conclusions_name earlier [] rows e = tt
   conclusions_name earlier (s ∷ ss) rows e =
-      let f = then_first (λ row. conclusions_from T p steps (earlier ++ row ∷ []) ss) (conclusion_of_step T p steps earlier s) rows e in
-      (step_names earlier s f.0 f.1.0, subst (λ n. AllNameEarlier n ss) (length-append earlier (f.0 ∷ [])) (conclusions_name (earlier ++ f.0 ∷ []) ss rows f.1.1))
+      let f = then_first (λ row. conclusions_from T p steps (earlier ++ row ∷ []) ss) (conclusion_of_step T p steps earlier s) rows e in (
+        step_names earlier s f.0 f.1.0,
+        subst (λ n. AllNameEarlier n ss) (length-append earlier (f.0 ∷ []))
+            (conclusions_name (earlier ++ f.0 ∷ []) ss rows f.1.1),
+      )
 
 module _ (T : PlainTable) (p : Presentation) (s : Section) (rows : List (List Num)) (accepts : Accepts T p s rows) where
   -- the tests of the whole, after the conclusions

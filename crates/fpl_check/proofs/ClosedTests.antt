@@ -23,7 +23,8 @@ use Rattle.fpl_check.specs.declared.fault.CheckFault.{CheckFault}
 use Rattle.fpl_check.specs.Refusal.{demand, GivesCheck}
 use Rattle.fpl_check.specs.ClosedRows.{test_lead_at, lead_or_none, test_leads, is_lead, test_crossing, test_apart}
 use Rattle.fpl_check.proofs.ListedOrigins.{demanded, passing_first}
-use Rattle.fpl_check.proofs.Loops.{both_true, is_same, is_below}
+use Rattle.fpl_check.proofs.Loops.{both_true, is_below}
+use Rattle.fpl_check.proofs.RowLoops.{is_same}
 
 -- a row with 1 at its greatest symbol, which comes after `before`
 record HasOne (before : ℕ) (row : List Num) : Type 0 where
@@ -46,7 +47,8 @@ lead_is_lead before row h = ap (λ o. unwrap_or o 0) h.is
 
 ones : (k before : ℕ) (rows : List (List Num)) → test_leads k before rows ≡ Ok tt → (i : ℕ) → i < length rows → HasOne before (get_or rows i [])
 ones k before [] e i l = absurd (omega (arith, l))
-ones k before (row ∷ rows) e zero l = has_one k before row (passing_first (test_lead_at k before row (lead_of row)) (test_leads (k + 1) (lead_or_none row) rows) tt e).0
+ones k before (row ∷ rows) e zero l = has_one k before row
+    (passing_first (test_lead_at k before row (lead_of row)) (test_leads (k + 1) (lead_or_none row) rows) tt e).0
 ones k before (row ∷ rows) e (suc i) l =
     let a = passing_first (test_lead_at k before row (lead_of row)) (test_leads (k + 1) (lead_or_none row) rows) tt e in
     let h = ones (k + 1) (lead_or_none row) rows a.1 i (omega (arith, l)) in
@@ -54,7 +56,8 @@ ones k before (row ∷ rows) e (suc i) l =
     let s = lead_is_lead before row r in
     record { lead = h.lead; is = h.is; one = h.one; above = omega (arith, h.above, r.above, s) }
 
-leads_ascend : (k before : ℕ) (rows : List (List Num)) → test_leads k before rows ≡ Ok tt → (i j : ℕ) → i < j → j < length rows → lead_or_none (get_or rows i []) < lead_or_none (get_or rows j [])
+leads_ascend : (k before : ℕ) (rows : List (List Num)) → test_leads k before rows ≡ Ok tt → (i j : ℕ) → i < j → j < length rows →
+    lead_or_none (get_or rows i []) < lead_or_none (get_or rows j [])
 leads_ascend k before [] e i j l m = absurd (omega (arith, m))
 leads_ascend k before (row ∷ rows) e i zero l m = absurd (omega (arith, l))
 leads_ascend k before (row ∷ rows) e zero (suc j) l m =
@@ -101,10 +104,12 @@ crossings k leads lead s (c ∷ cs) e (suc t) l =
     subst (λ w. (is_nought (get_or cs t (residue 0)) ≡ true) ⊎ ((w ≡ lead) ⊎ (leads w ≡ false))) (let f : s + 1 + t ≡ s + suc t = omega arith in f)
     (crossings k leads lead (s + 1) cs a.1 t (omega (arith, l)))
 
-each_apart : (k : ℕ) (all rows : List (List Num)) → test_apart k all rows ≡ Ok tt → (i : ℕ) → i < length rows → (m : ℕ) × (test_crossing m (is_lead all) (lead_or_none (get_or rows i [])) 1 (get_or rows i []) ≡ Ok tt)
+each_apart : (k : ℕ) (all rows : List (List Num)) → test_apart k all rows ≡ Ok tt → (i : ℕ) → i < length rows → (m : ℕ) ×
+    (test_crossing m (is_lead all) (lead_or_none (get_or rows i [])) 1 (get_or rows i []) ≡ Ok tt)
 each_apart k all [] e i l = absurd (omega (arith, l))
 each_apart k all (row ∷ rows) e zero l = (k, (passing_first (test_crossing k (is_lead all) (lead_or_none row) 1 row) (test_apart (k + 1) all rows) tt e).0)
-each_apart k all (row ∷ rows) e (suc i) l = each_apart (k + 1) all rows (passing_first (test_crossing k (is_lead all) (lead_or_none row) 1 row) (test_apart (k + 1) all rows) tt e).1 i (omega (arith, l))
+each_apart k all (row ∷ rows) e (suc i) l = each_apart (k + 1) all rows
+    (passing_first (test_crossing k (is_lead all) (lead_or_none row) 1 row) (test_apart (k + 1) all rows) tt e).1 i (omega (arith, l))
 
 lead_found : (rows : List (List Num)) (j : ℕ) → j < length rows → is_lead rows (lead_or_none (get_or rows j [])) ≡ true
 lead_found [] j l = absurd (omega (arith, l))
@@ -115,7 +120,8 @@ lead_found (row ∷ rows) (suc j) l = or_later _ _ (lead_found rows j (omega (ar
     or_later true b e = refl
     or_later false b e = e
 
-module _ (kind : Kind) (listed : IsField kind) (n : ℕ) (rows : List (List Num)) (are : AreRows kind n rows) (leads : test_leads 1 0 rows ≡ Ok tt) (apart : test_apart 1 rows rows ≡ Ok tt) where
+module _ (kind : Kind) (listed : IsField kind) (n : ℕ) (rows : List (List Num)) (are : AreRows kind n rows) (leads : test_leads 1 0 rows ≡ Ok tt)
+    (apart : test_apart 1 rows rows ≡ Ok tt) where
   abbrev K : Field
   K = field_of kind
 
@@ -177,7 +183,8 @@ module _ (kind : Kind) (listed : IsField kind) (n : ℕ) (rows : List (List Num)
           go within (crossings x.0 (is_lead rows) (lead_or_none (get_or rows i [])) 1 (get_or rows i []) x.1 (pivot_in rows j) within)
         where
           go : pivot_in rows j < length (get_or rows i []) →
-              (is_nought (get_or (get_or rows i []) (pivot_in rows j) (residue 0)) ≡ true) ⊎ ((1 + pivot_in rows j ≡ lead_or_none (get_or rows i [])) ⊎ (is_lead rows (1 + pivot_in rows j) ≡ false)) →
+              (is_nought (get_or (get_or rows i []) (pivot_in rows j) (residue 0)) ≡ true) ⊎
+              ((1 + pivot_in rows j ≡ lead_or_none (get_or rows i [])) ⊎ (is_lead rows (1 + pivot_in rows j) ≡ false)) →
               row_in kind rows i (pivot_in rows j) ≡ K.nought
           go within (inl z) = nought_at kind K (number_of kind) reads (get_or rows i []) (pivot_in rows j) (are i [] l).elements within z
           go within (inr (inl z)) =
@@ -192,7 +199,8 @@ module _ (kind : Kind) (listed : IsField kind) (n : ℕ) (rows : List (List Num)
               let t : is_lead rows (1 + pivot_in rows j) ≡ true = ap (is_lead rows) (sym s) ∙ lead_found rows j m in
               absurd (let k : ⊥ = cc in k)
 
-pub closed_when : (kind : Kind) → IsField kind → (n : ℕ) (rows : List (List Num)) → AreRows kind n rows → test_leads 1 0 rows ≡ Ok tt → (r : Result (Unit {0}) CheckFault) →
+pub closed_when : (kind : Kind) → IsField kind → (n : ℕ) (rows : List (List Num)) → AreRows kind n rows → test_leads 1 0 rows ≡ Ok tt →
+    (r : Result (Unit {0}) CheckFault) →
     GivesCheck (λ (done : Unit {0}). done) r (test_apart 1 rows rows) → IfOk r (λ done. IsClosedList kind n rows)
 closed_when kind listed n rows are leads (Ok done) h = are_closed kind listed n rows are leads h
 closed_when kind listed n rows are leads (Err fault) h = tt

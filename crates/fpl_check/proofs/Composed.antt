@@ -17,7 +17,8 @@ use Rattle.fpl_check.specs.Faults.{fault_as}
 pub passed : {X : Type 0} (test : Result (Unit {0}) Refusal) (rest : Result X Refusal) → test ≡ Ok tt → passing test rest ≡ rest
 passed test rest e = ap (λ t. passing t rest) e
 
-pub refused : {X : Type 0} (fault : CheckFault) (test : Result (Unit {0}) Refusal) (rest : Result X Refusal) → IsRefusal fault test → IsRefusal fault (passing test rest)
+pub refused : {X : Type 0} (fault : CheckFault) (test : Result (Unit {0}) Refusal) (rest : Result X Refusal) → IsRefusal fault test →
+    IsRefusal fault (passing test rest)
 refused (Bad spot why) test rest h = ap (λ t. passing t rest) h
 refused (unfits u) test rest h = ap (λ t. passing t rest) h
 refused no_memory test rest h = tt
@@ -26,10 +27,6 @@ pub first_refused : {X Y : Type 0} (fault : CheckFault) (f : Y → Result X Refu
 first_refused (Bad spot why) f r h = ap (and_then f) h
 first_refused (unfits u) f r h = ap (and_then f) h
 first_refused no_memory f r h = tt
-
-pub as_refusal : {X : Type 0} (fault : Fault) (r : Result X Unfit) → IsFault fault r → IsRefusal (fault_as fault) (exactly r)
-as_refusal (Unfits u) r h = ap exactly h
-as_refusal NoMemory r h = tt
 
 pub same_refusal : {X : Type 0} (fault : CheckFault) (r s : Result X Refusal) → r ≡ s → IsRefusal fault s → IsRefusal fault r
 same_refusal fault r s e h = subst (IsRefusal fault) (sym e) h

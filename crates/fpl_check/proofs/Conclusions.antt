@@ -43,7 +43,8 @@ module _ (T : PlainTable) (p : Presentation) (steps : List Step) where
       let h = are_concluded ss (earlier ++ f.0 ∷ []) all f.1.1 in
       record { rest = f.0 ∷ h.rest; conclude = (step_parts T p steps earlier s f.0 f.1.0, h.conclude); is = h.is ∙ append_assoc earlier (f.0 ∷ []) h.rest }
 
-  pub conclude_all : (ss : List Step) (earlier rest : List (List Num)) → Concludes earlier ss rest → conclusions_from T p steps earlier ss ≡ Ok (earlier ++ rest)
+  pub conclude_all : (ss : List Step) (earlier rest : List (List Num)) → Concludes earlier ss rest →
+      conclusions_from T p steps earlier ss ≡ Ok (earlier ++ rest)
   conclude_all [] earlier [] h = ap Ok (sym (append-nil earlier))
   conclude_all [] earlier (row ∷ rest) h = absurd h
   conclude_all (s ∷ ss) earlier [] h = absurd h
@@ -64,14 +65,17 @@ abbrev pub HaveRows : PlainTable → Presentation → ℕ → Type 0
 HaveRows T p n = (o : Origin) → Contains (origins_of T p) o → (row : List Num) → row_of_origin T p o ≡ Ok row → IsRowOf T.kind n row
 
 module _ (T : PlainTable) (p : Presentation) (listed : IsField T.kind) (n : ℕ) (sources : HaveRows T p n) (steps : List Step) where
-  pub step_row : (earlier : List (List Num)) (s : Step) (row : List Num) → AreRows T.kind n earlier → HasNumbersOf T.kind s → StepParts T p steps earlier s row → IsRowOf T.kind n row
+  pub step_row : (earlier : List (List Num)) (s : Step) (row : List Num) → AreRows T.kind n earlier → HasNumbersOf T.kind s →
+      StepParts T p steps earlier s row → IsRowOf T.kind n row
   step_row earlier (Insert origin terms scale) row rows numbers h =
       concluded_row T.kind listed n earlier h.source row terms (scale_if scale) rows (sources origin (origin_listed T p origin h.origin_is) h.source h.reads)
       (terms_pass T.kind Inserts steps (length earlier) terms numbers.0 h.cites) (scale_in T.kind scale numbers.1) h.concludes
   step_row earlier (Close of terms) row rows numbers h =
       let of_is = named_within Inserts steps (length earlier) of h.of_named in
-      concluded_row T.kind listed n earlier (get_or earlier (of - 1) []) row terms None rows (rows (of - 1) [] (let a = of_is.0 in let b = of_is.1 in omega arith))
+      concluded_row T.kind listed n earlier (get_or earlier (of - 1) []) row terms None rows
+      (rows (of - 1) [] (let a = of_is.0 in let b = of_is.1 in omega arith))
       (terms_pass T.kind Closes steps (length earlier) terms numbers h.cites) (λ c e. absurd (none_some e)) h.concludes
 
-  pub rows_more : (earlier : List (List Num)) (s : Step) (row : List Num) → AreRows T.kind n earlier → HasNumbersOf T.kind s → StepParts T p steps earlier s row → AreRows T.kind n (earlier ++ row ∷ [])
+  pub rows_more : (earlier : List (List Num)) (s : Step) (row : List Num) → AreRows T.kind n earlier → HasNumbersOf T.kind s →
+      StepParts T p steps earlier s row → AreRows T.kind n (earlier ++ row ∷ [])
   rows_more earlier s row rows numbers h = all_more (IsRowOf T.kind n) earlier row rows (step_row earlier s row rows numbers h)

@@ -1,6 +1,6 @@
 -- What accepted sections and conclusions are over the field of the presentation.
 use Rattle.std.specs.Prelude.{◌≡◌, ℕ, ◌<◌, List, [], length, Result, Ok, Err, IfOk, Contains, All, slice_index_or}
-use mathlib.Core.Path.{ap, subst}
+use mathlib.Core.Path.{sym, ap, subst}
 use native.Mathlib.Omega.{arith}
 use Rattle.math_linear.specs.Vector.{Vector}
 use Rattle.fpl_numbers.specs.declared.number.Num.{Num}
@@ -21,7 +21,7 @@ use Rattle.fpl_model.specs.Meaning.{presentation_in}
 use Rattle.fpl_table.specs.Plain.{PlainTable, table_in, symbols_in}
 use Rattle.plain_tables.specs.Holds.{Holds}
 use Rattle.fpl_rewrite.specs.Origins.{origins_of}
-use Rattle.plain_sources.proofs.Laws.{sound_stands, symbols_stand}
+use Rattle.plain_tables.proofs.Holding.{sound_is_sound, symbols_are_same}
 use Rattle.plain_sources.proofs.HeldTables.{RowsStand, InOriginSpan, origin_vector, is_field, origins_stand, source_origin, from_sources}
 use Rattle.fpl_check.specs.declared.fault.CheckFault.{CheckFault}
 use Rattle.fpl_check.specs.Refusal.{GivesCheck}
@@ -29,7 +29,8 @@ use Rattle.fpl_check.specs.Premises.{IsSectionFor}
 use Rattle.fpl_check.specs.Steps.{conclusions_of}
 use Rattle.fpl_check.specs.Check.{check_of, Accepts}
 use Rattle.fpl_check.specs.Laws.{SpansSources}
-use Rattle.fpl_check.proofs.PassedTests.{passes, passed_closed, passed_spanned, passed_each, conclusions_spanned}
+use Rattle.fpl_check.proofs.PassedTests.{conclusions_spanned}
+use Rattle.fpl_check.proofs.PassedRows.{passes, passed_closed, passed_spanned, passed_each}
 
 module _ (p : Presentation) (T : PlainTable) (s : Section) (holds : Holds p T) (section : IsSectionFor T s) where
   -- the closed rows and the origins' vectors span each other, over the field of kind k
@@ -61,12 +62,14 @@ module _ (p : Presentation) (T : PlainTable) (s : Section) (holds : Holds p T) (
   -- conclusions
   abbrev ConcludedAt : Kind → List (List Num) → Type 0
   ConcludedAt k conclusions =
-      (vector : Origin → Vector (field_of k)) → RowsStand p T k vector → (i : ℕ) (d : List Num) → i < length conclusions → InOriginSpan p T k vector (vector_in k (slice_index_or conclusions i d)) × (length (slice_index_or conclusions i d) ≡ length (symbols_in T))
+      (vector : Origin → Vector (field_of k)) → RowsStand p T k vector → (i : ℕ) (d : List Num) → i < length conclusions →
+      InOriginSpan p T k vector (vector_in k (slice_index_or conclusions i d)) × (length (slice_index_or conclusions i d) ≡ length (symbols_in T))
 
   concluded_at : (conclusions : List (List Num)) → conclusions_of T p s ≡ Ok conclusions → (k : Kind) → T.kind ≡ k → ConcludedAt k conclusions
   concluded_at conclusions e k same =
       subst (λ k. ConcludedAt k conclusions) same (λ vector stand i d l.
-      let h = (conclusions_spanned T (is_field p T holds) p vector stand s.steps [] s.steps conclusions (λ i d l. absurd (omega (arith, l))) section.numbers.steps e).0 i d l in
+      let h = (conclusions_spanned T (is_field p T holds) p vector stand s.steps [] s.steps conclusions
+      (λ i d l. absurd (omega (arith, l))) section.numbers.steps e).0 i d l in
       (h.spanned, h.row.length_is))
 
   -- conclusions are rows, one a step
@@ -77,8 +80,12 @@ module _ (p : Presentation) (T : PlainTable) (s : Section) (holds : Holds p T) (
   concluded : (conclusions : List (List Num)) → conclusions_of T p s ≡ Ok conclusions → (k : Kind) → T.kind ≡ k → Concluded k conclusions
   concluded conclusions e k same =
       subst (λ k. Concluded k conclusions) same (record {
-        rows = λ vector stand i d l. ((conclusions_spanned T (is_field p T holds) p vector stand s.steps [] s.steps conclusions (λ i d l. absurd (omega (arith, l))) section.numbers.steps e).0 i d l).row;
-        whole = λ vector stand. (let r = conclusions_spanned T (is_field p T holds) p vector stand s.steps [] s.steps conclusions (λ i d l. absurd (omega (arith, l))) section.numbers.steps e in let l = r.1 in omega (arith, l));
+        rows = λ vector stand i d l.
+            ((conclusions_spanned T (is_field p T holds) p vector stand s.steps [] s.steps conclusions
+            (λ i d l. absurd (omega (arith, l))) section.numbers.steps e).0 i d l).row;
+        whole = λ vector stand.
+            (let r = conclusions_spanned T (is_field p T holds) p vector stand s.steps [] s.steps conclusions
+            (λ i d l. absurd (omega (arith, l))) section.numbers.steps e in let l = r.1 in omega (arith, l));
       })
 
   pub conclusions_rows : (conclusions : List (List Num)) → conclusions_of T p s ≡ Ok conclusions → AreRows T.kind (length (symbols_in T)) conclusions
@@ -87,18 +94,22 @@ module _ (p : Presentation) (T : PlainTable) (s : Section) (holds : Holds p T) (
   pub conclusions_whole : (conclusions : List (List Num)) → conclusions_of T p s ≡ Ok conclusions → length conclusions ≡ length s.steps
   conclusions_whole conclusions e = (concluded conclusions e p.field holds.kind).whole (origin_vector p T) (origins_stand p T holds)
 
-  pub conclusions_zero : (conclusions : List (List Num)) → conclusions_of T p s ≡ Ok conclusions → (tree : ℕ → Expression (field_of p.field)) → IsStandard (field_of p.field) (presentation_in p) (table_in p.field T) tree →
-      All (λ row. Derives (field_of p.field) (presentation_in p) (over_symbols (field_of p.field) (presentation_in p) (table_in p.field T) tree (vector_in p.field row)) none) conclusions
+  pub conclusions_zero : (conclusions : List (List Num)) → conclusions_of T p s ≡ Ok conclusions → (tree : ℕ → Expression (field_of p.field)) →
+      IsStandard (field_of p.field) (presentation_in p) (table_in p.field T) tree →
+      All (λ row. Derives (field_of p.field) (presentation_in p) (over_symbols (field_of p.field) (presentation_in p) (table_in p.field T) tree
+      (vector_in p.field row)) none) conclusions
   conclusions_zero conclusions e tree standard i d l =
       let K = field_of p.field in
       let row = slice_index_or conclusions i d in
       let h = concluded_at conclusions e p.field holds.kind (origin_vector p T) (origins_stand p T holds) i d l in
-      let count : length (symbols (presentation_in p) (table_in p.field T)) ≡ length (symbols_in T) = ap length (symbols_stand p T holds.kind holds.generators) in
-      (rows_are_zero K (presentation_in p) (sound_stands p holds.sound) (table_in p.field T) tree standard (vector_in p.field row)
+      let count : length (symbols (presentation_in p) (table_in p.field T)) ≡ length (symbols_in T) =
+      ap length (sym (symbols_are_same p T holds.kind holds.generators).0) in
+      (rows_are_zero K (presentation_in p) (sound_is_sound p holds.sound) (table_in p.field T) tree standard (vector_in p.field row)
       (λ t m. vector_past K (number_of p.field) row t (omega (arith, m, count, h.1)))).1
       (from_sources p T holds (vector_in p.field row) h.0)
 
-pub spans_when : (p : Presentation) (T : PlainTable) (s : Section) → Holds p T → IsSectionFor T s → (r : Result (List (List Num)) CheckFault) → GivesCheck (λ (rows : List (List Num)). rows) r (check_of T p s) →
+pub spans_when : (p : Presentation) (T : PlainTable) (s : Section) → Holds p T → IsSectionFor T s → (r : Result (List (List Num)) CheckFault) →
+    GivesCheck (λ (rows : List (List Num)). rows) r (check_of T p s) →
     IfOk r (λ rows. SpansSources p T rows)
 spans_when p T s holds section (Ok rows) h = accepted_spans p T s holds section rows h
 spans_when p T s holds section (Err fault) h = tt

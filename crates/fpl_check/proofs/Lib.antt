@@ -1,5 +1,6 @@
 mod Composed
 pub mod Loops
+pub mod RowLoops
 pub mod ListedOrigins
 mod Marks
 mod Filled
@@ -9,9 +10,12 @@ mod Weighed
 mod Tested
 pub mod ClosedTests
 pub mod PassedTests
+pub mod PassedRows
 pub mod StepParts
 pub mod Conclusions
 mod ClosingSteps
 mod StepOrigins
-mod LawsPassed
+mod InsertOrigins
+pub mod Fitting
+pub mod LawsPassed
 pub mod AcceptedSections

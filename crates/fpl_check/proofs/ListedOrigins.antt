@@ -48,7 +48,8 @@ module _ (T : PlainTable) (p : Presentation) where
       let at : 1 + (r - 1) ≡ r = omega (arith, one) in
       let next : T.weight + 1 ≡ suc T.weight = omega arith in
       subst (λ s. IsListed T p (Relation s)) at
-      (listed_relation (r - 1) within (λ d. ap (relation_weight T) (get_or_from_slice_get p.relations (r - 1) q d e) ∙ exactly_is (T.weight + 1) (relation_weight T q) w ∙ ap exact next))
+      (listed_relation (r - 1) within (λ d. ap (relation_weight T) (get_or_from_slice_get p.relations (r - 1) q d e)
+      ∙ exactly_is (T.weight + 1) (relation_weight T q) w ∙ ap exact next))
 
   -- from places to the numbers of an origin
   triple_from : (i j k : ℕ) → 1 ≤ i → 1 ≤ j → 1 ≤ k → IsTriple T (i - 1) (j - 1) (k - 1) → IsListed T p (Jacobi i j k)
@@ -59,8 +60,10 @@ module _ (T : PlainTable) (p : Presentation) where
       let fi : suc i - 1 ≡ i = omega arith in
       let fj : suc j - 1 ≡ j = omega arith in
       let fk : suc k - 1 ≡ k = omega arith in
-      let is : IsTriple T i j k = subst (λ w. IsTriple T i j w) fk (subst (λ w. IsTriple T i w (suc k - 1)) fj (subst (λ w. IsTriple T w (suc j - 1) (suc k - 1)) fi h)) in
-      subst (λ w. IsListed T p (Jacobi (suc i) (suc j) w)) ek (subst (λ w. IsListed T p (Jacobi (suc i) w (k + 1))) ej (subst (λ w. IsListed T p (Jacobi w (j + 1) (k + 1))) ei (listed_triple i j k is)))
+      let is : IsTriple T i j k =
+      subst (λ w. IsTriple T i j w) fk (subst (λ w. IsTriple T i w (suc k - 1)) fj (subst (λ w. IsTriple T w (suc j - 1) (suc k - 1)) fi h)) in
+      subst (λ w. IsListed T p (Jacobi (suc i) (suc j) w)) ek
+      (subst (λ w. IsListed T p (Jacobi (suc i) w (k + 1))) ej (subst (λ w. IsListed T p (Jacobi w (j + 1) (k + 1))) ei (listed_triple i j k is)))
   triple_from zero j k a b d h = absurd (omega (arith, a))
   triple_from (suc i) zero k a b d h = absurd (omega (arith, b))
   triple_from (suc i) (suc j) zero a b d h = absurd (omega (arith, d))
@@ -116,10 +119,12 @@ pub named_within : (cited : Cited) (steps : List Step) (count m : ℕ) → named
 named_within cited steps count m e = let a = named_before cited steps (count + 1) m e in (a.0, omega (arith, a.1))
 
 -- terms whose citations pass
-pub terms_pass : (kind : Kind) (cited : Cited) (steps : List Step) (count : ℕ) (ts : List Term) → AreFactorsOf kind ts → test_cites (named cited steps (count + 1)) (count + 1) ts ≡ Ok tt → All (IsTermOf kind count) ts
+pub terms_pass : (kind : Kind) (cited : Cited) (steps : List Step) (count : ℕ) (ts : List Term) → AreFactorsOf kind ts →
+    test_cites (named cited steps (count + 1)) (count + 1) ts ≡ Ok tt → All (IsTermOf kind count) ts
 terms_pass kind cited steps count [] all e = λ i d l. absurd (omega (arith, l))
 terms_pass kind cited steps count (t ∷ ts) all e =
-    let a = passing_first (demand (named cited steps (count + 1) t.step) (AtStep (count + 1)) (BadCite t.step)) (test_cites (named cited steps (count + 1)) (count + 1) ts) tt e in
+    let a = passing_first (demand (named cited steps (count + 1) t.step) (AtStep (count + 1)) (BadCite t.step))
+    (test_cites (named cited steps (count + 1)) (count + 1) ts) tt e in
     let b = named_within cited steps count t.step (demanded _ _ _ a.0) in
     all_cons (IsTermOf kind count) t ts (record { from_one = b.0; to_end = b.1; factor = all_head (λ t. IsElement kind t.factor) t ts all })
     (terms_pass kind cited steps count ts (all_tail (λ t. IsElement kind t.factor) t ts all) a.1)
@@ -129,8 +134,6 @@ pub contains_rest : {A : Type 0} (xs rest : List A) (x y : A) → xs ≡ x ∷ r
 contains_rest xs rest x y e h = subst (λ ys. Contains ys y) (sym e) (suc h.0, (let l = h.1 in omega arith), h.2)
 
 module _ (T : PlainTable) (p : Presentation) (rows : List (List Num)) where
-  pub origins_next : (os rest : List Origin) (o : Origin) → os ≡ o ∷ rest → test_origin T p rows o ≡ Ok tt → test_origins T p rows os ≡ test_origins T p rows rest
+  pub origins_next : (os rest : List Origin) (o : Origin) → os ≡ o ∷ rest → test_origin T p rows o ≡ Ok tt →
+      test_origins T p rows os ≡ test_origins T p rows rest
   origins_next os rest o e h = ap (test_origins T p rows) e ∙ passed (test_origin T p rows o) (test_origins T p rows rest) h
-
-  pub origins_stop : (fault : CheckFault) (os rest : List Origin) (o : Origin) → os ≡ o ∷ rest → IsRefusal fault (test_origin T p rows o) → IsRefusal fault (test_origins T p rows os)
-  origins_stop fault os rest o e h = same_refusal fault _ _ (ap (test_origins T p rows) e) (refused fault (test_origin T p rows o) (test_origins T p rows rest) h)

@@ -15,12 +15,6 @@ use Rattle.fpl_check.specs.Refusal.{passing, demand}
 use Rattle.fpl_check.specs.ClosedRows.{is_lead, test_crossing}
 use Rattle.fpl_check.specs.Leads.{marked, IsMarking}
 
-pub none_marked : (n : ℕ) → IsMarking n [] (replicate n false)
-none_marked n = record {
-  length_is = length-replicate n false;
-  marks_leads = λ s l m. get_or-replicate n (s - 1) false false (omega arith);
-}
-
 same_test : (s t : ℕ) → s ≡ t → nat_eq s t ≡ true
 same_test s t e = grind (arith, nat_tests)
 
@@ -28,7 +22,8 @@ other_test : (s t : ℕ) → s ≢ t → nat_eq s t ≡ false
 other_test s t e = grind (arith, nat_tests)
 
 -- a row more, with this lead
-pub marked_more : (n : ℕ) (rows : List (List Num)) (row : List Num) (lead : ℕ) (marks : List Bool) → IsMarking n rows marks → lead_of row ≡ Some lead → 1 ≤ lead → lead ≤ n → IsMarking n (row ∷ rows) (slice_set marks (lead - 1) true)
+pub marked_more : (n : ℕ) (rows : List (List Num)) (row : List Num) (lead : ℕ) (marks : List Bool) → IsMarking n rows marks → lead_of row ≡ Some lead →
+    1 ≤ lead → lead ≤ n → IsMarking n (row ∷ rows) (slice_set marks (lead - 1) true)
 marked_more n rows row lead marks is e one most = record {
   length_is = length-set marks (lead - 1) true ∙ is.length_is;
   marks_leads = λ s l m. at s l m (ℕ_discrete lead s);
@@ -45,19 +40,24 @@ marked_more n rows row lead marks is e one most = record {
         ∙ sym (ap (λ b. b || is_lead rows s) (ap (λ o. nat_eq (unwrap_or o 0) s) e ∙ other_test lead s d))
 
 -- a row more, that is zero
-pub marked_same : (n : ℕ) (rows : List (List Num)) (row : List Num) (marks : List Bool) → IsMarking n rows marks → lead_of row ≡ None → IsMarking n (row ∷ rows) marks
+pub marked_same : (n : ℕ) (rows : List (List Num)) (row : List Num) (marks : List Bool) → IsMarking n rows marks → lead_of row ≡ None →
+    IsMarking n (row ∷ rows) marks
 marked_same n rows row marks is e = record {
   length_is = is.length_is;
   marks_leads = λ s l m. is.marks_leads s l m ∙ sym (ap (λ b. b || is_lead rows s) (ap (λ o. nat_eq (unwrap_or o 0) s) e ∙ other_test 0 s (omega (arith, l))));
 }
 
 -- the test of a row asks at its symbols alone
-crossing_like : (i : ℕ) (leads marks : ℕ → Bool) (lead s : ℕ) (row : List Num) → ((t : ℕ) → s ≤ t → t < s + length row → marks t ≡ leads t) → test_crossing i marks lead s row ≡ test_crossing i leads lead s row
+crossing_like : (i : ℕ) (leads marks : ℕ → Bool) (lead s : ℕ) (row : List Num) → ((t : ℕ) → s ≤ t → t < s + length row → marks t ≡ leads t) →
+    test_crossing i marks lead s row ≡ test_crossing i leads lead s row
 crossing_like i leads marks lead s [] h = refl
 crossing_like i leads marks lead s (x ∷ xs) h =
     let here : marks s ≡ leads s = h s (omega arith) (omega arith) in
     ap (λ b. passing (demand (is_nought x || nat_eq s lead || not b) (AtClosed i) (NotClosed s)) (test_crossing i marks lead (s + 1) xs)) here
-    ∙ ap (passing (demand (is_nought x || nat_eq s lead || not (leads s)) (AtClosed i) (NotClosed s))) (crossing_like i leads marks lead (s + 1) xs (λ t l m. h t (omega arith) (omega (arith, m))))
+    ∙ ap (passing (demand (is_nought x || nat_eq s lead || not (leads s)) (AtClosed i) (NotClosed s)))
+    (crossing_like i leads marks lead (s + 1) xs (λ t l m. h t (omega arith) (omega (arith, m))))
 
-pub crossing_marked : (n i : ℕ) (rows : List (List Num)) (marks : List Bool) (lead : ℕ) (row : List Num) → IsMarking n rows marks → length row ≡ n → test_crossing i (is_lead rows) lead 1 row ≡ test_crossing i (marked marks) lead 1 row
-crossing_marked n i rows marks lead row is e = sym (crossing_like i (is_lead rows) (marked marks) lead 1 row (λ t l m. is.marks_leads t l (omega (arith, m, e))))
+pub crossing_marked : (n i : ℕ) (rows : List (List Num)) (marks : List Bool) (lead : ℕ) (row : List Num) → IsMarking n rows marks → length row ≡ n →
+    test_crossing i (is_lead rows) lead 1 row ≡ test_crossing i (marked marks) lead 1 row
+crossing_marked n i rows marks lead row is e = sym
+    (crossing_like i (is_lead rows) (marked marks) lead 1 row (λ t l m. is.marks_leads t l (omega (arith, m, e))))

@@ -14,7 +14,7 @@ use Rattle.fpl_log.specs.declared.closed.Coefficient.{Coefficient}
 use Rattle.fpl_check.specs.Premises.{AreCoefficientsOf}
 use Rattle.fpl_check.specs.ClosedRows.{stored_row, same_num, test_same}
 use Rattle.fpl_check.specs.Filled.{least_of, symbol_of, number_if}
-use Rattle.fpl_check.proofs.Loops.{differ, number_element}
+use Rattle.fpl_check.proofs.RowLoops.{differ, number_element}
 use Rattle.fpl_check.proofs.Filled.{LeastIs, least_found, same_until, same_to_end, same_at_next, same_at_stop}
 use Rattle.fpl_check.proofs.StoredRows.{IsRest, stored_is_row, symbol_next, number_is, rest_over, rest_on, least_most}
 
@@ -26,7 +26,8 @@ pub not_told : (o : Option ℕ) (s : ℕ) → option_eq eqb o (Some s) ≡ false
 not_told None s e f = none_some f
 not_told (Some a) s e f = let t = eq-eqb a s (some_same f) in absurd (let k : ⊥ = cc in k)
 
-module _ (kind : Kind) (listed : IsField kind) (k n after i : ℕ) (row : List Coefficient) (ys : List Num) (coefficients : AreCoefficientsOf kind row) (concluded : IsRowOf kind n ys) (rest : IsRest n after i row) (next second : Option ℕ)
+module _ (kind : Kind) (listed : IsField kind) (k n after i : ℕ) (row : List Coefficient) (ys : List Num) (coefficients : AreCoefficientsOf kind row)
+    (concluded : IsRowOf kind n ys) (rest : IsRest n after i row) (next second : Option ℕ)
     (is_next : next ≡ symbol_of (slice_get row i)) (is_second : second ≡ next_of ys after) where
   abbrev xs : List Num
   xs = stored_row n row

@@ -49,14 +49,17 @@ module _ (T : PlainTable) (p : Presentation) (steps : List Step) (earlier : List
   StepParts (Insert origin terms scale) row = InsertParts origin terms scale row
   StepParts (Close of terms) row = CloseParts of terms row
 
-  insert_parts : (origin : Origin) (terms : List Term) (scale : Num) (row : List Num) → insert_of_step T p steps earlier origin terms scale ≡ Ok row → InsertParts origin terms scale row
+  insert_parts : (origin : Origin) (terms : List Term) (scale : Num) (row : List Num) → insert_of_step T p steps earlier origin terms scale ≡ Ok row →
+      InsertParts origin terms scale row
   insert_parts origin terms scale row e =
       let a = passing_first (demand (is_origin T p origin) (AtStep n) BadOrigin) _ row e in
       let b = passing_first (test_cites (names_insert steps n) n terms) _ row a.1 in
-      let c = then_first (λ (r : List Num). passing (test_dependent n scale r) (Ok r)) (exactly (and_then (λ r. conclude_of T.kind earlier r terms (scale_if scale)) (row_of_origin T p origin))) row b.1 in
+      let c = then_first (λ (r : List Num). passing (test_dependent n scale r) (Ok r))
+      (exactly (and_then (λ r. conclude_of T.kind earlier r terms (scale_if scale)) (row_of_origin T p origin))) row b.1 in
       let d = passing_first (test_dependent n scale c.0) (Ok c.0) row c.1.1 in
       let f = first_fits (λ r. conclude_of T.kind earlier r terms (scale_if scale)) (row_of_origin T p origin) c.0 (exact_first _ c.0 c.1.0) in
-      subst (InsertParts origin terms scale) (ok_same d.1) (record { origin_is = demanded _ _ _ a.0; cites = b.0; source = f.0; reads = f.1.0; concludes = f.1.1; dependent = d.0 })
+      subst (InsertParts origin terms scale) (ok_same d.1)
+      (record { origin_is = demanded _ _ _ a.0; cites = b.0; source = f.0; reads = f.1.0; concludes = f.1.1; dependent = d.0 })
 
   close_parts : (of : ℕ) (terms : List Term) (row : List Num) → close_of_step T steps earlier of terms ≡ Ok row → CloseParts of terms row
   close_parts of terms row e =
@@ -68,9 +71,11 @@ module _ (T : PlainTable) (p : Presentation) (steps : List Step) (earlier : List
   step_parts (Insert origin terms scale) row e = insert_parts origin terms scale row e
   step_parts (Close of terms) row e = close_parts of terms row e
 
-  insert_whole : (origin : Origin) (terms : List Term) (scale : Num) (row : List Num) → InsertParts origin terms scale row → insert_of_step T p steps earlier origin terms scale ≡ Ok row
+  insert_whole : (origin : Origin) (terms : List Term) (scale : Num) (row : List Num) → InsertParts origin terms scale row →
+      insert_of_step T p steps earlier origin terms scale ≡ Ok row
   insert_whole origin terms scale row h =
-      ap (λ b. passing (demand b (AtStep n) BadOrigin) (passing (test_cites (names_insert steps n) n terms) (kept (exactly (and_then concluding (row_of_origin T p origin)))))) h.origin_is
+      ap (λ b. passing (demand b (AtStep n) BadOrigin) (passing (test_cites (names_insert steps n) n terms)
+      (kept (exactly (and_then concluding (row_of_origin T p origin)))))) h.origin_is
       ∙ ap (λ t. passing t (kept (exactly (and_then concluding (row_of_origin T p origin))))) h.cites
       ∙ ap (λ r. kept (exactly (and_then concluding r))) h.reads
       ∙ ap (λ r. kept (exactly r)) h.concludes
@@ -84,7 +89,8 @@ module _ (T : PlainTable) (p : Presentation) (steps : List Step) (earlier : List
 
   close_whole : (of : ℕ) (terms : List Term) (row : List Num) → CloseParts of terms row → close_of_step T steps earlier of terms ≡ Ok row
   close_whole of terms row h =
-      ap (λ b. passing (demand b (AtStep n) (BadCite of)) (passing (test_cites (names_close steps n) n terms) (exactly (conclude_of T.kind earlier (get_or earlier (of - 1) []) terms None)))) h.of_named
+      ap (λ b. passing (demand b (AtStep n) (BadCite of)) (passing (test_cites (names_close steps n) n terms)
+      (exactly (conclude_of T.kind earlier (get_or earlier (of - 1) []) terms None)))) h.of_named
       ∙ ap (λ t. passing t (exactly (conclude_of T.kind earlier (get_or earlier (of - 1) []) terms None))) h.cites
       ∙ ap exactly h.concludes
 

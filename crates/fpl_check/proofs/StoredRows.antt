@@ -27,19 +27,24 @@ pub length-stored : (numbers : List Num) (row : List Coefficient) → length (st
 length-stored numbers [] = refl
 length-stored numbers (c ∷ cs) = length-stored (slice_set numbers (c.symbol - 1) c.number) cs ∙ length-set numbers (c.symbol - 1) c.number
 
-stored_elements : (kind : Kind) (numbers : List Num) (row : List Coefficient) → AreElements kind numbers → AreCoefficientsOf kind row → AreElements kind (stored_in numbers row)
+stored_elements : (kind : Kind) (numbers : List Num) (row : List Coefficient) → AreElements kind numbers → AreCoefficientsOf kind row →
+    AreElements kind (stored_in numbers row)
 stored_elements kind numbers [] a all = a
 stored_elements kind numbers (c ∷ cs) a all =
     stored_elements kind (slice_set numbers (c.symbol - 1) c.number) cs
-    (All-set (IsElement kind) numbers (c.symbol - 1) c.number (all_head (λ c. IsElement kind c.number) c cs all) a) (all_tail (λ c. IsElement kind c.number) c cs all)
+    (All-set (IsElement kind) numbers (c.symbol - 1) c.number (all_head (λ c. IsElement kind c.number) c cs all) a)
+    (all_tail (λ c. IsElement kind c.number) c cs all)
 
 pub stored_is_row : (kind : Kind) → IsField kind → (n : ℕ) (row : List Coefficient) → AreCoefficientsOf kind row → IsRowOf kind n (stored_row n row)
 stored_is_row kind listed n row all = record {
-  elements = stored_elements kind (zero_row n) row (λ i d l. subst (IsElement kind) (sym (get_or-replicate n i (residue 0) d (omega (arith, l, length-replicate n (residue 0))))) (zero_element kind listed)) all;
+  elements = stored_elements kind (zero_row n) row
+      (λ i d l. subst (IsElement kind) (sym (get_or-replicate n i (residue 0) d (omega (arith, l, length-replicate n (residue 0)))))
+      (zero_element kind listed)) all;
   length_is = length-stored (zero_row n) row ∙ length-replicate n (residue 0);
 }
 
-pub stored_rows : (kind : Kind) → IsField kind → (n : ℕ) (rows : List (List Coefficient)) → All (AreCoefficientsOf kind) rows → AreRows kind n (map (stored_row n) rows)
+pub stored_rows : (kind : Kind) → IsField kind → (n : ℕ) (rows : List (List Coefficient)) → All (AreCoefficientsOf kind) rows →
+    AreRows kind n (map (stored_row n) rows)
 stored_rows kind listed n [] all = λ i d l. absurd (omega (arith, l))
 stored_rows kind listed n (row ∷ rows) all =
     all_cons (IsRowOf kind n) (stored_row n row) (map (stored_row n) rows) (stored_is_row kind listed n row (all_head (AreCoefficientsOf kind) row rows all))
@@ -63,7 +68,8 @@ rest_start n row e = record {
 }
 
 -- nothing is stored at a place up to `after`
-stored_low : (n after : ℕ) (numbers : List Num) (row : List Coefficient) → is_formed n after row ≡ true → (t : ℕ) → t < after → get_or (stored_in numbers row) t (residue 0) ≡ get_or numbers t (residue 0)
+stored_low : (n after : ℕ) (numbers : List Num) (row : List Coefficient) → is_formed n after row ≡ true → (t : ℕ) → t < after →
+    get_or (stored_in numbers row) t (residue 0) ≡ get_or numbers t (residue 0)
 stored_low n after numbers [] e t l = refl
 stored_low n after numbers (c ∷ cs) e t l =
     let h = formed_cons n after c cs e in
@@ -141,7 +147,8 @@ module _ (n after i : ℕ) (row : List Coefficient) (rest : IsRest n after i row
   zero_until c next t past low =
       let h = rest_before c next (t + 1) (omega (arith, past)) low in
       let within = symbol_within c next in
-      ap (λ xs. get_or xs t (residue 0)) rest.is ∙ stored_low n (t + 1) rest.numbers (drop i row) h.formed t (omega arith) ∙ rest.blank t past (omega (arith, low, within))
+      ap (λ xs. get_or xs t (residue 0)) rest.is ∙ stored_low n (t + 1) rest.numbers (drop i row) h.formed t (omega arith)
+      ∙ rest.blank t past (omega (arith, low, within))
 
   pub zero_past : None ≡ slice_get row i → (t : ℕ) → after ≤ t → t < n → get_or (stored_row n row) t (residue 0) ≡ residue 0
   zero_past none t past low =
@@ -165,7 +172,8 @@ module _ (n after i : ℕ) (row : List Coefficient) (rest : IsRest n after i row
           (λ t past low. nought_zero _ (zero_until c (sym e) t past (omega (arith, low)))))
 
   -- the number at a symbol up to the next coefficient's
-  pub number_is : (s : ℕ) → after < s → s ≤ n → (least : (c : Coefficient) → Some c ≡ slice_get row i → s ≤ c.symbol) → number_if s (slice_get row i) ≡ get_or (stored_row n row) (s - 1) (residue 0)
+  pub number_is : (s : ℕ) → after < s → s ≤ n → (least : (c : Coefficient) → Some c ≡ slice_get row i → s ≤ c.symbol) →
+      number_if s (slice_get row i) ≡ get_or (stored_row n row) (s - 1) (residue 0)
   number_is s past end least = go (slice_get row i) refl
     where
       go : (o : Option Coefficient) → slice_get row i ≡ o → number_if s o ≡ get_or (stored_row n row) (s - 1) (residue 0)
@@ -182,7 +190,8 @@ module _ (n after i : ℕ) (row : List Coefficient) (rest : IsRest n after i row
               sym (zero_until c (sym e) (s - 1) (omega (arith, past)) (omega (arith, past, other)))
 
   -- past a symbol that is not the next coefficient's
-  pub rest_over : (s : ℕ) → after < s → (least : (c : Coefficient) → Some c ≡ slice_get row i → s ≤ c.symbol) → symbol_of (slice_get row i) ≢ Some s → IsRest n s i row
+  pub rest_over : (s : ℕ) → after < s → (least : (c : Coefficient) → Some c ≡ slice_get row i → s ≤ c.symbol) → symbol_of (slice_get row i) ≢ Some s →
+      IsRest n s i row
   rest_over s past least other = go (slice_get row i) refl
     where
       go : (o : Option Coefficient) → slice_get row i ≡ o → IsRest n s i row
@@ -200,7 +209,8 @@ module _ (n after i : ℕ) (row : List Coefficient) (rest : IsRest n after i row
     where
       go : (o : Option Coefficient) → slice_get row i ≡ o → symbol_of o ≡ Some s → IsRest n s (i + 1) row
       go None f h = absurd (none_some h)
-      go (Some c) f h = let one : suc i ≡ i + 1 = omega arith in subst (λ q. IsRest n q (i + 1) row) (some_same h) (subst (λ j. IsRest n c.symbol j row) one (rest_next c (sym f)))
+      go (Some c) f h = let one : suc i ≡ i + 1 = omega arith in subst (λ q. IsRest n q (i + 1) row) (some_same h)
+          (subst (λ j. IsRest n c.symbol j row) one (rest_next c (sym f)))
 
 -- the lesser of two symbols is at most the first
 pub least_most : (o : Option Coefficient) (q : Option ℕ) (s : ℕ) → Some s ≡ least_of (symbol_of o) q → (c : Coefficient) → Some c ≡ o → s ≤ c.symbol

@@ -3,9 +3,12 @@
 --   AcceptedSpans        the rows of an accepted section are closed, and span exactly the source rows of the weight
 --   AcceptedIsNext       so the table with these rows pushed is built again, whoever made the section
 --   ConclusionsAreZero   what steps that pass conclude is derivably 0, as a combination of the symbols
-use Rattle.std.specs.Prelude.{◌≡◌, ◌≤◌, ◌<◌, List, length, Ok, All}
+--   ChecksFitOverPrimes  over a prime every operation of a check fits, whatever the section
+use Rattle.std.specs.Prelude.{ℕ, ◌≡◌, ◌≤◌, ◌<◌, List, length, Ok, Err, All}
 use Rattle.math_linear.specs.Span.{SpansKind}
 use Rattle.fpl_numbers.specs.declared.number.Num.{Num}
+use Rattle.fpl_numbers.specs.declared.number.Kind.TheVariants.{Prime}
+use Rattle.fpl_numbers.specs.declared.number.Unfit.{Unfit}
 use Rattle.fpl_numbers.specs.Kinds.{field_of}
 use Rattle.fpl_rows.specs.Meaning.{row_in, vector_in, IsClosedList}
 use Rattle.math_algebra.specs.Tree.{none}
@@ -20,8 +23,9 @@ use Rattle.fpl_table.specs.Plain.{PlainTable, table_in, symbols_in}
 use Rattle.fpl_table.specs.Push.{push_of}
 use Rattle.plain_tables.specs.Holds.{Holds}
 use Rattle.fpl_check.specs.Premises.{IsSectionFor}
+use Rattle.fpl_check.specs.Refusal.{unfit}
 use Rattle.fpl_check.specs.Steps.{conclusions_of}
-use Rattle.fpl_check.specs.Check.{Accepts}
+use Rattle.fpl_check.specs.Check.{check_of, Accepts}
 
 abbrev pub SpansSources : Presentation → PlainTable → List (List Num) → Type 0
 SpansSources p T rows =
@@ -41,4 +45,8 @@ abbrev pub ConclusionsAreZero : Type 0
 ConclusionsAreZero =
     (p : Presentation) (T : PlainTable) (s : Section) (conclusions : List (List Num)) → Holds p T → IsSectionFor T s → conclusions_of T p s ≡ Ok conclusions →
     (tree : _) → IsStandard (field_of p.field) (presentation_in p) (table_in p.field T) tree →
-    All (λ row. Derives (field_of p.field) (presentation_in p) (over_symbols (field_of p.field) (presentation_in p) (table_in p.field T) tree (vector_in p.field row)) none) conclusions
+    let sum = over_symbols (field_of p.field) (presentation_in p) (table_in p.field T) tree in
+    All (λ row. Derives (field_of p.field) (presentation_in p) (sum (vector_in p.field row)) none) conclusions
+
+abbrev pub ChecksFitOverPrimes : Type 0
+ChecksFitOverPrimes = (n : ℕ) (T : PlainTable) (p : Presentation) (s : Section) (u : Unfit) → T.kind ≡ Prime n → check_of T p s ≡ Err (unfit u) → ⊥

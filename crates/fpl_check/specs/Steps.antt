@@ -26,7 +26,8 @@ use Rattle.fpl_log.specs.declared.step.Step.TheVariants.{Insert, Close}
 use Rattle.fpl_log.specs.declared.section.Section.{Section}
 use Rattle.fpl_log.specs.Plain.{conclude_of}
 use Rattle.fpl_table.specs.Plain.{PlainTable}
-use Rattle.fpl_rewrite.specs.Origins.{relation_weight, is_exactly, is_triple, is_cube, is_three}
+use Rattle.fpl_model.specs.Degrees.{is_exactly}
+use Rattle.fpl_rewrite.specs.Origins.{relation_weight, is_triple, is_cube, is_three}
 use Rattle.fpl_rewrite.specs.Rows.{row_of_origin}
 use Rattle.fpl_check.specs.declared.fault.Spot.{Spot}
 use Rattle.fpl_check.specs.declared.fault.Spot.TheVariants.{Step as AtStep}

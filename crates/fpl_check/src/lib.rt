@@ -17,5 +17,5 @@ mod stored;
 
 pub use check::check_section;
 pub use fault::{CheckFault, Spot, Why};
-pub use laws::accepted;
+pub use laws::{accepted, checks_over_primes};
 pub use origins::count_origins;

@@ -1,29 +1,12 @@
-ghost use Rattle.std.specs.Prelude.{◌≡◌, ◌<◌, ◌+◌, ◌^◌, length};
-ghost use Rattle.fpl_model.specs.Meaning.{plain, presentation_in, tree_in};
-ghost use Rattle.math_algebra.specs.Degrees.{weight_of_both};
-ghost use Rattle.fpl_model.specs.Sound.{IsSound, IsTerm, HaveWeights, count_tree};
+ghost use Rattle.std.specs.Prelude.{◌≡◌};
+ghost use Rattle.fpl_model.specs.Sound.{IsSound};
 ghost use Rattle.fpl_table.specs.Shape.{Agrees};
-ghost use Rattle.fpl_rewrite.specs.Origins.{is_exactly};
 ghost use Rattle.fpl_check.specs.Steps.{is_relation, is_origin, is_triple_of, is_cube_of};
 
 use fpl_log::Origin;
-use fpl_model::{Degree, Equation, Parity, Presentation};
+use fpl_model::{Parity, Presentation};
 use fpl_scalar::{Field, Kind};
 use fpl_table::Table;
-
-/// Whether a relation has weight `w`, its two sides taken as one sum.
-fn is_of_weight(p: &Presentation, q: &Equation, w: u32) -> bool
-    requires weights { HaveWeights p.now.generators }
-    requires left { IsTerm p.now.field (length p.now.generators) (plain q.now.left) }
-    requires right { IsTerm p.now.field (length p.now.generators) (plain q.now.right) }
-    requires few { count_tree (plain q.now.left) + count_tree (plain q.now.right) < 2 ^ 40 }
-    ensures { result ≡ is_exactly w (weight_of_both (presentation_in p.now) (tree_in p.now.field q.now.left) (tree_in p.now.field q.now.right)) }
-{
-    match p.equation_weight(q) {
-        Degree::Exact(v) => v == u64::from(w),
-        Degree::Any | Degree::Mixed => false,
-    }
-}
 
 fn is_relation<F: Field>(table: &Table<F>, p: &Presentation, r: u32) -> bool
     requires sound { IsSound p.now }
@@ -35,7 +18,7 @@ fn is_relation<F: Field>(table: &Table<F>, p: &Presentation, r: u32) -> bool
     }
     match p.relations.as_slice().get(r as usize - 1) {
         None => false,
-        Some(q) => is_of_weight(p, q, table.weight() + 1),
+        Some(q) => p.has_weight(q, table.weight() + 1),
     }
 }
 

@@ -23,13 +23,15 @@ refused_is f g e = cc
 not_both : (a : ℕ) (x : List ℕ) (f : BadBytes) → found a x ≡ refused f → ⊥
 not_both a x f e = let k : ⊥ = cc in k
 
-head_is : (p q : Presentation) (v w m n : ℕ) → p ≡ q → v ≡ w → m ≡ n → ◌≡◌ {A = Head} (record { presentation = p; version = v; end = m }) (record { presentation = q; version = w; end = n })
+head_is : (p q : Presentation) (v w m n : ℕ) → p ≡ q → v ≡ w → m ≡ n →
+    ◌≡◌ {A = Head} (record { presentation = p; version = v; end = m }) (record { presentation = q; version = w; end = n })
 head_is p q v w m n e f g i = record { presentation = e i; version = f i; end = g i }
 
 pub one_head : (bytes : List ℕ) (h g : Head) → HasHead bytes h → HasHead bytes g → h ≡ g
 one_head bytes h g x y =
     let same = found_is h.version g.version x.text y.text (sym x.framed ∙ y.framed) in
-    let p : h.presentation ≡ g.presentation = one_presentation x.text h.presentation g.presentation x.reading (subst (λ (t : List ℕ). HasPresentation t g.presentation) (sym same.1) y.reading) in
+    let p : h.presentation ≡ g.presentation =
+    one_presentation x.text h.presentation g.presentation x.reading (subst (λ (t : List ℕ). HasPresentation t g.presentation) (sym same.1) y.reading) in
     head_is h.presentation g.presentation h.version g.version h.end g.end p same.0 (x.end ∙ ap (λ (t : List ℕ). 9 + length t) same.1 ∙ sym y.end)
 
 pub not_bad : (bytes : List ℕ) (h : Head) (f : BadBytes) → HasHead bytes h → IsBadHead bytes f → ⊥
@@ -55,7 +57,16 @@ of_text bytes version text e =
     elim (some_answer text) [
       | inl p ↦
           elim (is_same (canonical_of p.0) text) [
-            | inl same ↦ inl (record { presentation = p.0; version = version; end = 9 + length text }, record { text = text; framed = e; reading = p.1; canonical = sym same; end = refl })
+            | inl same ↦ inl (
+              record { presentation = p.0; version = version; end = 9 + length text },
+              record {
+                text = text;
+                framed = e;
+                reading = p.1;
+                canonical = sym same;
+                end = refl;
+              },
+            )
             | inr other ↦ bad_text bytes version text e (not_canonical text (canonical_of p.0) p.0 p.1 refl other)
           ]
       | inr r ↦ bad_text bytes version text e (not_read text r.0 r.1 r.2)
@@ -72,12 +83,23 @@ known_is : (n : ℕ) → (n ≡ 1) ⊎ (n ≡ 2) → (n == 1 || n == 2) ≡ true
 known_is n (inl e) = ap (λ (m : ℕ). m == 1 || m == 2) e
 known_is n (inr e) = ap (λ (m : ℕ). m == 1 || m == 2) e
 
-pub head_again : (version : ℕ) (p : Presentation) (rest : List ℕ) → (version ≡ 1) ⊎ (version ≡ 2) → HasPresentation (canonical_of p) p → length (canonical_of p) < 2 ^ 32 →
+pub head_again : (version : ℕ) (p : Presentation) (rest : List ℕ) → (version ≡ 1) ⊎ (version ≡ 2) → HasPresentation (canonical_of p) p →
+    length (canonical_of p) < 2 ^ 32 →
     HasHead (head_bytes_of version p ++ rest) (record { presentation = p; version = version; end = 9 + length (canonical_of p) })
 head_again version p rest known reads short =
-    record { text = canonical_of p; framed = text_framed version (canonical_of p) rest (known_is version known) short; reading = reads; canonical = refl; end = refl }
+    record {
+      text = canonical_of p;
+      framed = text_framed version (canonical_of p) rest (known_is version known) short;
+      reading = reads;
+      canonical = refl;
+      end = refl;
+    }
 
-pub head_taken : (bytes : List ℕ) (h : Head) → IsBytes bytes → HasHead bytes h → ((h.version ≡ 1) ⊎ (h.version ≡ 2)) × (bytes ≡ head_bytes_of h.version h.presentation ++ drop h.end bytes)
+pub head_taken : (bytes : List ℕ) (h : Head) → IsBytes bytes → HasHead bytes h → ((h.version ≡ 1) ⊎ (h.version ≡ 2)) ×
+    (bytes ≡ head_bytes_of h.version h.presentation ++ drop h.end bytes)
 head_taken bytes h fits x =
-    let held = text_held bytes h.version x.text fits x.framed in
-    (held.known, held.parts ∙ ap (λ (t : List ℕ). with_text h.version t ++ drop (9 + length x.text) bytes) x.canonical ∙ ap (λ (n : ℕ). head_bytes_of h.version h.presentation ++ drop n bytes) (sym x.end))
+    let held = text_held bytes h.version x.text fits x.framed in (
+      held.known,
+      held.parts ∙ ap (λ (t : List ℕ). with_text h.version t ++ drop (9 + length x.text) bytes) x.canonical
+          ∙ ap (λ (n : ℕ). head_bytes_of h.version h.presentation ++ drop n bytes) (sym x.end),
+    )

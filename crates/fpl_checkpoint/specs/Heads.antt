@@ -1,7 +1,8 @@
 -- The head of a checkpoint as bytes.
 --
 --   VERSION                 the version that is written
---   head_bytes_of n p       f1 46 50 4c, the version n, how many bytes the canonical text has in 4 bytes, the text
+--   checkpoint_mark         the first byte of a checkpoint, which begins no text
+--   head_bytes_of n p       the mark, the letters FPL, the version n, how many bytes the canonical text has in 4 bytes, the text
 --   head_text bytes         the version and the text of a head, or the first of the tests of its bytes that fails
 use Rattle.std.specs.Prelude.{ℕ, List, ◌∷◌, ◌++◌, length, take, drop, slice_index_or, ◌==◌, ◌&&◌, ◌||◌, nat_lt, Option, Some, None, Result, Ok, Err, if◌then◌else◌}
 use Rattle.std.specs.Int.{w32, to_be_bytes}
@@ -15,8 +16,11 @@ use Rattle.fpl_bytes.specs.Reading.{raw_at}
 abbrev pub VERSION : ℕ
 VERSION = 2
 
+abbrev pub checkpoint_mark : ℕ
+checkpoint_mark = 0xf1
+
 abbrev pub with_text : ℕ → List ℕ → List ℕ
-with_text n text = 0xf1 ∷ 0x46 ∷ 0x50 ∷ 0x4c ∷ n ∷ (to_be_bytes w32 (length text) ++ text)
+with_text n text = checkpoint_mark ∷ 0x46 ∷ 0x50 ∷ 0x4c ∷ n ∷ (to_be_bytes w32 (length text) ++ text)
 
 abbrev pub head_bytes_of : ℕ → Presentation → List ℕ
 head_bytes_of n p = with_text n (canonical_of p)
@@ -44,4 +48,4 @@ abbrev pub led : List ℕ → Result (ℕ × List ℕ) BadBytes
 led bytes = if nat_lt (length bytes) 9 then bad (length bytes) HeadCut else named bytes
 
 unfoldable pub head_text : List ℕ → Result (ℕ × List ℕ) BadBytes
-head_text bytes = if byte bytes 0 == 0xf1 then led bytes else bad 0 NotCheckpoint
+head_text bytes = if byte bytes 0 == checkpoint_mark then led bytes else bad 0 NotCheckpoint

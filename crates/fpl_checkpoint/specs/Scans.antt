@@ -23,7 +23,8 @@ pub record HasHead (bytes : List ℕ) (h : Head) : Type 0 where
 
 pub data IsBadHead (bytes : List ℕ) (f : BadBytes) : Type 0 where
   for_bytes : head_text bytes ≡ Err f → IsBadHead bytes f
-  for_text : (version : ℕ) (text : List ℕ) → head_text bytes ≡ Ok (version, text) → ((p : Presentation) → HasPresentation text p → text ≡ canonical_of p → ⊥) → f ≡ record { place = 9; why = HeadText } → IsBadHead bytes f
+  for_text : (version : ℕ) (text : List ℕ) → head_text bytes ≡ Ok (version, text) →
+      ((p : Presentation) → HasPresentation text p → text ≡ canonical_of p → ⊥) → f ≡ record { place = 9; why = HeadText } → IsBadHead bytes f
 
 abbrev pub Scans : List ℕ → Result Head ScanError → Type 0
 Scans bytes (Ok h) = HasHead bytes h

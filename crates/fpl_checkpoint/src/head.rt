@@ -4,7 +4,7 @@ ghost use Rattle.fpl_model.specs.Sound.{IsSound};
 ghost use Rattle.fpl_model.specs.declared.presentation.Presentation.{Presentation};
 ghost use Rattle.fpl_reader.specs.Reading.{HasPresentation};
 ghost use Rattle.fpl_canonical.specs.Canonical.{canonical_of};
-ghost use Rattle.fpl_checkpoint.specs.Heads.{VERSION, head_bytes_of, byte, sized, head_text};
+ghost use Rattle.fpl_checkpoint.specs.Heads.{VERSION, checkpoint_mark, head_bytes_of, byte, sized, head_text};
 ghost use Rattle.fpl_checkpoint.specs.Scans.{Scans};
 
 use fpl_bytes::u32_at;
@@ -13,6 +13,12 @@ use fpl_model::Presentation;
 use fpl_reader::{ReaderError, read};
 use fpl_section_bytes::{BadBytes, ByteWhy, ScanError};
 use std::alloc::{AllocError, Global};
+
+/// The first byte of a checkpoint, which begins no text.
+pub const CHECKPOINT_MARK: u8 = 0xf1;
+
+// The version that is written.
+const VERSION: u8 = 2;
 
 // How many bytes stand before the text of a head.
 const LEAD: usize = 9;
@@ -32,7 +38,7 @@ pub fn head_bytes(alloc: Global, p: &Presentation) -> Result<Vec<u8>, AllocError
 {
     let text = write(alloc, p)?;
     let mut out = Vec::new(alloc);
-    out.extend_from_slice(b"\xf1FPL\x02")?;
+    out.extend_from_slice(&[CHECKPOINT_MARK, b'F', b'P', b'L', VERSION])?;
     out.extend_from_slice(&(text.len() as u32).to_be_bytes())?;
     out.extend_from_slice(&text)?;
     Ok(out)
@@ -68,10 +74,10 @@ fn bad(place: usize, why: ByteWhy) -> BadBytes
 }
 
 fn is_marked(bytes: &[u8]) -> bool
-    ensures { result ≡ (byte bytes.now 0 == 0xf1) }
+    ensures { result ≡ (byte bytes.now 0 == checkpoint_mark) }
 {
     match bytes {
-        [first, ..] => *first == 0xf1,
+        [first, ..] => *first == CHECKPOINT_MARK,
         [] => false,
     }
 }

@@ -7,5 +7,5 @@ mod laws;
 pub use fpl_section_bytes::{
     BadBytes, ByteWhy, Frame, ScanError, read_section, scan_frame, section_bytes,
 };
-pub use head::{Head, head_bytes, scan_head};
+pub use head::{CHECKPOINT_MARK, Head, head_bytes, scan_head};
 pub use laws::{heads_are_read_back, one_head};

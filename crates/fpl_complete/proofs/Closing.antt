@@ -42,11 +42,8 @@ module _ (T : PlainTable) (p : Presentation) where
   with_closed : (e : Elimination) (h : Held) → gathered ≡ Ok e → close_of e ≡ Ok h → close_weight T p ≡ checked h
   with_closed e h g k = with_gathered e g ∙ subst (λ w. and_then checked w ≡ checked h) (sym k) refl
 
-  pub gather_fault : (fault : Fault) → IsFault fault gathered → IsFault fault (map_ok parts (close_weight T p))
-  gather_fault (Unfits u) g = subst (λ w. map_ok parts (and_then (λ e. and_then checked (close_of e)) w) ≡ Err u) (sym g) refl
-  gather_fault NoMemory g = tt
-
-  pub close_fault : (e : Elimination) (fault : Fault) → gathered ≡ Ok e → IsFault fault (map_ok parts (close_of e)) → IsFault fault (map_ok parts (close_weight T p))
+  pub close_fault : (e : Elimination) (fault : Fault) → gathered ≡ Ok e → IsFault fault (map_ok parts (close_of e)) →
+      IsFault fault (map_ok parts (close_weight T p))
   close_fault e (Unfits u) g k =
       ap (map_ok parts) (with_gathered e g) ∙ subst (λ w. map_ok parts (and_then checked w) ≡ Err u) (sym (part_unfit (close_of e) u k)) refl
   close_fault e NoMemory g k = tt
@@ -59,7 +56,8 @@ module _ (T : PlainTable) (p : Presentation) where
       ((h : Held) → IsFault fault (again T p rows (origins_of T p) h)) → IsFault fault (map_ok parts (close_weight T p))
   again_fault e rows steps (Unfits u) g k all =
       let r = part_fits parts (close_of e) (closed_as rows steps) k in
-      let a : checked r.0 ≡ Err u = subst (λ (rows : List (List Num)). again T p rows (origins_of T p) r.0 ≡ Err u) (ap (λ (z : ClosedParts). z.rows) r.1.1) (all r.0) in
+      let a : checked r.0 ≡ Err u =
+      subst (λ (rows : List (List Num)). again T p rows (origins_of T p) r.0 ≡ Err u) (ap (λ (z : ClosedParts). z.rows) r.1.1) (all r.0) in
       ap (map_ok parts) (with_closed e r.0 g r.1.0 ∙ a)
   again_fault e rows steps NoMemory g k all = tt
 
@@ -67,7 +65,8 @@ module _ (T : PlainTable) (p : Presentation) where
       ((h : Held) → again T p rows (origins_of T p) h ≡ Ok h) → map_ok parts (close_weight T p) ≡ Ok (closed_as rows steps)
   weighed e rows steps g k all =
       let r = part_fits parts (close_of e) (closed_as rows steps) k in
-      let a : checked r.0 ≡ Ok r.0 = subst (λ (rows : List (List Num)). again T p rows (origins_of T p) r.0 ≡ Ok r.0) (ap (λ (z : ClosedParts). z.rows) r.1.1) (all r.0) in
+      let a : checked r.0 ≡ Ok r.0 =
+      subst (λ (rows : List (List Num)). again T p rows (origins_of T p) r.0 ≡ Ok r.0) (ap (λ (z : ClosedParts). z.rows) r.1.1) (all r.0) in
       ap (map_ok parts) (with_closed e r.0 g r.1.0 ∙ a) ∙ ap Ok (sym r.1.1)
 
   -- over a prime nothing is formed again

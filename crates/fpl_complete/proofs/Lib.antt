@@ -2,6 +2,7 @@ mod Runs
 mod Closing
 mod Weighing
 pub mod Writable
-mod Raising
+pub mod WritableSections
+pub mod Raising
 mod Onward
 mod Coefficients

@@ -15,7 +15,8 @@ use Rattle.fpl_complete.specs.State.{section_at, AreOfWeights, sum_after, Bounds
 use Rattle.fpl_complete.proofs.Raising.{section_old}
 
 -- sections from the first on stay
-pub front_stays : (before sections after : List Section) (x : Section) → after ≡ sections ++ x ∷ [] → take (length before) sections ≡ before → take (length before) after ≡ before
+pub front_stays : (before sections after : List Section) (x : Section) → after ≡ sections ++ x ∷ [] → take (length before) sections ≡ before →
+    take (length before) after ≡ before
 front_stays before sections after x e h =
     let long = ap length h in
     let least = length-take (length before) sections in
@@ -25,16 +26,19 @@ front_stays before sections after x e h =
 abbrev pub AreComputed : Presentation → ℕ → ℕ → List Section → Type 0
 AreComputed p from w sections = (v : ℕ) → from < v → v ≤ w → Computes p v (Ok (section_at sections v))
 
-pub computed_more : (p : Presentation) (from d w : ℕ) (sections after : List Section) (x : Section) → w ≡ d + 1 → AreOfWeights d sections → after ≡ sections ++ x ∷ [] → AreComputed p from d sections → Computes p w (Ok (section_at after w)) → AreComputed p from w after
+pub computed_more : (p : Presentation) (from d w : ℕ) (sections after : List Section) (x : Section) → w ≡ d + 1 → AreOfWeights d sections →
+    after ≡ sections ++ x ∷ [] → AreComputed p from d sections → Computes p w (Ok (section_at after w)) → AreComputed p from w after
 computed_more p from d w sections after x next are e h new v l m = go (dec_le v d)
   where
     go : Dec (v ≤ d) → Computes p v (Ok (section_at after v))
     go (yes k) =
-        subst (λ (s : Section). Computes p v (Ok s)) (sym (ap (λ (xs : List Section). section_at xs v) e ∙ section_old sections x v (omega arith) (let c = are.count in omega arith))) (h v l k)
+        subst (λ (s : Section). Computes p v (Ok s))
+        (sym (ap (λ (xs : List Section). section_at xs v) e ∙ section_old sections x v (omega arith) (let c = are.count in omega arith))) (h v l k)
     go (no k) = subst (λ (v : ℕ). Computes p v (Ok (section_at after v))) (let q : w ≡ v = omega arith in q) new
 
 -- the symbols through each weight are within the limit
-pub within_more : (from d w entries : ℕ) (before after : PlainTable) → w ≡ d + 1 → ((v : ℕ) → v ≤ d + 1 → count_through after v ≡ count_through before v) → count_through after w ≤ entries →
+pub within_more : (from d w entries : ℕ) (before after : PlainTable) → w ≡ d + 1 →
+    ((v : ℕ) → v ≤ d + 1 → count_through after v ≡ count_through before v) → count_through after w ≤ entries →
     ((v : ℕ) → from < v → v ≤ d → count_through before v ≤ entries) → (v : ℕ) → from < v → v ≤ w → count_through after v ≤ entries
 within_more from d w entries before after next same few h v l m = go (dec_le v d)
   where
@@ -55,7 +59,8 @@ sum_more count from m (suc n) l = go (dec_le m n) (λ k. sum_more count from m n
 abbrev pub Costs : Presentation → ℕ → ℕ → ℕ → ℕ → ℕ → Type 0
 Costs p from d w before steps = (count : ℕ → ℕ) → BoundsOrigins p from d count → steps ≤ before + sum_after count from (w - from)
 
-module _ (p : Presentation) (from d before steps : ℕ) (T : PlainTable) (raised : IsRaised p T) (above : from ≤ T.weight) (more : T.weight < d) (so_far : Costs p from d T.weight before steps) where
+module _ (p : Presentation) (from d before steps : ℕ) (T : PlainTable) (raised : IsRaised p T) (above : from ≤ T.weight) (more : T.weight < d)
+    (so_far : Costs p from d T.weight before steps) where
   -- a weight more
   pub cost_next : (after w : ℕ) → w ≡ T.weight + 1 → after ≤ steps + length (origins_of T p) → Costs p from d w before after
   cost_next after w next most count bounds =
@@ -71,6 +76,3 @@ pub cost_whole : (p : Presentation) (from d w before steps : ℕ) → w - from �
 cost_whole p from d w before steps l h count bounds =
     let a = h count bounds in
     let b = sum_more count from (w - from) (d - from) l in omega arith
-
-pub cost_none : (p : Presentation) (from d before : ℕ) → Costs p from d from before before
-cost_none p from d before count bounds = omega arith

@@ -15,23 +15,17 @@ use Rattle.fpl_rewrite.specs.Rows.{row_of_origin}
 use Rattle.plain_weights.specs.Weight.{put_of, gather, again}
 
 module _ (T : PlainTable) (p : Presentation) where
-  pub gather_next : (os rest : List Origin) (o : Origin) (e f : Elimination) (all : Result Elimination Unfit) → os ≡ o ∷ rest → put_of T p o e ≡ Ok f → gather T p os e ≡ all → gather T p rest f ≡ all
+  pub gather_next : (os rest : List Origin) (o : Origin) (e f : Elimination) (all : Result Elimination Unfit) → os ≡ o ∷ rest → put_of T p o e ≡ Ok f →
+      gather T p os e ≡ all → gather T p rest f ≡ all
   gather_next os rest o e f all list put run =
       sym (subst (λ w. and_then (λ f. gather T p rest f) w ≡ gather T p rest f) (sym put) refl) ∙ subst (λ os. gather T p os e ≡ all) list run
-
-  pub gather_end : (os : List Origin) (e : Elimination) (all : Result Elimination Unfit) → os ≡ [] → gather T p os e ≡ all → all ≡ Ok e
-  gather_end os e all list run = sym (subst (λ os. gather T p os e ≡ all) list run)
-
-  pub gather_stops : (os rest : List Origin) (o : Origin) (e : Elimination) (fault : Fault) (all : Result Elimination Unfit) → os ≡ o ∷ rest → IsFault fault (put_of T p o e) → gather T p os e ≡ all → IsFault fault all
-  gather_stops os rest o e (Unfits u) all list put run =
-      sym (subst (λ os. gather T p os e ≡ all) list run) ∙ subst (λ w. and_then (λ f. gather T p rest f) w ≡ Err u) (sym put) refl
-  gather_stops os rest o e NoMemory all list put run = tt
 
   -- the row of an origin formed again, and swept
   abbrev swept_again : List (List Num) → Origin → Held → Result Held Unfit
   swept_again rows o h = and_then (λ row. and_then (λ left. Ok h) (sweep_rows T.kind rows row)) (row_of_origin T p o)
 
-  twice : (rows : List (List Num)) (os : List Origin) (h : Held) (r : Result (List Num) Unfit) → and_then (λ row. and_then (λ left. Ok h) (sweep_rows T.kind rows row)) r ≡ Ok h →
+  twice : (rows : List (List Num)) (os : List Origin) (h : Held) (r : Result (List Num) Unfit) →
+      and_then (λ row. and_then (λ left. Ok h) (sweep_rows T.kind rows row)) r ≡ Ok h →
       and_then (λ row. and_then (λ left. again T p rows os h) (sweep_rows T.kind rows row)) r ≡ again T p rows os h
   twice rows os h (Ok row) e = once (sweep_rows T.kind rows row) e
     where
@@ -40,7 +34,8 @@ module _ (T : PlainTable) (p : Presentation) where
       once (Err u) e = absurd (let k : ⊥ = cc in k)
   twice rows os h (Err u) e = absurd (let k : ⊥ = cc in k)
 
-  stopped : (rows : List (List Num)) (os : List Origin) (h : Held) (u : Unfit) (r : Result (List Num) Unfit) → and_then (λ row. and_then (λ left. Ok h) (sweep_rows T.kind rows row)) r ≡ Err u →
+  stopped : (rows : List (List Num)) (os : List Origin) (h : Held) (u : Unfit) (r : Result (List Num) Unfit) →
+      and_then (λ row. and_then (λ left. Ok h) (sweep_rows T.kind rows row)) r ≡ Err u →
       and_then (λ row. and_then (λ left. again T p rows os h) (sweep_rows T.kind rows row)) r ≡ Err u
   stopped rows os h u (Ok row) e = once (sweep_rows T.kind rows row) e
     where
@@ -49,12 +44,12 @@ module _ (T : PlainTable) (p : Presentation) where
       once (Err v) e = e
   stopped rows os h u (Err v) e = e
 
-  pub again_next : (rows : List (List Num)) (os rest : List Origin) (o : Origin) (h : Held) (all : Result Held Unfit) → os ≡ o ∷ rest → swept_again rows o h ≡ Ok h → again T p rows os h ≡ all → again T p rows rest h ≡ all
+  pub again_next : (rows : List (List Num)) (os rest : List Origin) (o : Origin) (h : Held) (all : Result Held Unfit) → os ≡ o ∷ rest →
+      swept_again rows o h ≡ Ok h → again T p rows os h ≡ all → again T p rows rest h ≡ all
   again_next rows os rest o h all list put run = sym (twice rows rest h (row_of_origin T p o) put) ∙ subst (λ os. again T p rows os h ≡ all) list run
 
-  pub again_end : (rows : List (List Num)) (os : List Origin) (h : Held) (all : Result Held Unfit) → os ≡ [] → again T p rows os h ≡ all → all ≡ Ok h
-  again_end rows os h all list run = sym (subst (λ os. again T p rows os h ≡ all) list run)
-
-  pub again_stops : (rows : List (List Num)) (os rest : List Origin) (o : Origin) (h : Held) (fault : Fault) (all : Result Held Unfit) → os ≡ o ∷ rest → IsFault fault (swept_again rows o h) → again T p rows os h ≡ all → IsFault fault all
-  again_stops rows os rest o h (Unfits u) all list put run = sym (subst (λ os. again T p rows os h ≡ all) list run) ∙ stopped rows rest h u (row_of_origin T p o) put
+  pub again_stops : (rows : List (List Num)) (os rest : List Origin) (o : Origin) (h : Held) (fault : Fault) (all : Result Held Unfit) →
+      os ≡ o ∷ rest → IsFault fault (swept_again rows o h) → again T p rows os h ≡ all → IsFault fault all
+  again_stops rows os rest o h (Unfits u) all list put run = sym (subst (λ os. again T p rows os h ≡ all) list run)
+      ∙ stopped rows rest h u (row_of_origin T p o) put
   again_stops rows os rest o h NoMemory all list put run = tt

@@ -42,11 +42,14 @@ module _ (T : PlainTable) (p : Presentation) where
       let r = part_fits parts (close_weight T p) (closed_as rows steps) k in
       record { held = r.0; run = r.1.0; rows_are = ap (λ (z : ClosedParts). z.rows) r.1.1; steps_are = ap (λ (z : ClosedParts). z.steps) r.1.1 }
 
-  pub steps_name : Holds p T → (rows : List (List Num)) (steps : List Step) → map_ok parts (close_weight T p) ≡ Ok (closed_as rows steps) → AllNameEarlier 0 steps
-  steps_name holds rows steps k = let c = closes rows steps k in subst (AllNameEarlier 0) (sym c.steps_are) (order_names [] 0 c.held.steps (weighed_in_order p T holds c.held c.run))
+  pub steps_name : Holds p T → (rows : List (List Num)) (steps : List Step) → map_ok parts (close_weight T p) ≡ Ok (closed_as rows steps) →
+      AllNameEarlier 0 steps
+  steps_name holds rows steps k = let c = closes rows steps k in subst (AllNameEarlier 0) (sym c.steps_are)
+      (order_names [] 0 c.held.steps (weighed_in_order p T holds c.held c.run))
 
   counted : (rows : List (List Num)) (steps : List Step) → Closes rows steps → length steps ≡ length (origins_of T p) + length rows
-  counted rows steps c = ap length c.steps_are ∙ origins_counted T p c.held c.run ∙ ap (λ n. length (origins_of T p) + n) (sym (ap length c.rows_are ∙ length-map c.held.pivots (λ q. q.row)))
+  counted rows steps c = ap length c.steps_are ∙ origins_counted T p c.held c.run
+      ∙ ap (λ n. length (origins_of T p) + n) (sym (ap length c.rows_are ∙ length-map c.held.pivots (λ q. q.row)))
 
   pub fewer_rows : (rows : List (List Num)) (steps : List Step) → map_ok parts (close_weight T p) ≡ Ok (closed_as rows steps) → length rows ≤ length steps
   fewer_rows rows steps k = let n = counted rows steps (closes rows steps k) in omega arith
@@ -55,7 +58,8 @@ module _ (T : PlainTable) (p : Presentation) where
   abbrev section_from : ℕ → List (List Num) → List Step → Section
   section_from w rows steps = record { weight = w; origins = Some (length steps - length rows); steps = slim_steps [] 0 steps; closed = closed_list rows }
 
-  pub weighs : (w : ℕ) (rows : List (List Num)) (steps : List Step) (section : Section) → w ≡ suc T.weight → map_ok parts (close_weight T p) ≡ Ok (closed_as rows steps) → section ≡ section_from w rows steps →
+  pub weighs : (w : ℕ) (rows : List (List Num)) (steps : List Step) (section : Section) → w ≡ suc T.weight →
+      map_ok parts (close_weight T p) ≡ Ok (closed_as rows steps) → section ≡ section_from w rows steps →
       map_ok weighed (close_weight T p) ≡ Ok (weighed_as rows section)
   weighs w rows steps section e k is =
       let c = closes rows steps k in
@@ -64,12 +68,18 @@ module _ (T : PlainTable) (p : Presentation) where
       ap (map_ok weighed) c.run
       ∙ ap (λ (rows : List (List Num)). Ok (weighed_as rows (section_of T p c.held))) (sym c.rows_are)
       ∙ ap (λ (x : Section). Ok (weighed_as rows x))
-      (ap (λ (ss : List Step). record { weight = suc T.weight; origins = Some (length (origins_of T p)); steps = slim_steps [] 0 ss; closed = closed_list (rows_of c.held.pivots) }) (sym c.steps_are)
-      ∙ ap (λ (rows : List (List Num)). record { weight = suc T.weight; origins = Some (length (origins_of T p)); steps = slim_steps [] 0 steps; closed = closed_list rows }) (sym c.rows_are)
+      (ap (λ (ss : List Step). record {
+        weight = suc T.weight;
+        origins = Some (length (origins_of T p));
+        steps = slim_steps [] 0 ss;
+        closed = closed_list (rows_of c.held.pivots);
+      }) (sym c.steps_are)
+      ∙ ap (λ (rows : List (List Num)). record {
+        weight = suc T.weight;
+        origins = Some (length (origins_of T p));
+        steps = slim_steps [] 0 steps;
+        closed = closed_list rows;
+      }) (sym c.rows_are)
       ∙ ap (λ (n : ℕ). record { weight = suc T.weight; origins = Some n; steps = slim_steps [] 0 steps; closed = closed_list rows }) (sym origins)
       ∙ ap (λ (w : ℕ). section_from w rows steps) (sym e)
       ∙ sym is)
-
-  pub weighs_fault : (fault : Fault) → IsFault fault (map_ok parts (close_weight T p)) → IsFault fault (map_ok weighed (close_weight T p))
-  weighs_fault (Unfits u) k = ap (map_ok weighed) (part_unfit (close_weight T p) u k)
-  weighs_fault NoMemory k = tt

@@ -3,14 +3,17 @@
 --   PlainState                  a presentation, a table and the sections of its weights, as contracts see a state
 --   section_at sections w       the section of weight w, where there is one
 --   AreOfWeights d sections     one section for each weight from 1 to d, in their order
+--   AreAccepted p T sections    T is raised from weight 0 by the sections, in their order: each is accepted over the table of the weights below its own, and
+--                               its closed rows are pushed
 --   IsStorable kind s           the parts of a section are as bytes can hold them; steps with scale 0 may be among them
---   IsState p T n sections      T is raised for p, n is how many symbols there are of the weights from 1 to its own, and each of these has a section that has bytes
+--   IsState p T n sections      T is raised for p, n is how many symbols there are of the weights from 1 to its own, and each of these has an accepted
+--                               section that has bytes
 --   PassesAfter p from d e w c  w is the least weight above `from` and up to d at which the symbols of weights 1 to w number more than e, and c is their number
 --   unfit_of op a b             an operation with its operands
 --   sum_after count from n      the sum of count v over the n weights v that follow `from`
 --   BoundsOrigins p from d count   each weight v of p above `from` and up to d has at most count v origins
 --   weighed_as rows section     the closed rows of a weight, and its section
-use Rattle.std.specs.Prelude.{ℕ, zero, suc, ◌≡◌, ◌≤◌, ◌<◌, ◌+◌, ◌-◌, List, [], length, All, None, slice_index_or}
+use Rattle.std.specs.Prelude.{ℕ, zero, suc, ◌≡◌, ◌≤◌, ◌<◌, ◌+◌, ◌-◌, List, [], ◌∷◌, ◌++◌, length, All, None, slice_index_or}
 use Rattle.fpl_numbers.specs.declared.number.Num.{Num}
 use Rattle.fpl_numbers.specs.declared.number.Op.{Op}
 use Rattle.fpl_numbers.specs.declared.number.Unfit.{Unfit}
@@ -22,10 +25,13 @@ use Rattle.fpl_log.specs.declared.section.Section.{Section}
 use Rattle.fpl_section_bytes.specs.Stored.{IsWritableOrigin, AreWritableTerms, IsWritableRow, IsWritable}
 use Rattle.fpl_model.specs.declared.presentation.Presentation.{Presentation}
 use Rattle.fpl_table.specs.Plain.{PlainTable}
-use Rattle.fpl_table.specs.Standard.{IsTableOf, count_through}
+use Rattle.fpl_table.specs.Push.{push_of}
+use Rattle.fpl_table.specs.Standard.{start_of, IsTableOf, count_through}
 use Rattle.fpl_rewrite.specs.Origins.{origins_of}
 use Rattle.plain_tables.specs.Holds.{Holds}
 use Rattle.plain_tables.specs.Raised.{IsRaised}
+use Rattle.fpl_check.specs.Premises.{IsSectionFor}
+use Rattle.fpl_check.specs.Check.{Accepts}
 
 pub record PlainState : Type 0 where
   pub presentation : Presentation
@@ -42,6 +48,12 @@ pub record AreOfWeights (d : ℕ) (sections : List Section) : Type 0 where
   pub count : length sections ≡ d
   pub weights : (w : ℕ) → 1 ≤ w → w ≤ d → (section_at sections w).weight ≡ w
 
+pub data AreAccepted (p : Presentation) : PlainTable → List Section → Type 0 where
+  at_start : AreAccepted p (start_of p) []
+  one_more : (T : PlainTable) (sections : List Section) (s : Section) (rows : List (List Num)) → AreAccepted p T sections → Holds p T →
+      IsSectionFor T s → Accepts T p s rows →
+      AreAccepted p (push_of T rows) (sections ++ s ∷ [])
+
 abbrev pub IsStorableStep : Kind → Step → Type 0
 IsStorableStep kind (Insert origin terms scale) = IsWritableOrigin origin × IsElement kind scale × AreWritableTerms kind terms
 IsStorableStep kind (Close of terms) = AreWritableTerms kind terms
@@ -56,6 +68,7 @@ pub record IsState (p : Presentation) (T : PlainTable) (n : ℕ) (sections : Lis
   pub number : count_through T T.weight ≡ n
   pub few : n ≤ 2000000
   pub sections_are : AreOfWeights T.weight sections
+  pub accepted : AreAccepted p T sections
   pub writable : All (IsWritable p.field) sections
 
 pub record PassesAfter (p : Presentation) (from d entries w count : ℕ) : Type 0 where

@@ -16,7 +16,7 @@ ghost use Rattle.fpl_check.specs.Refusal.{bad, unfit};
 ghost use Rattle.fpl_check.specs.Premises.{IsSectionFor};
 ghost use Rattle.fpl_check.specs.Check.{check_of, Accepts};
 ghost use Rattle.fpl_section_bytes.specs.Stored.{IsWritable};
-ghost use Rattle.fpl_complete.specs.State.{AreOfWeights, BoundsOrigins, IsStorable, PassesAfter, section_at, sum_after, unfit_of};
+ghost use Rattle.fpl_complete.specs.State.{AreAccepted, AreOfWeights, BoundsOrigins, IsStorable, PassesAfter, section_at, sum_after, unfit_of};
 
 use crate::accepting::accept;
 use crate::weight::complete_weight;
@@ -92,6 +92,7 @@ impl<F: Field> State<F> {
     pub fn sections(&self) -> &Sections
         ensures same { result.now ≡ self.now.sections }
         ensures weights { AreOfWeights self.now.table.weight self.now.sections }
+        ensures accepted { AreAccepted self.now.presentation self.now.table self.now.sections }
         ensures writable { All (IsWritable self.now.presentation.field) self.now.sections }
     {
         &self.sections
@@ -175,8 +176,8 @@ impl<F: Field> State<F> {
     ///
     /// `Limit` comes, before the check, exactly where the symbols of the weights from 1 to the new
     /// one number more than `entries`; `Bad` names the first test of the section that fails, and
-    /// `Overflow` the first operation that does not fit before any test fails. After a refusal the
-    /// state is unchanged, and the section is gone.
+    /// `Overflow` the first operation that does not fit before any test fails, over fractions alone.
+    /// After a refusal the state is unchanged, and the section is gone.
     pub fn adopt(&mut self, section: Section, entries: u64) -> Result<(), AdoptFault>
         requires weight { self.old.table.weight < 1000 }
         requires entries { entries ≤ 2000000 }
@@ -193,6 +194,7 @@ impl<F: Field> State<F> {
         ensures limit { (w c : ℕ) → IsErrOf result (AdoptFault.Raise (RaiseFault.Limit w c)) ↔ ((w ≡ self.old.table.weight + 1) × (c ≡ count_through self.old.table w) × (entries < c)) }
         ensures bad { (w : ℕ) (spot : Spot) (why : Why) → IsErrOf result (AdoptFault.Bad w spot why) → (w ≡ self.old.table.weight + 1) × (check_of self.old.table self.old.presentation section ≡ Err (bad spot why)) × (count_through self.old.table w ≤ entries) }
         ensures overflow { (w : ℕ) (op : Op) (a b : Num) → IsErrOf result (AdoptFault.Raise (RaiseFault.Overflow w op a b)) → (w ≡ self.old.table.weight + 1) × (check_of self.old.table self.old.presentation section ≡ Err (unfit (unfit_of op a b))) × (count_through self.old.table w ≤ entries) }
+        ensures fractions { (w : ℕ) (op : Op) (a b : Num) → IsErrOf result (AdoptFault.Raise (RaiseFault.Overflow w op a b)) → self.old.presentation.field ≡ Kind.Rational }
         ensures unchanged { OnErr result (self.new ≡ self.old) }
     {
         let weight = self.weight() + 1;

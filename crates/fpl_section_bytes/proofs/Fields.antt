@@ -24,7 +24,7 @@ use Rattle.fpl_bytes.proofs.WholeNumbers.{wide32, wide64, whole_code}
 use Rattle.fpl_bytes.proofs.StoredNumbers.{number_code}
 use Rattle.fpl_bytes.proofs.Items.{counted_code}
 use Rattle.fpl_section_bytes.proofs.Pairs.{both_take, both_again, three_take, three_again}
-use Rattle.fpl_section_bytes.specs.declared.tags.TheConstants.{INSERT, CLOSE, RELATION, JACOBI, CUBE}
+use Rattle.fpl_section_bytes.specs.Tags.{insert_tag, close_tag, relation_tag, jacobi_tag, cube_tag}
 use Rattle.fpl_section_bytes.specs.Spelling.{origin_bytes, term_bytes, terms_bytes, step_bytes, coefficient_bytes, row_bytes}
 use Rattle.fpl_section_bytes.specs.Reading.{is_two, relation_at, jacobi_at, cube_at, origin_at, scale_at, term_at, terms_at, insert_at, close_at, step_at, coefficient_at, row_at}
 use Rattle.fpl_section_bytes.specs.Stored.{IsStoredOrigin, IsStoredScale, IsStoredTerm, AreStoredTerms, IsStoredStep, IsStoredCoefficient, IsStoredRow}
@@ -50,49 +50,62 @@ failed false d x y e = (refl, cc)
 
 -- ---- origins
 
-relation_takes : (version : Version) (end : ℕ) (bytes : List ℕ) (x : Origin) (rest : List ℕ) → IsBytes bytes → relation_at end bytes ≡ Ok (x, rest) → Takes (RELATION ∷ bytes) (origin_bytes x) rest × IsStoredOrigin version x
+relation_takes : (version : Version) (end : ℕ) (bytes : List ℕ) (x : Origin) (rest : List ℕ) → IsBytes bytes → relation_at end bytes ≡ Ok (x, rest) →
+    Takes (relation_tag ∷ bytes) (origin_bytes x) rest × IsStoredOrigin version x
 unfolding relation_at
 relation_takes version end bytes x rest fits e =
     let p = bind_ok (whole_at w32 end bytes) (λ r. Ok (Relation r.0, r.1)) (x, rest) e in
     let t = (four end).takes bytes p.0.0 p.0.1 fits p.1 in
-    subst (λ (y : Origin × List ℕ). Takes (RELATION ∷ bytes) (origin_bytes y.0) y.1 × IsStoredOrigin version y.0) (ok_is (Relation p.0.0, p.0.1) (x, rest) p.2) (tagged RELATION bytes (to_be_bytes w32 p.0.0) p.0.1 t.0, t.1)
+    subst (λ (y : Origin × List ℕ). Takes (relation_tag ∷ bytes) (origin_bytes y.0) y.1 × IsStoredOrigin version y.0)
+    (ok_is (Relation p.0.0, p.0.1) (x, rest) p.2) (tagged relation_tag bytes (to_be_bytes w32 p.0.0) p.0.1 t.0, t.1)
 
-cube_takes : (end : ℕ) (bytes : List ℕ) (x : Origin) (rest : List ℕ) → IsBytes bytes → cube_at end bytes ≡ Ok (x, rest) → Takes (CUBE ∷ bytes) (origin_bytes x) rest × IsStoredOrigin Two x
+cube_takes : (end : ℕ) (bytes : List ℕ) (x : Origin) (rest : List ℕ) → IsBytes bytes → cube_at end bytes ≡ Ok (x, rest) →
+    Takes (cube_tag ∷ bytes) (origin_bytes x) rest × IsStoredOrigin Two x
 unfolding cube_at
 cube_takes end bytes x rest fits e =
     let p = bind_ok (whole_at w32 end bytes) (λ r. Ok (Cube r.0, r.1)) (x, rest) e in
     let t = (four end).takes bytes p.0.0 p.0.1 fits p.1 in
-    subst (λ (y : Origin × List ℕ). Takes (CUBE ∷ bytes) (origin_bytes y.0) y.1 × IsStoredOrigin Two y.0) (ok_is (Cube p.0.0, p.0.1) (x, rest) p.2) (tagged CUBE bytes (to_be_bytes w32 p.0.0) p.0.1 t.0, t.1)
+    subst (λ (y : Origin × List ℕ). Takes (cube_tag ∷ bytes) (origin_bytes y.0) y.1 × IsStoredOrigin Two y.0) (ok_is (Cube p.0.0, p.0.1) (x, rest) p.2)
+    (tagged cube_tag bytes (to_be_bytes w32 p.0.0) p.0.1 t.0, t.1)
 
-jacobi_takes : (version : Version) (end : ℕ) (bytes : List ℕ) (x : Origin) (rest : List ℕ) → IsBytes bytes → jacobi_at end bytes ≡ Ok (x, rest) → Takes (JACOBI ∷ bytes) (origin_bytes x) rest × IsStoredOrigin version x
+jacobi_takes : (version : Version) (end : ℕ) (bytes : List ℕ) (x : Origin) (rest : List ℕ) → IsBytes bytes → jacobi_at end bytes ≡ Ok (x, rest) →
+    Takes (jacobi_tag ∷ bytes) (origin_bytes x) rest × IsStoredOrigin version x
 unfolding jacobi_at
 jacobi_takes version end bytes x rest fits e =
-    let t = three_take (to_be_bytes w32) (whole_at w32 end) (λ n. n < 2 ^ 32) (four end) (to_be_bytes w32) (whole_at w32 end) (λ n. n < 2 ^ 32) (four end) (to_be_bytes w32) (whole_at w32 end) (λ n. n < 2 ^ 32) (four end)
+    let t = three_take (to_be_bytes w32) (whole_at w32 end) (λ n. n < 2 ^ 32) (four end) (to_be_bytes w32) (whole_at w32 end) (λ n. n < 2 ^ 32)
+    (four end) (to_be_bytes w32) (whole_at w32 end) (λ n. n < 2 ^ 32) (four end)
     (λ (i j k : ℕ). Jacobi i j k) bytes x rest fits e in
-    subst (λ (y : Origin). Takes (JACOBI ∷ bytes) (origin_bytes y) rest × IsStoredOrigin version y) t.value (tagged JACOBI bytes _ rest t.text, (t.left_fits, t.middle_fits, t.right_fits))
+    subst (λ (y : Origin). Takes (jacobi_tag ∷ bytes) (origin_bytes y) rest × IsStoredOrigin version y) t.value
+    (tagged jacobi_tag bytes _ rest t.text, (t.left_fits, t.middle_fits, t.right_fits))
 
-jacobi_again : (end i j k : ℕ) (rest : List ℕ) → i < 2 ^ 32 → j < 2 ^ 32 → k < 2 ^ 32 → jacobi_at end ((to_be_bytes w32 i ++ (to_be_bytes w32 j ++ to_be_bytes w32 k)) ++ rest) ≡ Ok (Jacobi i j k, rest)
+jacobi_again : (end i j k : ℕ) (rest : List ℕ) → i < 2 ^ 32 → j < 2 ^ 32 → k < 2 ^ 32 →
+    jacobi_at end ((to_be_bytes w32 i ++ (to_be_bytes w32 j ++ to_be_bytes w32 k)) ++ rest) ≡ Ok (Jacobi i j k, rest)
 unfolding jacobi_at
 jacobi_again end i j k rest p q r =
-    three_again (to_be_bytes w32) (whole_at w32 end) (λ n. n < 2 ^ 32) (four end) (to_be_bytes w32) (whole_at w32 end) (λ n. n < 2 ^ 32) (four end) (to_be_bytes w32) (whole_at w32 end) (λ n. n < 2 ^ 32) (four end)
+    three_again (to_be_bytes w32) (whole_at w32 end) (λ n. n < 2 ^ 32) (four end) (to_be_bytes w32) (whole_at w32 end) (λ n. n < 2 ^ 32) (four end)
+    (to_be_bytes w32) (whole_at w32 end) (λ n. n < 2 ^ 32) (four end)
     (λ (i j k : ℕ). Jacobi i j k) i j k rest p q r
 
-origin_takes : (version : Version) (end : ℕ) (bytes : List ℕ) (x : Origin) (rest : List ℕ) → IsBytes bytes → origin_at version end bytes ≡ Ok (x, rest) → Takes bytes (origin_bytes x) rest × IsStoredOrigin version x
+origin_takes : (version : Version) (end : ℕ) (bytes : List ℕ) (x : Origin) (rest : List ℕ) → IsBytes bytes →
+    origin_at version end bytes ≡ Ok (x, rest) → Takes bytes (origin_bytes x) rest × IsStoredOrigin version x
 unfolding origin_at
 origin_takes version end [] x rest fits e = absurd (let k : ⊥ = cc in k)
 origin_takes version end (tag ∷ bytes) x rest fits e =
     let bad : Result (Origin × List ℕ) BadBytes = Err (fault end (tag ∷ bytes) BadTag) in
-    let cubes = if tag == CUBE && is_two version then cube_at end bytes else bad in
-    elim (chosen (tag == RELATION) (relation_at end bytes) (if tag == JACOBI then jacobi_at end bytes else cubes) (Ok (x, rest)) e) [
-      | inl p ↦ subst (λ (t : ℕ). Takes (t ∷ bytes) (origin_bytes x) rest × IsStoredOrigin version x) (sym (eqb-true tag RELATION p.0)) (relation_takes version end bytes x rest (IsBytes-rest tag bytes fits) p.1)
+    let cubes = if tag == cube_tag && is_two version then cube_at end bytes else bad in
+    elim (chosen (tag == relation_tag) (relation_at end bytes) (if tag == jacobi_tag then jacobi_at end bytes else cubes) (Ok (x, rest)) e) [
+      | inl p ↦ subst (λ (t : ℕ). Takes (t ∷ bytes) (origin_bytes x) rest × IsStoredOrigin version x) (sym (eqb-true tag relation_tag p.0))
+          (relation_takes version end bytes x rest (IsBytes-rest tag bytes fits) p.1)
       | inr p ↦
-          elim (chosen (tag == JACOBI) (jacobi_at end bytes) cubes (Ok (x, rest)) p.1) [
-            | inl q ↦ subst (λ (t : ℕ). Takes (t ∷ bytes) (origin_bytes x) rest × IsStoredOrigin version x) (sym (eqb-true tag JACOBI q.0)) (jacobi_takes version end bytes x rest (IsBytes-rest tag bytes fits) q.1)
+          elim (chosen (tag == jacobi_tag) (jacobi_at end bytes) cubes (Ok (x, rest)) p.1) [
+            | inl q ↦ subst (λ (t : ℕ). Takes (t ∷ bytes) (origin_bytes x) rest × IsStoredOrigin version x) (sym (eqb-true tag jacobi_tag q.0))
+                (jacobi_takes version end bytes x rest (IsBytes-rest tag bytes fits) q.1)
             | inr q ↦
-                elim (chosen (tag == CUBE && is_two version) (cube_at end bytes) bad (Ok (x, rest)) q.1) [
-                  | inl r ↦ let both = and_parts (tag == CUBE) (is_two version) r.0 in
-                      subst (λ (t : ℕ). Takes (t ∷ bytes) (origin_bytes x) rest × IsStoredOrigin version x) (sym (eqb-true tag CUBE both.0))
-                      (subst (λ (v : Version). Takes (CUBE ∷ bytes) (origin_bytes x) rest × IsStoredOrigin v x) (two_is version both.1) (cube_takes end bytes x rest (IsBytes-rest tag bytes fits) r.1))
+                elim (chosen (tag == cube_tag && is_two version) (cube_at end bytes) bad (Ok (x, rest)) q.1) [
+                  | inl r ↦ let both = and_parts (tag == cube_tag) (is_two version) r.0 in
+                      subst (λ (t : ℕ). Takes (t ∷ bytes) (origin_bytes x) rest × IsStoredOrigin version x) (sym (eqb-true tag cube_tag both.0))
+                      (subst (λ (v : Version). Takes (cube_tag ∷ bytes) (origin_bytes x) rest × IsStoredOrigin v x) (two_is version both.1)
+                      (cube_takes end bytes x rest (IsBytes-rest tag bytes fits) r.1))
                   | inr r ↦ absurd (let k : ⊥ = cc (r.1) in k)
                 ]
           ]
@@ -102,7 +115,8 @@ origin_takes version end (tag ∷ bytes) x rest fits e =
     two_is One h = absurd (let k : ⊥ = cc in k)
     two_is Two h = refl
 
-origin_again : (version : Version) (end : ℕ) (x : Origin) (rest : List ℕ) → IsStoredOrigin version x → origin_at version end (origin_bytes x ++ rest) ≡ Ok (x, rest)
+origin_again : (version : Version) (end : ℕ) (x : Origin) (rest : List ℕ) → IsStoredOrigin version x →
+    origin_at version end (origin_bytes x ++ rest) ≡ Ok (x, rest)
 unfolding origin_at relation_at cube_at
 origin_again version end (Relation r) rest fits = rw ((four end).again r rest fits) refl
 origin_again version end (Jacobi i j k) rest fits = jacobi_again end i j k rest fits.0 fits.1 fits.2
@@ -115,10 +129,12 @@ origin_code version end = record { takes = origin_takes version end; again = ori
 
 -- ---- scales
 
-scale_takes : (version : Version) (kind : Kind) (end : ℕ) (bytes : List ℕ) (x : Num) (rest : List ℕ) → IsBytes bytes → scale_at version kind end bytes ≡ Ok (x, rest) → Takes bytes (number_bytes version kind x) rest × IsStoredScale version kind x
+scale_takes : (version : Version) (kind : Kind) (end : ℕ) (bytes : List ℕ) (x : Num) (rest : List ℕ) → IsBytes bytes →
+    scale_at version kind end bytes ≡ Ok (x, rest) → Takes bytes (number_bytes version kind x) rest × IsStoredScale version kind x
 unfolding scale_at
 scale_takes version kind end bytes x rest fits e =
-    let p = bind_ok (number_at version kind end bytes) (λ scale. if is_two version && is_nought scale.0 then Err (fault end bytes BadNumber) else Ok scale) (x, rest) e in
+    let p = bind_ok (number_at version kind end bytes)
+    (λ scale. if is_two version && is_nought scale.0 then Err (fault end bytes BadNumber) else Ok scale) (x, rest) e in
     let g = failed (is_two version && is_nought p.0.0) (fault end bytes BadNumber) p.0 (x, rest) p.2 in
     let t = (number_code version kind end).takes bytes x rest fits (p.1 ∙ ap Ok g.1) in
     (t.0, known version x t.1 (subst (λ (y : Num). (is_two version && is_nought y) ≡ false) (ap (λ (y : Num × List ℕ). y.0) g.1) g.0))
@@ -127,7 +143,8 @@ scale_takes version kind end bytes x rest fits e =
     known One y s h = s
     known Two y s h = (s, h)
 
-scale_again : (version : Version) (kind : Kind) (end : ℕ) (x : Num) (rest : List ℕ) → IsStoredScale version kind x → scale_at version kind end (number_bytes version kind x ++ rest) ≡ Ok (x, rest)
+scale_again : (version : Version) (kind : Kind) (end : ℕ) (x : Num) (rest : List ℕ) → IsStoredScale version kind x →
+    scale_at version kind end (number_bytes version kind x ++ rest) ≡ Ok (x, rest)
 unfolding scale_at
 scale_again One kind end x rest fits = rw ((number_code One kind end).again x rest fits) refl
 scale_again Two kind end x rest fits = rw ((number_code Two kind end).again x rest fits.0, fits.1) refl
@@ -137,11 +154,14 @@ module _ (version : Version) (kind : Kind) (end : ℕ) where
   unfolding term_at
   term_code = record {
     takes = λ bytes x rest fits e.
-        let t = both_take (to_be_bytes w64) (whole_at w64 end) (λ n. n < 2 ^ 64) (eight end) (number_bytes version kind) (number_at version kind end) (IsStored version kind) (number_code version kind end)
+        let t = both_take (to_be_bytes w64) (whole_at w64 end) (λ n. n < 2 ^ 64) (eight end) (number_bytes version kind) (number_at version kind end)
+        (IsStored version kind) (number_code version kind end)
         (λ (n : ℕ) (a : Num). record { step = n; factor = a }) bytes x rest fits e in
-        subst (λ (y : Term). Takes bytes (term_bytes version kind y) rest × IsStoredTerm version kind y) t.value (t.text, record { step = t.left_fits; factor = t.right_fits });
+        subst (λ (y : Term). Takes bytes (term_bytes version kind y) rest × IsStoredTerm version kind y) t.value
+        (t.text, record { step = t.left_fits; factor = t.right_fits });
     again = λ x rest fits.
-        both_again (to_be_bytes w64) (whole_at w64 end) (λ n. n < 2 ^ 64) (eight end) (number_bytes version kind) (number_at version kind end) (IsStored version kind) (number_code version kind end)
+        both_again (to_be_bytes w64) (whole_at w64 end) (λ n. n < 2 ^ 64) (eight end) (number_bytes version kind) (number_at version kind end)
+        (IsStored version kind) (number_code version kind end)
         (λ (n : ℕ) (a : Num). record { step = n; factor = a }) x.step x.factor rest fits.step fits.factor;
   }
 
@@ -149,11 +169,14 @@ module _ (version : Version) (kind : Kind) (end : ℕ) where
   unfolding coefficient_at
   coefficient_code = record {
     takes = λ bytes x rest fits e.
-        let t = both_take (to_be_bytes w32) (whole_at w32 end) (λ n. n < 2 ^ 32) (four end) (number_bytes version kind) (number_at version kind end) (IsStored version kind) (number_code version kind end)
+        let t = both_take (to_be_bytes w32) (whole_at w32 end) (λ n. n < 2 ^ 32) (four end) (number_bytes version kind) (number_at version kind end)
+        (IsStored version kind) (number_code version kind end)
         (λ (n : ℕ) (a : Num). record { symbol = n; number = a }) bytes x rest fits e in
-        subst (λ (y : Coefficient). Takes bytes (coefficient_bytes version kind y) rest × IsStoredCoefficient version kind y) t.value (t.text, record { symbol = t.left_fits; number = t.right_fits });
+        subst (λ (y : Coefficient). Takes bytes (coefficient_bytes version kind y) rest × IsStoredCoefficient version kind y) t.value
+        (t.text, record { symbol = t.left_fits; number = t.right_fits });
     again = λ x rest fits.
-        both_again (to_be_bytes w32) (whole_at w32 end) (λ n. n < 2 ^ 32) (four end) (number_bytes version kind) (number_at version kind end) (IsStored version kind) (number_code version kind end)
+        both_again (to_be_bytes w32) (whole_at w32 end) (λ n. n < 2 ^ 32) (four end) (number_bytes version kind) (number_at version kind end)
+        (IsStored version kind) (number_code version kind end)
         (λ (n : ℕ) (a : Num). record { symbol = n; number = a }) x.symbol x.number rest fits.symbol fits.number;
   }
 
@@ -168,30 +191,41 @@ module _ (version : Version) (kind : Kind) (end : ℕ) where
 
   -- ---- steps
 
-  insert_takes : (bytes : List ℕ) (x : Step) (rest : List ℕ) → IsBytes bytes → insert_at version kind end bytes ≡ Ok (x, rest) → Takes (INSERT ∷ bytes) (step_bytes version kind x) rest × IsStoredStep version kind x
+  insert_takes : (bytes : List ℕ) (x : Step) (rest : List ℕ) → IsBytes bytes → insert_at version kind end bytes ≡ Ok (x, rest) →
+      Takes (insert_tag ∷ bytes) (step_bytes version kind x) rest × IsStoredStep version kind x
   unfolding insert_at
   insert_takes bytes x rest fits e =
-      let t = three_take origin_bytes (origin_at version end) (IsStoredOrigin version) (origin_code version end) (number_bytes version kind) (scale_at version kind end) (IsStoredScale version kind) scale_code
-      (terms_bytes version kind) (terms_at version kind end) (AreStoredTerms version kind) terms_code (λ (o : Origin) (k : Num) (ts : List Term). Insert o ts k) bytes x rest fits e in
-      subst (λ (y : Step). Takes (INSERT ∷ bytes) (step_bytes version kind y) rest × IsStoredStep version kind y) t.value (tagged INSERT bytes _ rest t.text, (t.left_fits, t.middle_fits, t.right_fits))
+      let t = three_take origin_bytes (origin_at version end) (IsStoredOrigin version) (origin_code version end) (number_bytes version kind)
+      (scale_at version kind end) (IsStoredScale version kind) scale_code
+      (terms_bytes version kind) (terms_at version kind end) (AreStoredTerms version kind) terms_code
+      (λ (o : Origin) (k : Num) (ts : List Term). Insert o ts k) bytes x rest fits e in
+      subst (λ (y : Step). Takes (insert_tag ∷ bytes) (step_bytes version kind y) rest × IsStoredStep version kind y) t.value
+      (tagged insert_tag bytes _ rest t.text, (t.left_fits, t.middle_fits, t.right_fits))
 
-  close_takes : (bytes : List ℕ) (x : Step) (rest : List ℕ) → IsBytes bytes → close_at version kind end bytes ≡ Ok (x, rest) → Takes (CLOSE ∷ bytes) (step_bytes version kind x) rest × IsStoredStep version kind x
+  close_takes : (bytes : List ℕ) (x : Step) (rest : List ℕ) → IsBytes bytes → close_at version kind end bytes ≡ Ok (x, rest) →
+      Takes (close_tag ∷ bytes) (step_bytes version kind x) rest × IsStoredStep version kind x
   unfolding close_at
   close_takes bytes x rest fits e =
-      let t = both_take (to_be_bytes w64) (whole_at w64 end) (λ n. n < 2 ^ 64) (eight end) (terms_bytes version kind) (terms_at version kind end) (AreStoredTerms version kind) terms_code
+      let t = both_take (to_be_bytes w64) (whole_at w64 end) (λ n. n < 2 ^ 64) (eight end) (terms_bytes version kind) (terms_at version kind end)
+      (AreStoredTerms version kind) terms_code
       (λ (n : ℕ) (ts : List Term). Close n ts) bytes x rest fits e in
-      subst (λ (y : Step). Takes (CLOSE ∷ bytes) (step_bytes version kind y) rest × IsStoredStep version kind y) t.value (tagged CLOSE bytes _ rest t.text, (t.left_fits, t.right_fits))
+      subst (λ (y : Step). Takes (close_tag ∷ bytes) (step_bytes version kind y) rest × IsStoredStep version kind y) t.value
+      (tagged close_tag bytes _ rest t.text, (t.left_fits, t.right_fits))
 
-  step_takes : (bytes : List ℕ) (x : Step) (rest : List ℕ) → IsBytes bytes → step_at version kind end bytes ≡ Ok (x, rest) → Takes bytes (step_bytes version kind x) rest × IsStoredStep version kind x
+  step_takes : (bytes : List ℕ) (x : Step) (rest : List ℕ) → IsBytes bytes → step_at version kind end bytes ≡ Ok (x, rest) →
+      Takes bytes (step_bytes version kind x) rest × IsStoredStep version kind x
   unfolding step_at
   step_takes [] x rest fits e = absurd (let k : ⊥ = cc in k)
   step_takes (tag ∷ bytes) x rest fits e =
       let bad : Result (Step × List ℕ) BadBytes = Err (fault end (tag ∷ bytes) BadTag) in
-      elim (chosen (tag == INSERT) (insert_at version kind end bytes) (if tag == CLOSE then close_at version kind end bytes else bad) (Ok (x, rest)) e) [
-        | inl p ↦ subst (λ (t : ℕ). Takes (t ∷ bytes) (step_bytes version kind x) rest × IsStoredStep version kind x) (sym (eqb-true tag INSERT p.0)) (insert_takes bytes x rest (IsBytes-rest tag bytes fits) p.1)
+      elim (chosen (tag == insert_tag) (insert_at version kind end bytes) (if tag == close_tag then close_at version kind end bytes else bad)
+      (Ok (x, rest)) e) [
+        | inl p ↦ subst (λ (t : ℕ). Takes (t ∷ bytes) (step_bytes version kind x) rest × IsStoredStep version kind x)
+            (sym (eqb-true tag insert_tag p.0)) (insert_takes bytes x rest (IsBytes-rest tag bytes fits) p.1)
         | inr p ↦
-            elim (chosen (tag == CLOSE) (close_at version kind end bytes) bad (Ok (x, rest)) p.1) [
-              | inl q ↦ subst (λ (t : ℕ). Takes (t ∷ bytes) (step_bytes version kind x) rest × IsStoredStep version kind x) (sym (eqb-true tag CLOSE q.0)) (close_takes bytes x rest (IsBytes-rest tag bytes fits) q.1)
+            elim (chosen (tag == close_tag) (close_at version kind end bytes) bad (Ok (x, rest)) p.1) [
+              | inl q ↦ subst (λ (t : ℕ). Takes (t ∷ bytes) (step_bytes version kind x) rest × IsStoredStep version kind x)
+                  (sym (eqb-true tag close_tag q.0)) (close_takes bytes x rest (IsBytes-rest tag bytes fits) q.1)
               | inr q ↦ absurd (let k : ⊥ = cc (q.1) in k)
             ]
       ]
@@ -199,10 +233,13 @@ module _ (version : Version) (kind : Kind) (end : ℕ) where
   step_again : (x : Step) (rest : List ℕ) → IsStoredStep version kind x → step_at version kind end (step_bytes version kind x ++ rest) ≡ Ok (x, rest)
   unfolding step_at insert_at close_at
   step_again (Insert o ts k) rest fits =
-      three_again origin_bytes (origin_at version end) (IsStoredOrigin version) (origin_code version end) (number_bytes version kind) (scale_at version kind end) (IsStoredScale version kind) scale_code
-      (terms_bytes version kind) (terms_at version kind end) (AreStoredTerms version kind) terms_code (λ (o : Origin) (k : Num) (ts : List Term). Insert o ts k) o k ts rest fits.0 fits.1 fits.2
+      three_again origin_bytes (origin_at version end) (IsStoredOrigin version) (origin_code version end) (number_bytes version kind)
+      (scale_at version kind end) (IsStoredScale version kind) scale_code
+      (terms_bytes version kind) (terms_at version kind end) (AreStoredTerms version kind) terms_code
+      (λ (o : Origin) (k : Num) (ts : List Term). Insert o ts k) o k ts rest fits.0 fits.1 fits.2
   step_again (Close n ts) rest fits =
-      both_again (to_be_bytes w64) (whole_at w64 end) (λ n. n < 2 ^ 64) (eight end) (terms_bytes version kind) (terms_at version kind end) (AreStoredTerms version kind) terms_code
+      both_again (to_be_bytes w64) (whole_at w64 end) (λ n. n < 2 ^ 64) (eight end) (terms_bytes version kind) (terms_at version kind end)
+      (AreStoredTerms version kind) terms_code
       (λ (n : ℕ) (ts : List Term). Close n ts) n ts rest fits.0 fits.1
 
   pub step_code : IsCode (step_bytes version kind) (step_at version kind end) (IsStoredStep version kind)

@@ -9,7 +9,8 @@ use Rattle.fpl_bytes.proofs.Steps.{bind_ok, ok_is, Takes-then}
 abbrev made : {A B C : Type 0} → (A → B → C) → A → B × List ℕ → Result (C × List ℕ) BadBytes
 made make a b = Ok (make a b.0, b.1)
 
-abbrev both_at : {A B C : Type 0} → (List ℕ → Result (A × List ℕ) BadBytes) → (List ℕ → Result (B × List ℕ) BadBytes) → (A → B → C) → List ℕ → Result (C × List ℕ) BadBytes
+abbrev both_at : {A B C : Type 0} → (List ℕ → Result (A × List ℕ) BadBytes) → (List ℕ → Result (B × List ℕ) BadBytes) → (A → B → C) → List ℕ →
+    Result (C × List ℕ) BadBytes
 both_at read read_next make bytes = read bytes >>= λ a. read_next a.1 >>= made make a.0
 
 -- what two fields took, and what is made of them
@@ -34,7 +35,8 @@ module _ {A B C : Type 0} (spell : A → List ℕ) (read : List ℕ → Result (
       record {
         left = p.0.0;
         right = q.0.0;
-        text = subst (λ (r : List ℕ). Takes bytes (spell p.0.0 ++ spell_next q.0.0) r) (ap (λ (y : C × List ℕ). y.1) same) (Takes-then bytes (spell p.0.0) p.0.1 (spell_next q.0.0) q.0.1 t.0 u.0);
+        text = subst (λ (r : List ℕ). Takes bytes (spell p.0.0 ++ spell_next q.0.0) r) (ap (λ (y : C × List ℕ). y.1) same)
+            (Takes-then bytes (spell p.0.0) p.0.1 (spell_next q.0.0) q.0.1 t.0 u.0);
         left_fits = t.1;
         right_fits = u.1;
         value = ap (λ (y : C × List ℕ). y.0) same;
@@ -47,7 +49,8 @@ module _ {A B C : Type 0} (spell : A → List ℕ) (read : List ℕ → Result (
       ∙ ap (λ (r : Result (A × List ℕ) BadBytes). r >>= λ a. read_next a.1 >>= made make a.0) (first.again a (spell_next b ++ rest) fits)
       ∙ ap (λ (r : Result (B × List ℕ) BadBytes). r >>= made make a) (second.again b rest fits_next)
 
-abbrev three_at : {A B C D : Type 0} → (List ℕ → Result (A × List ℕ) BadBytes) → (List ℕ → Result (B × List ℕ) BadBytes) → (List ℕ → Result (C × List ℕ) BadBytes) → (A → B → C → D) → List ℕ → Result (D × List ℕ) BadBytes
+abbrev three_at : {A B C D : Type 0} → (List ℕ → Result (A × List ℕ) BadBytes) → (List ℕ → Result (B × List ℕ) BadBytes) →
+    (List ℕ → Result (C × List ℕ) BadBytes) → (A → B → C → D) → List ℕ → Result (D × List ℕ) BadBytes
 three_at read read_next read_last make bytes = read bytes >>= λ a. both_at read_next read_last (make a.0) a.1
 
 module _ {A B C D : Type 0} (spell : A → List ℕ) (read : List ℕ → Result (A × List ℕ) BadBytes) (Fits : A → Type 0) (first : IsCode spell read Fits)
@@ -64,7 +67,8 @@ module _ {A B C D : Type 0} (spell : A → List ℕ) (read : List ℕ → Result
     pub right_fits : FitsLast right
     pub value : make left middle right ≡ x
 
-  pub three_take : (bytes : List ℕ) (x : D) (rest : List ℕ) → IsBytes bytes → three_at read read_next read_last make bytes ≡ Ok (x, rest) → ThreeTaken bytes x rest
+  pub three_take : (bytes : List ℕ) (x : D) (rest : List ℕ) → IsBytes bytes → three_at read read_next read_last make bytes ≡ Ok (x, rest) →
+      ThreeTaken bytes x rest
   three_take bytes x rest fits e =
       let p = bind_ok (read bytes) (λ a. both_at read_next read_last (make a.0) a.1) (x, rest) e in
       let t = first.takes bytes p.0.0 p.0.1 fits p.1 in
@@ -80,9 +84,12 @@ module _ {A B C D : Type 0} (spell : A → List ℕ) (read : List ℕ → Result
         value = u.value;
       }
 
-  pub three_again : (a : A) (b : B) (c : C) (rest : List ℕ) → Fits a → FitsNext b → FitsLast c → three_at read read_next read_last make ((spell a ++ (spell_next b ++ spell_last c)) ++ rest) ≡ Ok (make a b c, rest)
+  pub three_again : (a : A) (b : B) (c : C) (rest : List ℕ) → Fits a → FitsNext b → FitsLast c →
+      three_at read read_next read_last make ((spell a ++ (spell_next b ++ spell_last c)) ++ rest) ≡ Ok (make a b c, rest)
   three_again a b c rest fits fits_next fits_last =
-      let regrouped : (spell a ++ (spell_next b ++ spell_last c)) ++ rest ≡ spell a ++ ((spell_next b ++ spell_last c) ++ rest) = append_assoc (spell a) (spell_next b ++ spell_last c) rest in
+      let regrouped : (spell a ++ (spell_next b ++ spell_last c)) ++ rest ≡ spell a ++ ((spell_next b ++ spell_last c) ++ rest) =
+      append_assoc (spell a) (spell_next b ++ spell_last c) rest in
       ap (three_at read read_next read_last make) regrouped
-      ∙ ap (λ (r : Result (A × List ℕ) BadBytes). r >>= λ a. both_at read_next read_last (make a.0) a.1) (first.again a ((spell_next b ++ spell_last c) ++ rest) fits)
+      ∙ ap (λ (r : Result (A × List ℕ) BadBytes). r >>= λ a. both_at read_next read_last (make a.0) a.1)
+      (first.again a ((spell_next b ++ spell_last c) ++ rest) fits)
       ∙ both_again spell_next read_next FitsNext second spell_last read_last FitsLast third (make a) b c rest fits_next fits_last

@@ -1,3 +1,4 @@
+pub mod Tags
 pub mod Spelling
 pub mod Reading
 pub mod Stored

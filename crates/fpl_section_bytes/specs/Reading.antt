@@ -23,7 +23,7 @@ use Rattle.fpl_bytes.specs.declared.fault.ByteWhy.TheVariants.{FieldCut, BadTag,
 use Rattle.fpl_bytes.specs.declared.fault.BadBytes.{BadBytes}
 use Rattle.fpl_bytes.specs.Reading.{◌>>=◌, fault, whole_at, counted_at}
 use Rattle.fpl_bytes.specs.Numbers.{number_at}
-use Rattle.fpl_section_bytes.specs.declared.tags.TheConstants.{INSERT, CLOSE, RELATION, JACOBI, CUBE}
+use Rattle.fpl_section_bytes.specs.Tags.{insert_tag, close_tag, relation_tag, jacobi_tag, cube_tag}
 
 abbrev pub is_two : Version → Bool
 is_two One = false
@@ -54,7 +54,7 @@ cube_at end bytes = do
 unfoldable pub origin_at : Version → ℕ → List ℕ → Result (Origin × List ℕ) BadBytes
 origin_at version end bytes = do
   tag ← tag_at end bytes
-  if tag.0 == RELATION then relation_at end tag.1 else if tag.0 == JACOBI then jacobi_at end tag.1 else if tag.0 == CUBE && is_two version then cube_at end tag.1 else Err (fault end bytes BadTag)
+  if tag.0 == relation_tag then relation_at end tag.1 else if tag.0 == jacobi_tag then jacobi_at end tag.1 else if tag.0 == cube_tag && is_two version then cube_at end tag.1 else Err (fault end bytes BadTag)
 
 module _ (version : Version) (kind : Kind) (end : ℕ) where
   -- the second version has no scale of 0
@@ -88,7 +88,7 @@ module _ (version : Version) (kind : Kind) (end : ℕ) where
   unfoldable pub step_at : List ℕ → Result (Step × List ℕ) BadBytes
   step_at bytes = do
     tag ← tag_at end bytes
-    if tag.0 == INSERT then insert_at tag.1 else if tag.0 == CLOSE then close_at tag.1 else Err (fault end bytes BadTag)
+    if tag.0 == insert_tag then insert_at tag.1 else if tag.0 == close_tag then close_at tag.1 else Err (fault end bytes BadTag)
 
   unfoldable pub coefficient_at : List ℕ → Result (Coefficient × List ℕ) BadBytes
   coefficient_at bytes = do

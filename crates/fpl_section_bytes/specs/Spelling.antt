@@ -2,7 +2,8 @@
 --
 --   origin_bytes o                    the tag R and a relation, J and three basis elements, or C and one; a row of another list has no bytes
 --   term_bytes version kind t         the step in 8 bytes, the factor
---   step_bytes version kind s         1, the origin, the scale, the terms after their number in 4 bytes; or 2, the step in 8 bytes, the terms
+--   step_bytes version kind s         the tag of Insert, the origin, the scale, the terms after their number in 4 bytes; or that of Close, the step in 8 bytes,
+--                                     the terms
 --   coefficient_bytes version kind c  the symbol in 4 bytes, the number
 --   row_bytes version kind cs         the coefficients after their number in 4 bytes
 --   origins_bytes version o           in the second version the number of origins in 8 bytes
@@ -23,12 +24,12 @@ use Rattle.fpl_bytes.specs.declared.version.Version.{Version}
 use Rattle.fpl_bytes.specs.declared.version.Version.TheVariants.{One, Two}
 use Rattle.fpl_bytes.specs.Codes.{counted_bytes}
 use Rattle.fpl_bytes.specs.Numbers.{number_bytes}
-use Rattle.fpl_section_bytes.specs.declared.tags.TheConstants.{INSERT, CLOSE, RELATION, JACOBI, CUBE}
+use Rattle.fpl_section_bytes.specs.Tags.{insert_tag, close_tag, relation_tag, jacobi_tag, cube_tag}
 
 abbrev pub origin_bytes : Origin → List ℕ
-origin_bytes (Relation r) = RELATION ∷ to_be_bytes w32 r
-origin_bytes (Jacobi i j k) = JACOBI ∷ (to_be_bytes w32 i ++ (to_be_bytes w32 j ++ to_be_bytes w32 k))
-origin_bytes (Cube i) = CUBE ∷ to_be_bytes w32 i
+origin_bytes (Relation r) = relation_tag ∷ to_be_bytes w32 r
+origin_bytes (Jacobi i j k) = jacobi_tag ∷ (to_be_bytes w32 i ++ (to_be_bytes w32 j ++ to_be_bytes w32 k))
+origin_bytes (Cube i) = cube_tag ∷ to_be_bytes w32 i
 origin_bytes (Row n) = []
 
 abbrev pub origins_bytes : Version → Option ℕ → List ℕ
@@ -44,8 +45,8 @@ module _ (version : Version) (kind : Kind) where
   terms_bytes ts = counted_bytes w32 term_bytes ts
 
   abbrev pub step_bytes : Step → List ℕ
-  step_bytes (Insert origin terms scale) = INSERT ∷ (origin_bytes origin ++ (number_bytes version kind scale ++ terms_bytes terms))
-  step_bytes (Close of terms) = CLOSE ∷ (to_be_bytes w64 of ++ terms_bytes terms)
+  step_bytes (Insert origin terms scale) = insert_tag ∷ (origin_bytes origin ++ (number_bytes version kind scale ++ terms_bytes terms))
+  step_bytes (Close of terms) = close_tag ∷ (to_be_bytes w64 of ++ terms_bytes terms)
 
   abbrev pub coefficient_bytes : Coefficient → List ℕ
   coefficient_bytes c = to_be_bytes w32 c.symbol ++ number_bytes version kind c.number

@@ -7,14 +7,18 @@
 --   Fault                  what fails at a weight: too many symbols; bytes that are no section; a section that a check refuses; an operation that does
 --                          not fit
 --   Stop                   why a run goes no further: a fault; or nothing more is stored, where nothing is to be computed
---   adopted stage p s ..   the stage after a section, from what its check gives
---   computed stage p       the stage after a weight that is computed
+--   next_weight stage      the weight after those of its table
+--   raised stage rows ..   the stage with one weight more, from its closed rows
+--   adopted, formed        the stage after a section, from what its check gives; from its content, where that is a section
+--   computed, computed_as  the stage after a weight that is computed, where it is to be; from what computing it gives
+--   framed, weighed        the stage after a weight, from the frame of its section; from what is stored
 --   step_of ..             one weight: first whether the symbols through it stay within the entries; then its stored section: frame, form, check; or its
 --                          computing, where the run computes
 --   Walked                 a stage, and why the run stopped there, if it did
---   walk_of .. n stage     n weights, or as many as come before a stop
+--   walk_of .. n stage     n weights, or as many as come before a stop; walk_on goes on after a weight, unless it stopped
+--   is_whole               a section stands whole there, be it of another weight
 --   computing_cost, step_cost   how many origins a weight has, where it is computed
---   cost_of .. n stage     those of n weights, or of as many as come before a stop, and the one that it stops at
+--   cost_of .. n stage     those of n weights, or of as many as come before a stop, and the one that it stops at; cost_on goes on like walk_on
 use Rattle.std.specs.Prelude.{ℕ, zero, suc, List, [], ◌∷◌, ◌++◌, length, ◌+◌, Bool, true, false, ◌&&◌, nat_lt, slice_range, Option, Some, None, Result, Ok, Err, if◌then◌else◌}
 use Rattle.fpl_numbers.specs.declared.number.Num.{Num}
 use Rattle.fpl_numbers.specs.declared.number.Unfit.{Unfit}
@@ -91,7 +95,8 @@ computed true p stage = computed_as stage p (close_weight stage.table p)
 computed false p stage = Err ended
 
 abbrev pub framed : (computes : Bool) → Presentation → Stored → Stage → Result Frame BadBytes → Result Stage Stop
-framed computes p at stage (Ok (Whole from to)) = formed stage p to (payload_at (version_of at.version) p.field (next_weight stage) to (slice_range at.bytes from to))
+framed computes p at stage (Ok (Whole from to)) = formed stage p to
+    (payload_at (version_of at.version) p.field (next_weight stage) to (slice_range at.bytes from to))
 framed computes p at stage (Ok Tail) = computed computes p stage
 framed computes p at stage (Err b) = Err (failed (bad_bytes b))
 
@@ -121,13 +126,15 @@ walk_of computes entries p at (suc n) stage = walk_on (walk_of computes entries 
 abbrev pub is_whole : Result Frame BadBytes → Bool
 is_whole (Ok (Whole from to)) = true
 is_whole (Ok Tail) = false
-is_whole (Err b) = false
+is_whole (Err b) = true
 
 abbrev pub computing_cost : (computes : Bool) → Presentation → Stage → ℕ
 computing_cost computes p stage = if computes then length (origins_of stage.table p) else 0
 
-abbrev pub step_cost : (computes : Bool) → Presentation → Stored → Stage → ℕ
-step_cost computes p at stage = if stage.stored && is_whole (frame_of at.bytes stage.place (next_weight stage)) then 0 else computing_cost computes p stage
+abbrev pub step_cost : (computes : Bool) → (entries : ℕ) → Presentation → Stored → Stage → ℕ
+step_cost computes entries p at stage =
+    if nat_lt entries (count_through stage.table (next_weight stage)) then 0
+    else if stage.stored && is_whole (frame_of at.bytes stage.place (next_weight stage)) then 0 else computing_cost computes p stage
 
 abbrev pub cost_on : (Stage → ℕ) → Result Stage Stop → ℕ
 cost_on further (Ok next) = further next
@@ -135,4 +142,5 @@ cost_on further (Err stop) = 0
 
 abbrev pub cost_of : (computes : Bool) → (entries : ℕ) → Presentation → Stored → ℕ → Stage → ℕ
 cost_of computes entries p at zero stage = 0
-cost_of computes entries p at (suc n) stage = step_cost computes p at stage + cost_on (cost_of computes entries p at n) (step_of computes entries p at stage)
+cost_of computes entries p at (suc n) stage = step_cost computes entries p at stage + cost_on (cost_of computes entries p at n)
+    (step_of computes entries p at stage)

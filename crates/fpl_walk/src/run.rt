@@ -1,4 +1,7 @@
-ghost use Rattle.std.specs.Prelude.{◌≡◌, ◌⊎◌, ◌≤◌, ◌<◌, ◌+◌, length, Ok, IfOk, OnOk, OnErr, IfErr, true};
+ghost use Rattle.std.specs.Prelude.{◌≡◌, ◌⊎◌, ◌≤◌, ◌<◌, ◌+◌, ℕ, length, Ok, IfOk, OnOk, OnErr, IfErr, IsErrOf, true};
+ghost use Rattle.fpl_numbers.specs.declared.number.Num.{Num};
+ghost use Rattle.fpl_numbers.specs.declared.number.Op.{Op};
+ghost use Rattle.fpl_numbers.specs.declared.number.Kind.{Kind};
 ghost use Rattle.fpl_model.specs.Sound.{IsSound};
 ghost use Rattle.fpl_table.specs.Standard.{count_through};
 ghost use Rattle.fpl_section_bytes.specs.declared.frame.Frame.TheVariants.{Whole};
@@ -109,7 +112,8 @@ impl<F: Field> Run<F> {
     /// Adds the next weight: the stored one, where it stands whole in `bytes`, which are the same
     /// in each call; else, where the run computes, it is computed.
     ///
-    /// After a stop the run is unchanged. Only computing takes steps, one for each origin.
+    /// After a stop the run is unchanged. An operation that does not fit comes over fractions alone.
+    /// Only computing takes steps, one for each origin.
     pub fn advance<L: Ledger>(
         &mut self,
         bytes: &[u8],
@@ -124,8 +128,9 @@ impl<F: Field> Run<F> {
         ensures version { self.new.version ≡ self.old.version }
         ensures step { OnOk result (step_of computes entries self.old.presentation (stored_in self.old bytes.now) self.old.stage ≡ Ok self.new.stage) }
         ensures stop { IfErr result (λ stop. IsStop stop (step_of computes entries self.old.presentation (stored_in self.old bytes.now) self.old.stage)) }
+        ensures fractions { (w : ℕ) (op : Op) (a b : Num) → IsErrOf result (Stop.Overflow w op a b) → self.old.presentation.field ≡ Kind.Rational }
         ensures unchanged { OnErr result (self.new ≡ self.old) }
-        ensures most { (steps.old ≤ steps.new) × (steps.new ≤ steps.old + step_cost computes self.old.presentation (stored_in self.old bytes.now) self.old.stage) }
+        ensures most { (steps.old ≤ steps.new) × (steps.new ≤ steps.old + step_cost computes entries self.old.presentation (stored_in self.old bytes.now) self.old.stage) }
     {
         let weight = self.state.weight() + 1;
         let count = self.state.next_count();
@@ -155,6 +160,7 @@ impl<F: Field> Run<F> {
         ensures version { self.new.version ≡ self.old.version }
         ensures step { OnOk result (computed computes self.old.presentation self.old.stage ≡ Ok self.new.stage) }
         ensures stop { IfErr result (λ stop. IsStop stop (computed computes self.old.presentation self.old.stage)) }
+        ensures fractions { (w : ℕ) (op : Op) (a b : Num) → IsErrOf result (Stop.Overflow w op a b) → self.old.presentation.field ≡ Kind.Rational }
         ensures unchanged { OnErr result (self.new ≡ self.old) }
         ensures most { (steps.old ≤ steps.new) × (steps.new ≤ steps.old + computing_cost computes self.old.presentation self.old.stage) }
     {
@@ -181,6 +187,7 @@ impl<F: Field> Run<F> {
         ensures version { self.new.version ≡ self.old.version }
         ensures step { OnOk result (framed true self.old.presentation (stored_in self.old bytes.now) self.old.stage (Ok (Whole from to)) ≡ Ok self.new.stage) }
         ensures stop { IfErr result (λ stop. IsStop stop (framed true self.old.presentation (stored_in self.old bytes.now) self.old.stage (Ok (Whole from to)))) }
+        ensures fractions { (w : ℕ) (op : Op) (a b : Num) → IsErrOf result (Stop.Overflow w op a b) → self.old.presentation.field ≡ Kind.Rational }
         ensures unchanged { OnErr result (self.new ≡ self.old) }
     {
         let weight = self.state.weight() + 1;

@@ -19,7 +19,8 @@ use Rattle.fpl_check.specs.Check.{test_count, test_origins, rows_stored, test_cl
 use Rattle.fpl_check.proofs.ListedOrigins.{demanded, passing_first}
 use Rattle.fpl_check.proofs.StoredRows.{stored_rows}
 use Rattle.fpl_check.proofs.ClosedTests.{are_closed}
-use Rattle.fpl_check.proofs.PassedTests.{then_first, close_among, close_length, all_same, same_count}
+use Rattle.fpl_check.proofs.PassedTests.{then_first}
+use Rattle.fpl_check.proofs.PassedRows.{close_among, close_length, all_same, same_count}
 use Rattle.fpl_check.proofs.Conclusions.{Concludes, are_concluded, conclude_all, HaveRows, step_row, rows_more}
 
 module _ (T : PlainTable) (p : Presentation) (s : Section) where
@@ -71,18 +72,21 @@ module _ (T : PlainTable) (p : Presentation) (s : Section) where
   as_many (r ∷ ss) earlier [] h = absurd h
   as_many (r ∷ ss) earlier (row ∷ rest) h = let k = as_many ss (earlier ++ row ∷ []) rest h.1 in omega arith
 
-module _ (T : PlainTable) (p : Presentation) (listed : IsField T.kind) (sources : HaveRows T p (length (symbols_in T))) (s : Section) (is : IsSectionFor T s) where
+module _ (T : PlainTable) (p : Presentation) (listed : IsField T.kind) (sources : HaveRows T p (length (symbols_in T))) (s : Section)
+    (is : IsSectionFor T s) where
   abbrev n : ℕ
   n = length (symbols_in T)
 
-  pub rest_rows : (ss : List Step) (earlier rest : List (List Num)) → AreRows T.kind n earlier → All (HasNumbersOf T.kind) ss → Concludes T p s.steps earlier ss rest → AreRows T.kind n rest
+  pub rest_rows : (ss : List Step) (earlier rest : List (List Num)) → AreRows T.kind n earlier → All (HasNumbersOf T.kind) ss →
+      Concludes T p s.steps earlier ss rest → AreRows T.kind n rest
   rest_rows [] earlier [] rows all h = λ i d l. absurd (omega (arith, l))
   rest_rows [] earlier (row ∷ rest) rows all h = absurd h
   rest_rows (r ∷ ss) earlier [] rows all h = absurd h
   rest_rows (r ∷ ss) earlier (row ∷ rest) rows all h =
       let here = all_head (HasNumbersOf T.kind) r ss all in
       all_cons (IsRowOf T.kind n) row rest (step_row T p listed n sources s.steps earlier r row rows here h.0)
-      (rest_rows ss (earlier ++ row ∷ []) rest (rows_more T p listed n sources s.steps earlier r row rows here h.0) (all_tail (HasNumbersOf T.kind) r ss all) h.1)
+      (rest_rows ss (earlier ++ row ∷ []) rest (rows_more T p listed n sources s.steps earlier r row rows here h.0)
+      (all_tail (HasNumbersOf T.kind) r ss all) h.1)
 
   no_rows : AreRows T.kind n []
   no_rows i d l = absurd (omega (arith, l))

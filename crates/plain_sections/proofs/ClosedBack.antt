@@ -21,8 +21,8 @@ use Rattle.fpl_check.specs.declared.fault.Spot.TheVariants.{Closed as AtClosed}
 use Rattle.fpl_check.specs.declared.fault.Why.TheVariants.{NotClosed, Differs}
 use Rattle.fpl_check.specs.Refusal.{passing, demand}
 use Rattle.fpl_check.specs.ClosedRows.{same_num, test_same, test_conclusions, test_lead_at, lead_or_none, test_leads, is_lead, test_crossing, test_apart}
-use Rattle.fpl_check.proofs.Loops.{same_is, and_true, below_true}
-use Rattle.fpl_check.proofs.PassedTests.{same_count}
+use Rattle.fpl_check.proofs.RowLoops.{same_is, and_true, below_true}
+use Rattle.fpl_check.proofs.PassedRows.{same_count}
 use Rattle.plain_sections.proofs.Tests.{same_true}
 
 -- rows are the same as themselves
@@ -36,17 +36,23 @@ conclusions_self k (row ∷ rows) = ap (λ t. passing t (test_conclusions (k + 1
 
 -- a pivot row has its lead
 pivot_lead : (kind : Kind) (n : ℕ) (q : PivotRow) → IsPivotRow kind n q → lead_of q.row ≡ Some q.lead
-pivot_lead kind n q h = lead_stands q.row q.lead h.from_one (let a = h.to_end in let b = h.length_is in omega (arith, a, b)) (ap is_nought h.leads) (λ t l m. h.above t l (let b = h.length_is in omega (arith, b, m)))
+pivot_lead kind n q h = lead_stands q.row q.lead h.from_one (let a = h.to_end in let b = h.length_is in omega (arith, a, b)) (ap is_nought h.leads)
+    (λ t l m. h.above t l (let b = h.length_is in omega (arith, b, m)))
 
-pub leads_pass : (kind : Kind) (n k before : ℕ) (ps : List PivotRow) → All (IsPivotRow kind n) ps → AscendsFrom before n ps → test_leads k before (rows_of ps) ≡ Ok tt
+pub leads_pass : (kind : Kind) (n k before : ℕ) (ps : List PivotRow) → All (IsPivotRow kind n) ps → AscendsFrom before n ps →
+    test_leads k before (rows_of ps) ≡ Ok tt
 leads_pass kind n k before [] all up = refl
 leads_pass kind n k before (q ∷ ps) all up =
     let h = all_head (IsPivotRow kind n) q ps all in
     let lead = pivot_lead kind n q h in
     let here : test_lead_at k before q.row (lead_of q.row) ≡ Ok tt =
-    ap (test_lead_at k before q.row) lead ∙ ap (λ b. demand b (AtClosed k) (NotClosed q.lead)) (and_true (same_num (get_or q.row (q.lead - 1) (residue 0)) (residue 1)) (nat_lt before q.lead) (same_is _ _ h.leads) (below_true before q.lead up.0)) in
+    ap (test_lead_at k before q.row) lead
+    ∙ ap (λ b. demand b (AtClosed k) (NotClosed q.lead))
+    (and_true (same_num (get_or q.row (q.lead - 1) (residue 0)) (residue 1)) (nat_lt before q.lead) (same_is _ _ h.leads)
+    (below_true before q.lead up.0)) in
     ap (λ t. passing t (test_leads (k + 1) (lead_or_none q.row) (rows_of ps))) here
-    ∙ ap (λ s. test_leads (k + 1) s (rows_of ps)) (ap (λ o. unwrap_or o 0) lead) ∙ leads_pass kind n (k + 1) q.lead ps (all_tail (IsPivotRow kind n) q ps all) up.1
+    ∙ ap (λ s. test_leads (k + 1) s (rows_of ps)) (ap (λ o. unwrap_or o 0) lead)
+    ∙ leads_pass kind n (k + 1) q.lead ps (all_tail (IsPivotRow kind n) q ps all) up.1
 
 -- the number at a symbol is 0, or the symbol is its row's greatest, or no row's
 abbrev MayStand : (ℕ → Bool) → ℕ → ℕ → Num → Type 0
@@ -66,14 +72,17 @@ may_pass leads lead s c (inr (inr f)) = third (is_nought c) (nat_eq s lead) (not
     third false true d e = refl
     third false false d e = e
 
-crossing_pass : (k : ℕ) (leads : ℕ → Bool) (lead s : ℕ) (xs : List Num) → ((t : ℕ) → t < length xs → MayStand leads lead (s + t) (get_or xs t (residue 0))) → test_crossing k leads lead s xs ≡ Ok tt
+crossing_pass : (k : ℕ) (leads : ℕ → Bool) (lead s : ℕ) (xs : List Num) →
+    ((t : ℕ) → t < length xs → MayStand leads lead (s + t) (get_or xs t (residue 0))) → test_crossing k leads lead s xs ≡ Ok tt
 crossing_pass k leads lead s [] h = refl
 crossing_pass k leads lead s (c ∷ cs) h =
     let here : MayStand leads lead s c = subst (λ w. MayStand leads lead w c) (let e : s + 0 ≡ s = omega arith in e) (h 0 (omega arith)) in
     ap (λ b. passing (demand b (AtClosed k) (NotClosed s)) (test_crossing k leads lead (s + 1) cs)) (may_pass leads lead s c here)
-    ∙ crossing_pass k leads lead (s + 1) cs (λ t l. subst (λ w. MayStand leads lead w (get_or cs t (residue 0))) (let e : s + suc t ≡ s + 1 + t = omega arith in e) (h (suc t) (omega (arith, l))))
+    ∙ crossing_pass k leads lead (s + 1) cs
+    (λ t l. subst (λ w. MayStand leads lead w (get_or cs t (residue 0))) (let e : s + suc t ≡ s + 1 + t = omega arith in e) (h (suc t) (omega (arith, l))))
 
-apart_pass : (k : ℕ) (all rows : List (List Num)) → ((i m : ℕ) → i < length rows → test_crossing m (is_lead all) (lead_or_none (get_or rows i [])) 1 (get_or rows i []) ≡ Ok tt) → test_apart k all rows ≡ Ok tt
+apart_pass : (k : ℕ) (all rows : List (List Num)) →
+    ((i m : ℕ) → i < length rows → test_crossing m (is_lead all) (lead_or_none (get_or rows i [])) 1 (get_or rows i []) ≡ Ok tt) → test_apart k all rows ≡ Ok tt
 apart_pass k all [] h = refl
 apart_pass k all (row ∷ rows) h =
     ap (λ t. passing t (test_apart (k + 1) all rows)) (h 0 k (omega arith)) ∙ apart_pass (k + 1) all rows (λ i m l. h (suc i) m (omega (arith, l)))
@@ -83,7 +92,8 @@ lead_of_one : (rows : List (List Num)) (s : ℕ) → is_lead rows s ≡ true →
 lead_of_one [] s e = absurd (let k : ⊥ = cc in k)
 lead_of_one (row ∷ rows) s e = go (nat_eq (lead_or_none row) s) refl e (λ f. lead_of_one rows s f)
   where
-    go : (b : Bool) → nat_eq (lead_or_none row) s ≡ b → (b || is_lead rows s) ≡ true → (is_lead rows s ≡ true → (j : ℕ) × ((j < length rows) × (lead_or_none (get_or rows j []) ≡ s))) →
+    go : (b : Bool) → nat_eq (lead_or_none row) s ≡ b → (b || is_lead rows s) ≡ true →
+        (is_lead rows s ≡ true → (j : ℕ) × ((j < length rows) × (lead_or_none (get_or rows j []) ≡ s))) →
         (j : ℕ) × ((j < length (row ∷ rows)) × (lead_or_none (get_or (row ∷ rows) j []) ≡ s))
     go true f g later = (0, (omega arith, same_count _ _ f))
     go false f g later = let h = later g in (suc h.0, ((let l = h.1.0 in omega (arith, l)), h.1.1))
@@ -97,17 +107,21 @@ module _ (kind : Kind) (listed : IsField kind) (n : ℕ) (rows : List (List Num)
   pivot_at None t e = absurd (omega (arith, e))
   pivot_at (Some s) t e = let f : s - 1 ≡ t = omega (arith, e) in f
 
-  stands : (i t : ℕ) → i < length rows → t < length (get_or rows i []) → (b : Bool) → is_lead rows (1 + t) ≡ b → MayStand (is_lead rows) (lead_or_none (get_or rows i [])) (1 + t) (get_or (get_or rows i []) t (residue 0))
+  stands : (i t : ℕ) → i < length rows → t < length (get_or rows i []) → (b : Bool) → is_lead rows (1 + t) ≡ b →
+      MayStand (is_lead rows) (lead_or_none (get_or rows i [])) (1 + t) (get_or (get_or rows i []) t (residue 0))
   stands i t l m false e = inr (inr e)
   stands i t l m true e = let j = lead_of_one rows (1 + t) e in go j.0 j.1.0 j.1.1 (ℕ_discrete j.0 i)
     where
-      go : (j : ℕ) → j < length rows → lead_or_none (get_or rows j []) ≡ 1 + t → Dec (j ≡ i) → MayStand (is_lead rows) (lead_or_none (get_or rows i [])) (1 + t) (get_or (get_or rows i []) t (residue 0))
+      go : (j : ℕ) → j < length rows → lead_or_none (get_or rows j []) ≡ 1 + t → Dec (j ≡ i) →
+          MayStand (is_lead rows) (lead_or_none (get_or rows i [])) (1 + t) (get_or (get_or rows i []) t (residue 0))
       go j k f (yes d) = inr (inl (sym (ap (λ w. lead_or_none (get_or rows w [])) (sym d) ∙ f)))
       go j k f (no d) =
           let is = closed.are_rows i [] l in
           let pivot : pivot_in rows j ≡ t = pivot_at (lead_of (get_or rows j [])) t f in
           inl (is_nought_from kind (field_of kind) (number_of kind) reads (get_or (get_or rows i []) t (residue 0)) (is.elements t (residue 0) m)
-          (sym (at_place kind (field_of kind) (number_of kind) reads (get_or rows i []) t (residue 0) m) ∙ subst (λ w. row_in kind rows i w ≡ (field_of kind).nought) pivot (closed.closed.apart i j l k (λ g. d (sym g)))))
+          (sym (at_place kind (field_of kind) (number_of kind) reads (get_or rows i []) t (residue 0) m)
+          ∙ subst (λ w. row_in kind rows i w ≡ (field_of kind).nought) pivot (closed.closed.apart i j l k (λ g. d (sym g)))))
 
   pub apart_passes : test_apart 1 rows rows ≡ Ok tt
-  apart_passes = apart_pass 1 rows rows (λ i m l. crossing_pass m (is_lead rows) (lead_or_none (get_or rows i [])) 1 (get_or rows i []) (λ t k. stands i t l k (is_lead rows (1 + t)) refl))
+  apart_passes = apart_pass 1 rows rows
+      (λ i m l. crossing_pass m (is_lead rows) (lead_or_none (get_or rows i [])) 1 (get_or rows i []) (λ t k. stands i t l k (is_lead rows (1 + t)) refl))

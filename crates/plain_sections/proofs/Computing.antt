@@ -75,7 +75,8 @@ module _ (kind : Kind) (rest : List (List Num)) where
   abbrev pub Cites : (ℕ → Type 0) → PivotRow → Type 0
   Cites P q = P q.step × (get_or rest (q.step - 1) [] ≡ q.row)
 
-  by_tells : (P : ℕ → Type 0) (o : Option PivotRow) (c : Num) (x y : Swept) → ((q : PivotRow) → o ≡ Some q → Cites P q) → sweep_by kind o c x ≡ Ok y → Tells P x y
+  by_tells : (P : ℕ → Type 0) (o : Option PivotRow) (c : Num) (x y : Swept) → ((q : PivotRow) → o ≡ Some q → Cites P q) → sweep_by kind o c x ≡ Ok y →
+      Tells P x y
   by_tells P None c x y h e = subst (Tells P x) (ok_same e) (tells_none P x)
   by_tells P (Some q) c x y h e = go (is_nought c) e
     where
@@ -87,7 +88,8 @@ module _ (kind : Kind) (rest : List (List Num)) where
           (record {
             terms = (record { step = q.step; factor = c }) ∷ [];
             is = refl;
-            off = ap (λ u. and_then (λ w. terms_off kind rest w []) (axpy_of kind x.row (negative_of kind c) u)) (h q refl).1 ∙ ap (and_then (λ w. terms_off kind rest w [])) r.1.0;
+            off = ap (λ u. and_then (λ w. terms_off kind rest w []) (axpy_of kind x.row (negative_of kind c) u)) (h q refl).1
+                ∙ ap (and_then (λ w. terms_off kind rest w [])) r.1.0;
             cited = λ i d l. one i d l;
           })
         where
@@ -100,13 +102,16 @@ module _ (kind : Kind) (rest : List (List Num)) where
   sweep_tells P pivots (suc s) x y h e =
       let f = first_fits (λ y. sweep_of kind pivots s y) (sweep_at kind pivots s x) y e in
       tells_on P x f.0 y
-      (by_tells P (find (stands_at (s + 1)) pivots) (get_or x.row s (residue 0)) x f.0 (λ q e. all_found (Cites P) (stands_at (s + 1)) pivots q h (sym e)) f.1.0)
+      (by_tells P (find (stands_at (s + 1)) pivots) (get_or x.row s (residue 0)) x f.0
+      (λ q e. all_found (Cites P) (stands_at (s + 1)) pivots q h (sym e)) f.1.0)
       (sweep_tells P pivots s f.0 y h f.1.1)
 
-all_cites : (sort : Cited) (kind : Kind) (steps more : List Step) (rest : List (List Num)) (qs : List PivotRow) → length rest ≡ length steps → All (IsStepOf sort steps rest) qs → All (Cites kind rest (λ m. named sort (steps ++ more) (length rest + 1) m ≡ true)) qs
+all_cites : (sort : Cited) (kind : Kind) (steps more : List Step) (rest : List (List Num)) (qs : List PivotRow) → length rest ≡ length steps →
+    All (IsStepOf sort steps rest) qs → All (Cites kind rest (λ m. named sort (steps ++ more) (length rest + 1) m ≡ true)) qs
 all_cites sort kind steps more rest qs long h i d l = (step_named sort steps more rest (get_or qs i d) long (h i d l), (h i d l).row)
 
-module _ (T : PlainTable) (p : Presentation) (listed : IsField T.kind) (n : ℕ) (sources : HaveRows T p n) (named_origin : (o : Origin) → Contains (origins_of T p) o → is_origin T p o ≡ true) where
+module _ (T : PlainTable) (p : Presentation) (listed : IsField T.kind) (n : ℕ) (sources : HaveRows T p n)
+    (named_origin : (o : Origin) → Contains (origins_of T p) o → is_origin T p o ≡ true) where
   -- the steps that gathering has recorded
   pub record Gathering (h : Held) : Type 0 where
     pub rest : List (List Num)
@@ -114,8 +119,10 @@ module _ (T : PlainTable) (p : Presentation) (listed : IsField T.kind) (n : ℕ)
     pub pivots : All (IsStepOf Inserts h.steps rest) h.pivots
     pub none : close_rows h.steps rest ≡ []
 
-  gather_more : (h : Held) (o : Origin) (ts : List Term) (k : Num) (row : List Num) (qs : List PivotRow) (g : Gathering h) → InsertParts T p (h.steps ++ (Insert o ts k) ∷ []) g.rest o ts k row →
-      All (IsStepOf Inserts (h.steps ++ (Insert o ts k) ∷ []) (g.rest ++ row ∷ [])) qs → Gathering (record { pivots = qs; steps = h.steps ++ (Insert o ts k) ∷ [] })
+  gather_more : (h : Held) (o : Origin) (ts : List Term) (k : Num) (row : List Num) (qs : List PivotRow) (g : Gathering h) →
+      InsertParts T p (h.steps ++ (Insert o ts k) ∷ []) g.rest o ts k row →
+      All (IsStepOf Inserts (h.steps ++ (Insert o ts k) ∷ []) (g.rest ++ row ∷ [])) qs →
+      Gathering (record { pivots = qs; steps = h.steps ++ (Insert o ts k) ∷ [] })
   gather_more h o ts k row qs g parts pivots = record {
     rest = g.rest ++ row ∷ [];
     told = told_more T p h.steps g.rest (Insert o ts k) row g.told parts;
@@ -124,44 +131,56 @@ module _ (T : PlainTable) (p : Presentation) (listed : IsField T.kind) (n : ℕ)
   }
 
   -- an Insert step, from what its sweep and its scale were
-  insert_from : (h : Held) (g : Gathering h) (o : Origin) (source : List Num) (x : Swept) (k : Num) (row : List Num) → Contains (origins_of T p) o → row_of_origin T p o ≡ Ok source →
-      sweep_of T.kind h.pivots n (record { row = source; terms = [] }) ≡ Ok x → scaled_by T.kind (scale_if k) x.row ≡ Ok row → test_dependent (length g.rest + 1) k row ≡ Ok tt →
+  insert_from : (h : Held) (g : Gathering h) (o : Origin) (source : List Num) (x : Swept) (k : Num) (row : List Num) → Contains (origins_of T p) o →
+      row_of_origin T p o ≡ Ok source →
+      sweep_of T.kind h.pivots n (record { row = source; terms = [] }) ≡ Ok x → scaled_by T.kind (scale_if k) x.row ≡ Ok row →
+      test_dependent (length g.rest + 1) k row ≡ Ok tt →
       InsertParts T p (h.steps ++ (Insert o x.terms k) ∷ []) g.rest o x.terms k row
   insert_from h g o source x k row c reads sweeps scales rests =
       let steps = h.steps ++ (Insert o x.terms k) ∷ [] in
-      let t = sweep_tells T.kind g.rest (λ m. named Inserts steps (length g.rest + 1) m ≡ true) h.pivots n (record { row = source; terms = [] }) x (all_cites Inserts T.kind h.steps ((Insert o x.terms k) ∷ []) g.rest h.pivots g.told.long g.pivots) sweeps in
+      let t = sweep_tells T.kind g.rest (λ m. named Inserts steps (length g.rest + 1) m ≡ true) h.pivots n (record { row = source; terms = [] }) x
+      (all_cites Inserts T.kind h.steps ((Insert o x.terms k) ∷ []) g.rest h.pivots g.told.long g.pivots) sweeps in
       record {
         origin_is = named_origin o c;
-        cites = cites_all (names_insert steps (length g.rest + 1)) (length g.rest + 1) x.terms (subst (All (λ t. named Inserts steps (length g.rest + 1) t.step ≡ true)) (sym t.is) t.cited);
+        cites = cites_all (names_insert steps (length g.rest + 1)) (length g.rest + 1) x.terms
+            (subst (All (λ t. named Inserts steps (length g.rest + 1) t.step ≡ true)) (sym t.is) t.cited);
         source = source;
         reads = reads;
         concludes = ap (and_then (λ v. scaled_by T.kind (scale_if k) v)) (ap (terms_off T.kind g.rest source) t.is ∙ t.off) ∙ scales;
         dependent = rests;
       }
 
-  keep_gathers : (h r : Held) (o : Origin) (source : List Num) (x : Swept) (lead : Option ℕ) → Gathering h → AreElements T.kind x.row → lead_of x.row ≡ lead → Contains (origins_of T p) o → row_of_origin T p o ≡ Ok source →
+  keep_gathers : (h r : Held) (o : Origin) (source : List Num) (x : Swept) (lead : Option ℕ) → Gathering h → AreElements T.kind x.row →
+      lead_of x.row ≡ lead → Contains (origins_of T p) o → row_of_origin T p o ≡ Ok source →
       sweep_of T.kind h.pivots n (record { row = source; terms = [] }) ≡ Ok x → keep_of T.kind h o x lead ≡ Ok r → Gathering r
   keep_gathers h r o source x None g a l c reads sweeps e =
       let parts = insert_from h g o source x (residue 0) x.row c reads sweeps refl (ap (remainder_at (AtStep (length g.rest + 1)) x.row) l) in
       subst Gathering (ok_same e)
-      (gather_more h o x.terms (residue 0) x.row h.pivots g parts (all_steps_more Inserts h.steps g.rest (Insert o x.terms (residue 0)) x.row h.pivots g.told.long g.pivots))
+      (gather_more h o x.terms (residue 0) x.row h.pivots g parts (all_steps_more Inserts h.steps g.rest
+      (Insert o x.terms (residue 0)) x.row h.pivots g.told.long g.pivots))
   keep_gathers h r o source x (Some s) g a l c reads sweeps e =
       let k = inverse_of T.kind (get_or x.row (s - 1) (residue 0)) in
       let f = part_fits _ (scale_of T.kind k x.row) r e in
       let t = lead_is x.row (length x.row) s l in
-      let kept = scale_stays T.kind listed n (get_or x.row (s - 1) (residue 0)) (a (s - 1) (residue 0) (let u = t.from_one in let v = t.to_end in omega arith)) t.leads in
-      let parts = insert_from h g o source x k f.0 c reads sweeps (ap (λ b. scaled_by T.kind (if b then None else Some k) x.row) kept ∙ f.1.0) (ap (λ b. if b then test_zero (AtStep (length g.rest + 1)) f.0 else Ok tt) kept) in
+      let kept = scale_stays T.kind listed n (get_or x.row (s - 1) (residue 0))
+      (a (s - 1) (residue 0) (let u = t.from_one in let v = t.to_end in omega arith)) t.leads in
+      let parts = insert_from h g o source x k f.0 c reads sweeps (ap (λ b. scaled_by T.kind (if b then None else Some k) x.row) kept ∙ f.1.0)
+      (ap (λ b. if b then test_zero (AtStep (length g.rest + 1)) f.0 else Ok tt) kept) in
       subst Gathering (sym f.1.1)
       (gather_more h o x.terms k f.0 (h.pivots ++ (record { lead = s; step = length h.steps + 1; row = f.0 }) ∷ []) g parts
-      (all_more (IsStepOf Inserts (h.steps ++ (Insert o x.terms k) ∷ []) (g.rest ++ f.0 ∷ [])) h.pivots (record { lead = s; step = length h.steps + 1; row = f.0 })
-      (all_steps_more Inserts h.steps g.rest (Insert o x.terms k) f.0 h.pivots g.told.long g.pivots) (step_last Inserts h.steps g.rest (Insert o x.terms k) f.0 s g.told.long refl)))
+      (all_more (IsStepOf Inserts (h.steps ++ (Insert o x.terms k) ∷ []) (g.rest ++ f.0 ∷ [])) h.pivots
+      (record { lead = s; step = length h.steps + 1; row = f.0 })
+      (all_steps_more Inserts h.steps g.rest (Insert o x.terms k) f.0 h.pivots g.told.long g.pivots)
+      (step_last Inserts h.steps g.rest (Insert o x.terms k) f.0 s g.told.long refl)))
 
-  insert_gathers : (h : Held) (o : Origin) (source : List Num) (r : Inserted) → All (IsPivotRow T.kind n) h.pivots → Contains (origins_of T p) o → row_of_origin T p o ≡ Ok source → Gathering h →
+  insert_gathers : (h : Held) (o : Origin) (source : List Num) (r : Inserted) → All (IsPivotRow T.kind n) h.pivots → Contains (origins_of T p) o →
+      row_of_origin T p o ≡ Ok source → Gathering h →
       insert_of (record { kind = T.kind; size = n; held = h }) source o ≡ Ok r → Gathering r.held
   insert_gathers h o source r all c reads g e =
       let is = sources o c source reads in
       let f = first_fits _ (sweep_of T.kind h.pivots n (record { row = source; terms = [] })) r e in
-      let q = sweep_reads T.kind (field_of T.kind) (number_of T.kind) (kind_reads T.kind listed) h.pivots n n (λ i. vzero (field_of T.kind)) (record { row = source; terms = [] }) f.0 all (omega arith) is.elements is.length_is f.1.0 in
+      let q = sweep_reads T.kind (field_of T.kind) (number_of T.kind) (kind_reads T.kind listed) h.pivots n n (λ i. vzero (field_of T.kind))
+      (record { row = source; terms = [] }) f.0 all (omega arith) is.elements is.length_is f.1.0 in
       let k = part_fits _ (keep_of T.kind h o f.0 (lead_of f.0.row)) r f.1.1 in
       subst (λ r. Gathering r.held) (sym k.1.1) (keep_gathers h k.0 o source f.0 (lead_of f.0.row) g q.left.elements refl c reads f.1.0 k.1.0)
 
@@ -172,7 +191,8 @@ module _ (T : PlainTable) (p : Presentation) (listed : IsField T.kind) (n : ℕ)
     pub rows : All (IsPivotRow T.kind n) e.held.pivots
     pub steps : Gathering e.held
 
-  gathered : (os : List Origin) (h : Held) (e : Elimination) → ((o : Origin) → Contains os o → Contains (origins_of T p) o) → All (IsPivotRow T.kind n) h.pivots → Gathering h →
+  gathered : (os : List Origin) (h : Held) (e : Elimination) → ((o : Origin) → Contains os o → Contains (origins_of T p) o) →
+      All (IsPivotRow T.kind n) h.pivots → Gathering h →
       gather T p os (record { kind = T.kind; size = n; held = h }) ≡ Ok e → Gathered e
   gathered [] h e within all g eq = subst Gathered (ok_same eq) (record { kind = refl; size = refl; rows = all; steps = g })
   gathered (o ∷ os) h e within all g eq =
@@ -181,7 +201,8 @@ module _ (T : PlainTable) (p : Presentation) (listed : IsField T.kind) (n : ℕ)
       let here = within o (0, omega arith, refl) in
       let is = sources o here put.row put.reads in
       let pivots = insert_pivots (record { kind = T.kind; size = n; held = h }) put.row o put.inserted listed all is.length_is is.elements put.inserts in
-      gathered os put.inserted.held e (λ x c. within x (contains_rest (o ∷ os) os o x refl c)) pivots (insert_gathers h o put.row put.inserted all here put.reads g put.inserts) (subst (λ w. gather T p os w ≡ Ok e) put.is q.1.1)
+      gathered os put.inserted.held e (λ x c. within x (contains_rest (o ∷ os) os o x refl c)) pivots
+      (insert_gathers h o put.row put.inserted all here put.reads g put.inserts) (subst (λ w. gather T p os w ≡ Ok e) put.is q.1.1)
 
   -- the steps that closing has recorded
   pub record Closing (pivots : List PivotRow) (g : Held) : Type 0 where
@@ -191,7 +212,8 @@ module _ (T : PlainTable) (p : Presentation) (listed : IsField T.kind) (n : ℕ)
     pub closed_rows : All (IsStepOf Closes g.steps rest) g.pivots
     pub rows : close_rows g.steps rest ≡ rows_of g.pivots
 
-  step_closes : (pivots : List PivotRow) (s : ℕ) (f g : Held) (o : Option PivotRow) → find (stands_at (s + 1)) pivots ≡ o → Closing pivots f → close_by T.kind o s f ≡ Ok g → Closing pivots g
+  step_closes : (pivots : List PivotRow) (s : ℕ) (f g : Held) (o : Option PivotRow) → find (stands_at (s + 1)) pivots ≡ o → Closing pivots f →
+      close_by T.kind o s f ≡ Ok g → Closing pivots g
   step_closes pivots s f g None is c e = subst (Closing pivots) (ok_same e) c
   step_closes pivots s f g (Some q) is c e =
       let r = part_fits _ (sweep_of T.kind f.pivots s (record { row = q.row; terms = [] })) g e in
@@ -202,8 +224,10 @@ module _ (T : PlainTable) (p : Presentation) (listed : IsField T.kind) (n : ℕ)
       (all_cites Closes T.kind f.steps (new ∷ []) c.rest f.pivots c.told.long c.closed_rows) r.1.0 in
       let parts : CloseParts T p (f.steps ++ new ∷ []) c.rest q.step x.terms x.row = record {
         of_named = step_named Inserts f.steps (new ∷ []) c.rest q c.told.long of;
-        cites = cites_all (names_close (f.steps ++ new ∷ []) (length c.rest + 1)) (length c.rest + 1) x.terms (subst (All (λ t. named Closes (f.steps ++ new ∷ []) (length c.rest + 1) t.step ≡ true)) (sym t.is) t.cited);
-        concludes = ap (λ v. conclude_of T.kind c.rest v x.terms None) of.row ∙ ap (and_then (λ v. scaled_by T.kind None v)) (ap (terms_off T.kind c.rest q.row) t.is ∙ t.off);
+        cites = cites_all (names_close (f.steps ++ new ∷ []) (length c.rest + 1)) (length c.rest + 1) x.terms
+            (subst (All (λ t. named Closes (f.steps ++ new ∷ []) (length c.rest + 1) t.step ≡ true)) (sym t.is) t.cited);
+        concludes = ap (λ v. conclude_of T.kind c.rest v x.terms None) of.row
+            ∙ ap (and_then (λ v. scaled_by T.kind None v)) (ap (terms_off T.kind c.rest q.row) t.is ∙ t.off);
       } in
       let p' : PivotRow = record { lead = s + 1; step = length f.steps + 1; row = x.row } in
       subst (Closing pivots) (sym r.1.1)
@@ -211,12 +235,14 @@ module _ (T : PlainTable) (p : Presentation) (listed : IsField T.kind) (n : ℕ)
         rest = c.rest ++ x.row ∷ [];
         told = told_more T p f.steps c.rest new x.row c.told parts;
         open_rows = all_steps_more Inserts f.steps c.rest new x.row pivots c.told.long c.open_rows;
-        closed_rows = all_more (IsStepOf Closes (f.steps ++ new ∷ []) (c.rest ++ x.row ∷ [])) f.pivots p' (all_steps_more Closes f.steps c.rest new x.row f.pivots c.told.long c.closed_rows)
+        closed_rows = all_more (IsStepOf Closes (f.steps ++ new ∷ []) (c.rest ++ x.row ∷ [])) f.pivots p'
+            (all_steps_more Closes f.steps c.rest new x.row f.pivots c.told.long c.closed_rows)
             (step_last Closes f.steps c.rest new x.row (s + 1) c.told.long refl);
         rows = close_rows_more f.steps c.rest new x.row c.told.long ∙ ap (λ w. w ++ x.row ∷ []) c.rows ∙ sym (map-append (λ q. q.row) f.pivots (p' ∷ []));
       })
 
-  closes_to : (pivots : List PivotRow) (m : ℕ) (h g : Held) → h.pivots ≡ [] → (b : Gathering h) → All (IsStepOf Inserts h.steps b.rest) pivots → close_to T.kind pivots m h ≡ Ok g → Closing pivots g
+  closes_to : (pivots : List PivotRow) (m : ℕ) (h g : Held) → h.pivots ≡ [] → (b : Gathering h) → All (IsStepOf Inserts h.steps b.rest) pivots →
+      close_to T.kind pivots m h ≡ Ok g → Closing pivots g
   closes_to pivots zero h g none b rows e =
       subst (Closing pivots) (ok_same e) (record {
         rest = b.rest;
@@ -245,7 +271,8 @@ module _ (T : PlainTable) (p : Presentation) (listed : IsField T.kind) (n : ℕ)
   run_is size h eq =
       let r = run_parts T p h eq in
       let g = gathered_all size r.gathered r.gathers in
-      let start : Gathering (record { pivots = []; steps = r.gathered.held.steps }) = record { rest = g.steps.rest; told = g.steps.told; pivots = λ i d l. absurd (omega (arith, l)); none = g.steps.none } in
+      let start : Gathering (record { pivots = []; steps = r.gathered.held.steps }) =
+      record { rest = g.steps.rest; told = g.steps.told; pivots = λ i d l. absurd (omega (arith, l)); none = g.steps.none } in
       let c = closes_to r.gathered.held.pivots r.gathered.size (record { pivots = []; steps = r.gathered.held.steps }) h refl start g.steps.pivots
       (ap (λ k. close_to k r.gathered.held.pivots r.gathered.size (record { pivots = []; steps = r.gathered.held.steps })) (sym g.kind) ∙ r.closes) in
       record { rest = c.rest; told = c.told; rows = c.rows }

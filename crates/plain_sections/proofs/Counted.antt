@@ -59,10 +59,12 @@ kept_more (r ∷ ss) s = let k = kept_more ss s in omega (arith, k)
 slim_kept : (numbers : List (Option ℕ)) (count : ℕ) (ss : List Step) → insert_count (slim_steps numbers count ss) ≡ kept_count ss
 unfolding keeps kept_count
 slim_kept numbers count [] = refl
-slim_kept numbers count ((Insert o ts c) ∷ ss) = go (is_nought c) (slim_kept (numbers ++ (next_number (is_nought c) count) ∷ []) (next_count (is_nought c) count) ss)
+slim_kept numbers count ((Insert o ts c) ∷ ss) = go (is_nought c)
+    (slim_kept (numbers ++ (next_number (is_nought c) count) ∷ []) (next_count (is_nought c) count) ss)
   where
     go : (b : Bool) → insert_count (slim_steps (numbers ++ (next_number (is_nought c) count) ∷ []) (next_count (is_nought c) count) ss) ≡ kept_count ss →
-        insert_count (kept_if b (slim_step numbers (Insert o ts c)) (slim_steps (numbers ++ (next_number (is_nought c) count) ∷ []) (next_count (is_nought c) count) ss)) ≡ (if b then 0 else 1) + kept_count ss
+        insert_count (kept_if b (slim_step numbers (Insert o ts c)) (slim_steps (numbers ++ (next_number (is_nought c) count) ∷ [])
+        (next_count (is_nought c) count) ss)) ≡ (if b then 0 else 1) + kept_count ss
     go true h = omega (arith, h)
     go false h = omega (arith, h)
 slim_kept numbers count ((Close of ts) ∷ ss) = let k = slim_kept (numbers ++ (Some (count + 1)) ∷ []) (count + 1) ss in omega (arith, k)
@@ -86,22 +88,26 @@ or_none None r e = e
 or_none (Some x) r e = refl
 
 found_other : (ps : List PivotRow) (q : PivotRow) (t : ℕ) → q.lead ≢ t → find (stands_at t) (ps ++ q ∷ []) ≡ find (stands_at t) ps
-found_other ps q t d = find-append (stands_at t) ps (q ∷ []) ∙ or_none (find (stands_at t) ps) (find (stands_at t) (q ∷ [])) (let k : nat_eq q.lead t ≡ false = grind arith in rw k refl)
+found_other ps q t d = find-append (stands_at t) ps (q ∷ [])
+    ∙ or_none (find (stands_at t) ps) (find (stands_at t) (q ∷ [])) (let k : nat_eq q.lead t ≡ false = grind arith in rw k refl)
 
 found_here : (ps : List PivotRow) (q : PivotRow) (t : ℕ) → q.lead ≡ t → find (stands_at t) ps ≡ None → find (stands_at t) (ps ++ q ∷ []) ≡ Some q
-found_here ps q t e none = find-append (stands_at t) ps (q ∷ []) ∙ ap (λ o. option_or o (find (stands_at t) (q ∷ []))) none ∙ (let k : nat_eq q.lead t ≡ true = grind arith in rw k refl)
+found_here ps q t e none = find-append (stands_at t) ps (q ∷ []) ∙ ap (λ o. option_or o (find (stands_at t) (q ∷ []))) none
+    ∙ (let k : nat_eq q.lead t ≡ true = grind arith in rw k refl)
 
 places_below : (ps : List PivotRow) (q : PivotRow) (m : ℕ) → m < q.lead → places (ps ++ q ∷ []) m ≡ places ps m
 unfolding places
 places_below ps q zero l = refl
 places_below ps q (suc s) l = ap₂ (λ a o. a + found o) (places_below ps q s (omega (arith, l))) (found_other ps q (s + 1) (omega (arith, l)))
 
-places_more : (ps : List PivotRow) (q : PivotRow) (m : ℕ) → find (stands_at q.lead) ps ≡ None → 1 ≤ q.lead → q.lead ≤ m → places (ps ++ q ∷ []) m ≡ places ps m + 1
+places_more : (ps : List PivotRow) (q : PivotRow) (m : ℕ) → find (stands_at q.lead) ps ≡ None → 1 ≤ q.lead → q.lead ≤ m →
+    places (ps ++ q ∷ []) m ≡ places ps m + 1
 unfolding places found
 places_more ps q zero none one l = absurd (omega (arith, one, l))
 places_more ps q (suc s) none one l = go (ℕ_discrete q.lead (s + 1)) (λ m. places_more ps q s none one m)
   where
-    go : Dec (q.lead ≡ s + 1) → (q.lead ≤ s → places (ps ++ q ∷ []) s ≡ places ps s + 1) → places (ps ++ q ∷ []) s + found (find (stands_at (s + 1)) (ps ++ q ∷ [])) ≡ places ps s + found (find (stands_at (s + 1)) ps) + 1
+    go : Dec (q.lead ≡ s + 1) → (q.lead ≤ s → places (ps ++ q ∷ []) s ≡ places ps s + 1) →
+        places (ps ++ q ∷ []) s + found (find (stands_at (s + 1)) (ps ++ q ∷ [])) ≡ places ps s + found (find (stands_at (s + 1)) ps) + 1
     go (yes e) more =
         let before : find (stands_at (s + 1)) ps ≡ None = subst (λ t. find (stands_at t) ps ≡ None) e none in
         let a = places_below ps q s (omega (arith, e)) in
@@ -114,7 +120,8 @@ places_more ps q (suc s) none one l = go (ℕ_discrete q.lead (s + 1)) (λ m. pl
         omega (arith, a, b)
 
 -- closing makes a row at each of these places, and no Insert step
-step_closes : (kind : Kind) (s : ℕ) (f g : Held) (o : Option PivotRow) → close_by kind o s f ≡ Ok g → (length g.pivots ≡ length f.pivots + found o) × (kept_count g.steps ≡ kept_count f.steps)
+step_closes : (kind : Kind) (s : ℕ) (f g : Held) (o : Option PivotRow) → close_by kind o s f ≡ Ok g → (length g.pivots ≡ length f.pivots + found o) ×
+    (kept_count g.steps ≡ kept_count f.steps)
 unfolding found keeps
 step_closes kind s f g None e = subst (λ g. (length g.pivots ≡ length f.pivots + 0) × (kept_count g.steps ≡ kept_count f.steps)) (ok_same e) (omega arith, refl)
 step_closes kind s f g (Some q) e =
@@ -122,9 +129,11 @@ step_closes kind s f g (Some q) e =
     let k = kept_more f.steps (Close q.step r.0.terms) in
     subst (λ g. (length g.pivots ≡ length f.pivots + 1) × (kept_count g.steps ≡ kept_count f.steps)) (sym r.1.1) (length-append f.pivots _, omega (arith, k))
 
-closes_all : (kind : Kind) (pivots : List PivotRow) (m : ℕ) (h g : Held) → close_to kind pivots m h ≡ Ok g → (length g.pivots ≡ length h.pivots + places pivots m) × (kept_count g.steps ≡ kept_count h.steps)
+closes_all : (kind : Kind) (pivots : List PivotRow) (m : ℕ) (h g : Held) → close_to kind pivots m h ≡ Ok g →
+    (length g.pivots ≡ length h.pivots + places pivots m) × (kept_count g.steps ≡ kept_count h.steps)
 unfolding places
-closes_all kind pivots zero h g e = subst (λ g. (length g.pivots ≡ length h.pivots + 0) × (kept_count g.steps ≡ kept_count h.steps)) (ok_same e) (omega arith, refl)
+closes_all kind pivots zero h g e = subst (λ g. (length g.pivots ≡ length h.pivots + 0) × (kept_count g.steps ≡ kept_count h.steps)) (ok_same e)
+    (omega arith, refl)
 closes_all kind pivots (suc s) h g e =
     let f = first_fits _ (close_to kind pivots s h) g e in
     let a = closes_all kind pivots s h f.0 f.1.0 in
@@ -144,7 +153,8 @@ module _ (kind : Kind) (listed : IsField kind) (n : ℕ) where
     steps_are : kept_count h.steps ≡ length h.pivots
 
   -- what is left of a row has its lead where no pivot row has
-  lead_free : (pivots : List PivotRow) (v left : List Num) (s : ℕ) → All (IsPivotRow kind n) pivots → IsFor kind K (number_of kind) reads n (reduce K (table_of K (number_of kind) pivots) n (vector_in kind v)) left → lead_of left ≡ Some s →
+  lead_free : (pivots : List PivotRow) (v left : List Num) (s : ℕ) → All (IsPivotRow kind n) pivots →
+      IsFor kind K (number_of kind) reads n (reduce K (table_of K (number_of kind) pivots) n (vector_in kind v)) left → lead_of left ≡ Some s →
       find (stands_at s) pivots ≡ None
   lead_free pivots v left s all h e = go (find (stands_at s) pivots) refl
     where
@@ -154,18 +164,28 @@ module _ (kind : Kind) (listed : IsField kind) (n : ℕ) where
           let k = lead_is left (length left) s e in
           let inside : s - 1 < length left = (let a = k.from_one in let b = k.to_end in omega (arith, a, b)) in
           let at : table_of K (number_of kind) pivots (s - 1) ≡ Some (vector_in kind q.row) =
-          ap (λ t. option_map (λ p. vector_in kind p.row) (find (stands_at t) pivots)) (let a = k.from_one in let b : s - 1 + 1 ≡ s = omega (arith, a) in b) ∙ ap (option_map (λ p. vector_in kind p.row)) f in
-          let zero = reduce_clears K n (table_of K (number_of kind) pivots) (pivots_echelon kind K (number_of kind) reads listed n pivots all).has_lead n (s - 1) (vector_in kind q.row) (vector_in kind v) (let l = h.length_is in omega (arith, inside, l)) at in
-          let nought = is_nought_from kind K (number_of kind) reads (get_or left (s - 1) (residue 0)) (h.elements (s - 1) (residue 0) inside) (sym (at_place kind K (number_of kind) reads left (s - 1) (residue 0) inside) ∙ ap (λ w. w (s - 1)) h.vector ∙ zero) in
+          ap (λ t. option_map (λ p. vector_in kind p.row) (find (stands_at t) pivots))
+          (let a = k.from_one in let b : s - 1 + 1 ≡ s = omega (arith, a) in b) ∙ ap (option_map (λ p. vector_in kind p.row)) f in
+          let zero = reduce_clears K n (table_of K (number_of kind) pivots)
+          (pivots_echelon kind K (number_of kind) reads listed n pivots all).has_lead n (s - 1) (vector_in kind q.row) (vector_in kind v)
+          (let l = h.length_is in omega (arith, inside, l)) at in
+          let nought = is_nought_from kind K (number_of kind) reads (get_or left (s - 1) (residue 0)) (h.elements (s - 1) (residue 0) inside)
+          (sym (at_place kind K (number_of kind) reads left (s - 1) (residue 0) inside) ∙ ap (λ w. w (s - 1)) h.vector ∙ zero) in
           absurd (differ nought k.leads)
         where
           differ : {b : Bool} → b ≡ true → b ≡ false → ⊥
           differ e f = cc
 
-  keep_counts : (h g : Held) (o : Origin) (x : Swept) (lead : Option ℕ) → Counted h → IsRowOf kind n x.row → lead_of x.row ≡ lead → ((s : ℕ) → lead ≡ Some s → find (stands_at s) h.pivots ≡ None) → keep_of kind h o x lead ≡ Ok g → Counted g
+  keep_counts : (h g : Held) (o : Origin) (x : Swept) (lead : Option ℕ) → Counted h → IsRowOf kind n x.row → lead_of x.row ≡ lead →
+      ((s : ℕ) → lead ≡ Some s → find (stands_at s) h.pivots ≡ None) → keep_of kind h o x lead ≡ Ok g → Counted g
   unfolding keeps
   keep_counts h g o x None c is l free e =
-      subst Counted (ok_same e) (record { places_are = c.places_are; steps_are = (let k = kept_more h.steps (Insert o x.terms (residue 0)) in let a = c.steps_are in omega (arith, k, a)) })
+      subst Counted (ok_same e)
+      (record {
+        places_are = c.places_are;
+        steps_are = (let k = kept_more h.steps (Insert o x.terms (residue 0)) in let a = c.steps_are in omega
+            (arith, k, a));
+      })
   keep_counts h g o x (Some s) c is l free e =
       let a = get_or x.row (s - 1) (residue 0) in
       let f = part_fits _ (scale_of kind (inverse_of kind a) x.row) g e in
@@ -175,17 +195,21 @@ module _ (kind : Kind) (listed : IsField kind) (n : ℕ) where
       let q : PivotRow = record { lead = s; step = length h.steps + 1; row = f.0 } in
       let longer = length-append h.pivots (q ∷ []) in
       subst Counted (sym f.1.1) (record {
-        places_are = (let m = places_more h.pivots q n (free s refl) t.from_one (let v = t.to_end in let w = is.length_is in omega (arith, v, w)) in let b = c.places_are in omega (arith, m, b, longer));
+        places_are = (let m = places_more h.pivots q n (free s refl) t.from_one
+            (let v = t.to_end in let w = is.length_is in omega (arith, v, w)) in let b = c.places_are in omega (arith, m, b, longer));
         steps_are = (let k = kept_more h.steps (Insert o x.terms (inverse_of kind a)) in let b = c.steps_are in omega (arith, k, b, one, longer));
       })
 
-  insert_counts : (h : Held) (o : Origin) (row : List Num) (r : Inserted) → All (IsPivotRow kind n) h.pivots → IsRowOf kind n row → Counted h → insert_of (record { kind = kind; size = n; held = h }) row o ≡ Ok r → Counted r.held
+  insert_counts : (h : Held) (o : Origin) (row : List Num) (r : Inserted) → All (IsPivotRow kind n) h.pivots → IsRowOf kind n row → Counted h →
+      insert_of (record { kind = kind; size = n; held = h }) row o ≡ Ok r → Counted r.held
   insert_counts h o row r all is c e =
       let f = first_fits _ (sweep_of kind h.pivots n (record { row = row; terms = [] })) r e in
-      let q = sweep_reads kind K (number_of kind) reads h.pivots n n (λ i. vzero K) (record { row = row; terms = [] }) f.0 all (omega arith) is.elements is.length_is f.1.0 in
+      let q = sweep_reads kind K (number_of kind) reads h.pivots n n (λ i. vzero K) (record { row = row; terms = [] }) f.0 all
+      (omega arith) is.elements is.length_is f.1.0 in
       let k = part_fits _ (keep_of kind h o f.0 (lead_of f.0.row)) r f.1.1 in
       subst (λ r. Counted r.held) (sym k.1.1)
-      (keep_counts h k.0 o f.0 (lead_of f.0.row) c (record { elements = q.left.elements; length_is = q.left.length_is }) refl (λ s l. lead_free h.pivots row f.0.row s all q.left l) k.1.0)
+      (keep_counts h k.0 o f.0 (lead_of f.0.row) c (record { elements = q.left.elements; length_is = q.left.length_is }) refl
+      (λ s l. lead_free h.pivots row f.0.row s all q.left l) k.1.0)
 
 module _ (T : PlainTable) (p : Presentation) (listed : IsField T.kind) (sources : HaveRows T p (length (symbols_in T))) where
   abbrev size : ℕ
@@ -195,7 +219,8 @@ module _ (T : PlainTable) (p : Presentation) (listed : IsField T.kind) (sources 
     same_size : e.size ≡ size
     counted : Counted T.kind listed size e.held
 
-  gathers : (os : List Origin) (h : Held) (e : Elimination) → ((o : Origin) → Contains os o → Contains (origins_of T p) o) → All (IsPivotRow T.kind size) h.pivots → Counted T.kind listed size h →
+  gathers : (os : List Origin) (h : Held) (e : Elimination) → ((o : Origin) → Contains os o → Contains (origins_of T p) o) →
+      All (IsPivotRow T.kind size) h.pivots → Counted T.kind listed size h →
       gather T p os (record { kind = T.kind; size = size; held = h }) ≡ Ok e → Gathers e
   gathers [] h e within all c eq = subst Gathers (ok_same eq) (record { same_size = refl; counted = c })
   gathers (o ∷ os) h e within all c eq =
@@ -210,7 +235,8 @@ module _ (T : PlainTable) (p : Presentation) (listed : IsField T.kind) (sources 
   unfolding kept_count
   inserts_counted h run =
       let r = run_parts T p h run in
-      let g = gathers (origins_of T p) (record { pivots = []; steps = [] }) r.gathered (λ o c. c) (λ i d l. absurd (omega (arith, l))) (record { places_are = no_places size; steps_are = refl }) r.gathers in
+      let g = gathers (origins_of T p) (record { pivots = []; steps = [] }) r.gathered (λ o c. c) (λ i d l. absurd (omega (arith, l)))
+      (record { places_are = no_places size; steps_are = refl }) r.gathers in
       let c = closes_all r.gathered.kind r.gathered.held.pivots r.gathered.size (record { pivots = []; steps = r.gathered.held.steps }) h r.closes in
       let a = slim_kept [] 0 h.steps in
       let d = g.counted.places_are in

@@ -40,7 +40,7 @@ use Rattle.plain_sections.proofs.Numbered.{run_numbers}
 use Rattle.plain_sections.proofs.Counted.{inserts_counted}
 use Rattle.fpl_check.specs.ClosedRows.{close_count}
 use Rattle.fpl_check.proofs.ListedOrigins.{demanded}
-use Rattle.fpl_check.proofs.PassedTests.{same_count}
+use Rattle.fpl_check.proofs.PassedRows.{same_count}
 use Rattle.plain_sections.specs.Valid.{insert_count}
 
 module _ (p : Presentation) (T : PlainTable) (holds : Holds p T) where
@@ -64,27 +64,40 @@ pub slim_is_accepted : SlimIsAccepted
 slim_is_accepted p T s rows holds is e =
     let n = length (origins_of T p) in
     let h = accepted_parts T p s rows e in
-    let slim = slim_parts T p (is_field p T holds) (origin_rows p T holds) s (Some n) (count_passes n (Some n) (inr refl)) (held_in_order p T s rows holds is e) is.numbers.steps h.0 in
+    let slim = slim_parts T p (is_field p T holds) (origin_rows p T holds) s (Some n) (count_passes n (Some n) (inr refl))
+    (held_in_order p T s rows holds is e) is.numbers.steps h.0 in
     subst (Accepts T p (slimmed T p s)) h.1 (accepts_whole T p (slimmed T p s) slim)
 
 pub slim_is_for : SlimIsFor
-slim_is_for p T s is = record { weight = is.weight; numbers = record { steps = slim_numbers T.kind [] 0 s.steps is.numbers.steps; closed = is.numbers.closed }; few = is.few }
+slim_is_for p T s is = record {
+  weight = is.weight;
+  numbers = record { steps = slim_numbers T.kind [] 0 s.steps is.numbers.steps; closed = is.numbers.closed };
+  few = is.few;
+}
 
 pub slim_is_slim : SlimIsSlim
-slim_is_slim p T s order = ap (λ steps. record { weight = s.weight; origins = Some (length (origins_of T p)); steps = steps; closed = s.closed }) (slim_again s.steps order)
+slim_is_slim p T s order = ap (λ steps. record { weight = s.weight; origins = Some (length (origins_of T p)); steps = steps; closed = s.closed })
+    (slim_again s.steps order)
 
 pub whole_is_accepted : WholeIsAccepted
-whole_is_accepted p T h origins holds tells run = whole_accepted T p (is_field p T holds) (origin_rows p T holds) origins h (count_passes (length (origins_of T p)) origins tells) run
+whole_is_accepted p T h origins holds tells run = whole_accepted T p (is_field p T holds) (origin_rows p T holds) origins h
+    (count_passes (length (origins_of T p)) origins tells) run
+
+pub held_is_accepted : (p : Presentation) (T : PlainTable) (h : Held) → Holds p T → close_weight T p ≡ Ok h → Accepts T p (section_of T p h) (rows_of h.pivots)
+held_is_accepted p T h holds run =
+    let n = length (origins_of T p) in
+    let count = count_passes n (Some n) (inr refl) in
+    let numbers = run_numbers T p (is_field p T holds) (origin_rows p T holds) h run in
+    let w = whole_parts T p (is_field p T holds) (origin_rows p T holds) (Some n) h count run in
+    let slim = slim_parts T p (is_field p T holds) (origin_rows p T holds) (whole_section T (Some n) h) (Some n) count
+    (weighed_in_order p T holds h run) numbers w.0 in
+    subst (Accepts T p (section_of T p h)) w.1 (accepts_whole T p (section_of T p h) slim)
 
 pub section_is_accepted : SectionIsAccepted
 section_is_accepted p T s holds e =
-    let n = length (origins_of T p) in
-    let count = count_passes n (Some n) (inr refl) in
-    let c = computed p T holds s e in
-    let w = whole_parts T p (is_field p T holds) (origin_rows p T holds) (Some n) c.held count c.run in
-    let slim = slim_parts T p (is_field p T holds) (origin_rows p T holds) (whole_section T (Some n) c.held) (Some n) count (weighed_in_order p T holds c.held c.run) (run_numbers T p (is_field p T holds) (origin_rows p T holds) c.held c.run) w.0 in (
+    let c = computed p T holds s e in (
       rows_of c.held.pivots,
-      subst (λ s. Accepts T p s (rows_of c.held.pivots)) (sym c.is) (subst (Accepts T p (section_of T p c.held)) w.1 (accepts_whole T p (section_of T p c.held) slim)),
+      subst (λ s. Accepts T p s (rows_of c.held.pivots)) (sym c.is) (held_is_accepted p T c.held holds c.run),
       ap (map_ok (λ h. push_of T (rows_of h.pivots))) c.run,
     )
 
@@ -97,20 +110,24 @@ coefficients_are : (kind : Kind) (s : ℕ) (row : List Num) → AreElements kind
 coefficients_are kind s [] all = λ i d l. absurd (omega (arith, l))
 coefficients_are kind s (c ∷ cs) all = go (is_nought c) (coefficients_are kind (s + 1) cs (all_tail (IsElement kind) c cs all))
   where
-    go : (b : Bool) → AreCoefficientsOf kind (coefficients_from (s + 1) cs) → AreCoefficientsOf kind (if b then coefficients_from (s + 1) cs else coefficient s c ∷ coefficients_from (s + 1) cs)
+    go : (b : Bool) → AreCoefficientsOf kind (coefficients_from (s + 1) cs) →
+        AreCoefficientsOf kind (if b then coefficients_from (s + 1) cs else coefficient s c ∷ coefficients_from (s + 1) cs)
     go true h = h
     go false h = all_cons (λ (c : Coefficient). IsElement kind c.number) (coefficient s c) (coefficients_from (s + 1) cs) (all_head (IsElement kind) c cs all) h
 
 all_coefficients : (kind : Kind) (n : ℕ) (rows : List (List Num)) → AreRows kind n rows → All (AreCoefficientsOf kind) (closed_list rows)
 all_coefficients kind n [] all = λ i d l. absurd (omega (arith, l))
 all_coefficients kind n (row ∷ rows) all =
-    all_cons (AreCoefficientsOf kind) (coefficients_from 1 row) (closed_list rows) (coefficients_are kind 1 row (all_head (IsRowOf kind n) row rows all).elements) (all_coefficients kind n rows (all_tail (IsRowOf kind n) row rows all))
+    all_cons (AreCoefficientsOf kind) (coefficients_from 1 row) (closed_list rows)
+    (coefficients_are kind 1 row (all_head (IsRowOf kind n) row rows all).elements) (all_coefficients kind n rows (all_tail (IsRowOf kind n) row rows all))
 
 -- a weight has no more closed rows than symbols
-pub few_closed : (p : Presentation) (T : PlainTable) (h : Held) → Holds p T → close_weight T p ≡ Ok h → length (closed_list (rows_of h.pivots)) ≤ length (symbols_in T)
+pub few_closed : (p : Presentation) (T : PlainTable) (h : Held) → Holds p T → close_weight T p ≡ Ok h →
+    length (closed_list (rows_of h.pivots)) ≤ length (symbols_in T)
 few_closed p T h holds run =
     let up = as_few 0 (length (symbols_in T)) h.pivots (ascending T p (is_field p T holds) (origin_rows p T holds) h run).up in
-    let long : length (closed_list (rows_of h.pivots)) ≡ length h.pivots = length-map (rows_of h.pivots) (coefficients_from 1) ∙ length-map h.pivots (λ q. q.row) in
+    let long : length (closed_list (rows_of h.pivots)) ≡ length h.pivots =
+    length-map (rows_of h.pivots) (coefficients_from 1) ∙ length-map h.pivots (λ q. q.row) in
     omega (arith, up, long)
 
 pub section_is_for : SectionIsFor
@@ -131,7 +148,8 @@ section_is_for p T s holds few e =
 pub section_is_slim : SectionIsSlim
 section_is_slim p T s holds e =
     let c = computed p T holds s e in
-    subst (λ s. slimmed T p s ≡ s) (sym c.is) (slim_is_slim p T (whole_section T (Some (length (origins_of T p))) c.held) (weighed_in_order p T holds c.held c.run))
+    subst (λ s. slimmed T p s ≡ s) (sym c.is)
+    (slim_is_slim p T (whole_section T (Some (length (origins_of T p))) c.held) (weighed_in_order p T holds c.held c.run))
 
 pub one_step_each : OneStepEach
 one_step_each p T s holds e =
@@ -140,5 +158,8 @@ one_step_each p T s holds e =
     let inserts = inserts_counted T p (is_field p T holds) (origin_rows p T holds) c.held c.run in
     let long : length (closed_list rows) ≡ length c.held.pivots = length-map rows (coefficients_from 1) ∙ length-map c.held.pivots (λ q. q.row) in
     let accepted = section_is_accepted p T s holds e in
-    let h = accepted_parts T p s accepted.0 accepted.1 in
-    (subst (λ s. insert_count s.steps ≡ length s.closed) (sym c.is) (inserts ∙ sym long), same_count (close_count s.steps) (length s.closed) (demanded _ _ _ h.0.closes))
+    let h = accepted_parts T p s accepted.0 accepted.1 in (
+      subst (λ s. insert_count s.steps ≡ length s.closed) (sym c.is) (inserts ∙ sym long),
+      same_count (close_count s.steps) (length s.closed)
+          (demanded _ _ _ h.0.closes),
+    )

@@ -36,7 +36,7 @@ use Rattle.fpl_check.specs.ClosedRows.{close_rows}
 use Rattle.fpl_check.specs.Check.{Accepts, rows_stored}
 use Rattle.fpl_check.proofs.Loops.{both_true}
 use Rattle.fpl_check.proofs.ListedOrigins.{named_within, terms_pass}
-use Rattle.fpl_check.proofs.PassedTests.{zero_is}
+use Rattle.fpl_check.proofs.PassedRows.{zero_is}
 use Rattle.fpl_check.proofs.StepParts.{all_cited, CloseParts}
 use Rattle.fpl_check.proofs.Conclusions.{Concludes, HaveRows, rows_more}
 use Rattle.plain_sections.proofs.Accepted.{accepted_parts, stored_are_concluded, stored_are_closed}
@@ -58,7 +58,12 @@ is_there [] (suc k) x d rest e = absurd (let z : ⊥ = cc in z)
 is_there (y ∷ ys) zero x d rest e =
     let f : y ≡ x = cc in
     record { inside = omega arith; found = ap Some f; got = f; after = (let g : ys ≡ rest = cc in g) }
-is_there (y ∷ ys) (suc k) x d rest e = let h = is_there ys k x d rest e in record { inside = omega (arith, h.inside); found = h.found; got = h.got; after = ap (λ i. drop i (y ∷ ys)) (let g : suc k + 1 ≡ suc (k + 1) = omega arith in g) ∙ h.after }
+is_there (y ∷ ys) (suc k) x d rest e = let h = is_there ys k x d rest e in record {
+  inside = omega (arith, h.inside);
+  found = h.found;
+  got = h.got;
+  after = ap (λ i. drop i (y ∷ ys)) (let g : suc k + 1 ≡ suc (k + 1) = omega arith in g) ∙ h.after;
+}
 
 module _ (K : Field) (value : Num → K.Carrier) where
   -- a sum of terms is 0 where the rows that they name are
@@ -66,7 +71,8 @@ module _ (K : Field) (value : Num → K.Carrier) where
   unfolding terms_sum vzero vplus scale
   sum_at f q [] all = refl
   sum_at f q (t ∷ ts) all =
-      ap₂ K.plus (ap (K.times (value t.factor)) (all_head (λ t. f t.step q ≡ K.nought) t ts all) ∙ times-nought K (value t.factor)) (sum_at f q ts (all_tail (λ t. f t.step q ≡ K.nought) t ts all))
+      ap₂ K.plus (ap (K.times (value t.factor)) (all_head (λ t. f t.step q ≡ K.nought) t ts all) ∙ times-nought K (value t.factor))
+      (sum_at f q ts (all_tail (λ t. f t.step q ≡ K.nought) t ts all))
       ∙ K.plus-nought K.nought
 
   less_at : (v t : Vector K) (q : ℕ) → v q ≡ K.nought → t q ≡ K.nought → vplus K v (scale K (K.minus K.unit) t) q ≡ K.nought
@@ -82,20 +88,24 @@ pub record Kept (numbers : List (Option ℕ)) (earlier : List (List Num)) : Type
   pub same_length : length numbers ≡ length earlier
   pub zero_row : (i : ℕ) → i < length earlier → get_or numbers i None ≡ None → lead_of (get_or earlier i []) ≡ None
 
-pub kept_more : (numbers : List (Option ℕ)) (earlier : List (List Num)) (o : Option ℕ) (row : List Num) → Kept numbers earlier → (o ≡ None → lead_of row ≡ None) → Kept (numbers ++ o ∷ []) (earlier ++ row ∷ [])
+pub kept_more : (numbers : List (Option ℕ)) (earlier : List (List Num)) (o : Option ℕ) (row : List Num) → Kept numbers earlier →
+    (o ≡ None → lead_of row ≡ None) → Kept (numbers ++ o ∷ []) (earlier ++ row ∷ [])
 kept_more numbers earlier o row h zero_now = record {
   same_length = length-append numbers (o ∷ []) ∙ ap (λ k. k + 1) h.same_length ∙ sym (length-append earlier (row ∷ []));
   zero_row = λ i l. at i l (ℕ_discrete i (length earlier));
 }
   where
-    at : (i : ℕ) → i < length (earlier ++ row ∷ []) → Dec (i ≡ length earlier) → get_or (numbers ++ o ∷ []) i None ≡ None → lead_of (get_or (earlier ++ row ∷ []) i []) ≡ None
+    at : (i : ℕ) → i < length (earlier ++ row ∷ []) → Dec (i ≡ length earlier) → get_or (numbers ++ o ∷ []) i None ≡ None →
+        lead_of (get_or (earlier ++ row ∷ []) i []) ≡ None
     at i l (yes d) e =
         ap lead_of (get_or_push earlier row [] i (sym d)) ∙ zero_now (sym (get_or_push numbers o None i (h.same_length ∙ sym d)) ∙ e)
     at i l (no d) e =
         let below : i < length earlier = (let k = length-append earlier (row ∷ []) in omega (arith, l, d, k)) in
-        ap lead_of (get_or_append_left earlier (row ∷ []) [] i below) ∙ h.zero_row i below (sym (get_or_append_left numbers (o ∷ []) None i (let k = h.same_length in omega (arith, below, k))) ∙ e)
+        ap lead_of (get_or_append_left earlier (row ∷ []) [] i below)
+        ∙ h.zero_row i below (sym (get_or_append_left numbers (o ∷ []) None i (let k = h.same_length in omega (arith, below, k))) ∙ e)
 
-module _ (T : PlainTable) (p : Presentation) (listed : IsField T.kind) (n : ℕ) (sources : HaveRows T p n) (steps : List Step) (rows : List (List Num)) (closed : IsClosedList T.kind n rows) where
+module _ (T : PlainTable) (p : Presentation) (listed : IsField T.kind) (n : ℕ) (sources : HaveRows T p n) (steps : List Step) (rows : List (List Num))
+    (closed : IsClosedList T.kind n rows) where
   abbrev K : Field
   K = field_of T.kind
 
@@ -109,7 +119,8 @@ module _ (T : PlainTable) (p : Presentation) (listed : IsField T.kind) (n : ℕ)
   AreFirst : ℕ → List (List Num) → Type 0
   AreFirst k earlier = (i : ℕ) → i < length earlier → is_close (slice_get steps i) ≡ true → (j : ℕ) × ((j < k) × (get_or rows j [] ≡ get_or earlier i []))
 
-  first_more : (k k' : ℕ) (earlier : List (List Num)) (row : List Num) → k ≤ k' → AreFirst k earlier → (is_close (slice_get steps (length earlier)) ≡ true → (k < k') × (get_or rows k [] ≡ row)) → AreFirst k' (earlier ++ row ∷ [])
+  first_more : (k k' : ℕ) (earlier : List (List Num)) (row : List Num) → k ≤ k' → AreFirst k earlier →
+      (is_close (slice_get steps (length earlier)) ≡ true → (k < k') × (get_or rows k [] ≡ row)) → AreFirst k' (earlier ++ row ∷ [])
   unfolding AreFirst
   first_more k k' earlier row most h now i l e = at (ℕ_discrete i (length earlier))
     where
@@ -121,11 +132,14 @@ module _ (T : PlainTable) (p : Presentation) (listed : IsField T.kind) (n : ℕ)
           (a.0, ((let b = a.1.0 in omega (arith, b, most)), a.1.1 ∙ sym (get_or_append_left earlier (row ∷ []) [] i below)))
 
   -- what a Close step closes is not left out
-  closed_kept : (earlier : List (List Num)) (numbers : List (Option ℕ)) (k of : ℕ) (terms : List Term) (row : List Num) → AreRows T.kind n earlier → Kept numbers earlier → AreFirst k earlier → k < length rows → get_or rows k [] ≡ row →
+  closed_kept : (earlier : List (List Num)) (numbers : List (Option ℕ)) (k of : ℕ) (terms : List Term) (row : List Num) → AreRows T.kind n earlier →
+      Kept numbers earlier → AreFirst k earlier → k < length rows → get_or rows k [] ≡ row →
       AreFactorsOf T.kind terms → CloseParts T p steps earlier of terms row → new_number numbers of ≢ None
   unfolding AreFirst
   closed_kept earlier numbers k of terms row are kept first l at factors h left =
-      K.unit≢nought (sym (closed.closed.leads k l) ∙ ap (λ v. v q) (ap (vector_in T.kind) at ∙ means) ∙ less_at K value (vector_in T.kind start) (terms_sum K value (cited K value done) terms) q start_at (sum_at K value (cited K value done) q terms each))
+      K.unit≢nought (sym (closed.closed.leads k l) ∙ ap (λ v. v q) (ap (vector_in T.kind) at ∙ means)
+      ∙ less_at K value (vector_in T.kind start) (terms_sum K value (cited K value done) terms) q start_at
+      (sum_at K value (cited K value done) q terms each))
     where
       q : ℕ
       q = pivot_in rows k
@@ -152,7 +166,8 @@ module _ (T : PlainTable) (p : Presentation) (listed : IsField T.kind) (n : ℕ)
       terms_are = terms_pass T.kind Closes steps (length earlier) terms factors h.cites
 
       means : vector_in T.kind row ≡ vplus K (vector_in T.kind start) (scale K (K.minus K.unit) (terms_sum K value (cited K value done) terms))
-      means = conclusion_means T.kind earlier start row terms None listed is.elements (subst (λ w. AreRows T.kind w earlier) (sym is.length_is) are) terms_are (λ c e. absurd (none_some e)) h.concludes
+      means = conclusion_means T.kind earlier start row terms None listed is.elements
+          (subst (λ w. AreRows T.kind w earlier) (sym is.length_is) are) terms_are (λ c e. absurd (none_some e)) h.concludes
 
       each : All (λ t. cited K value done t.step q ≡ K.nought) terms
       each i d m =
@@ -162,15 +177,19 @@ module _ (T : PlainTable) (p : Presentation) (listed : IsField T.kind) (n : ℕ)
           let inside : t.step - 1 < length earlier = (let a = within.0 in let b = within.1 in omega (arith, a, b)) in
           let j = first (t.step - 1) inside (both_true _ (is_close (slice_get steps (t.step - 1))) named).1 in
           let other : j.0 ≢ k = (let b = j.1.0 in omega (arith, b)) in
-          ap (λ v. v q) (get_or-map (vector_in T.kind) earlier (t.step - 1) [] (vzero K) inside ∙ ap (vector_in T.kind) (sym j.1.1)) ∙ closed.closed.apart j.0 k (let b = j.1.0 in omega (arith, b, l)) l other
+          ap (λ v. v q) (get_or-map (vector_in T.kind) earlier (t.step - 1) [] (vzero K) inside ∙ ap (vector_in T.kind) (sym j.1.1))
+          ∙ closed.closed.apart j.0 k (let b = j.1.0 in omega (arith, b, l)) l other
 
-  cites_earlier : (sort : Cited) (earlier : List (List Num)) (numbers : List (Option ℕ)) (ts : List Term) → Kept numbers earlier → test_cites (named sort steps (length earlier + 1)) (length earlier + 1) ts ≡ Ok tt → All (λ t. IsEarlier (length numbers) t.step) ts
+  cites_earlier : (sort : Cited) (earlier : List (List Num)) (numbers : List (Option ℕ)) (ts : List Term) → Kept numbers earlier →
+      test_cites (named sort steps (length earlier + 1)) (length earlier + 1) ts ≡ Ok tt → All (λ t. IsEarlier (length numbers) t.step) ts
   cites_earlier sort earlier numbers ts kept e i d l =
-      let a = named_within sort steps (length earlier) (get_or ts i d).step (all_cited (named sort steps (length earlier + 1)) (length earlier + 1) ts e i d l) in
+      let a = named_within sort steps (length earlier) (get_or ts i d).step
+      (all_cited (named sort steps (length earlier + 1)) (length earlier + 1) ts e i d l) in
       record { from_one = a.0; to_end = (let b = a.1 in let c = kept.same_length in omega (arith, b, c)) }
 
   -- the steps that are left, where the rows that are left are the conclusions of their Close steps
-  order : (ss : List Step) (rest earlier : List (List Num)) (numbers : List (Option ℕ)) (count k : ℕ) → Concludes T p steps earlier ss rest → drop (length earlier) steps ≡ ss → drop k rows ≡ close_rows ss rest →
+  order : (ss : List Step) (rest earlier : List (List Num)) (numbers : List (Option ℕ)) (count k : ℕ) → Concludes T p steps earlier ss rest →
+      drop (length earlier) steps ≡ ss → drop k rows ≡ close_rows ss rest →
       Kept numbers earlier → AreFirst k earlier → AreRows T.kind n earlier → All (HasNumbersOf T.kind) ss → AreInOrder numbers count ss
   order [] rest earlier numbers count k h from left kept first are all = tt
   order (s ∷ ss) [] earlier numbers count k h from left kept first are all = absurd h
@@ -181,7 +200,8 @@ module _ (T : PlainTable) (p : Presentation) (listed : IsField T.kind) (n : ℕ)
             (ap (λ m. drop m steps) (length-append earlier (row ∷ [])) ∙ here.after) left
             (kept_more numbers earlier (next_number (is_nought c) count) row kept (zero_now (is_nought c) refl))
             (first_more k k earlier row (omega arith) first (λ e. absurd (not_close (ap is_close here.found) e)))
-            (rows_more T p listed n sources steps earlier (Insert o terms c) row are (all_head (HasNumbersOf T.kind) (Insert o terms c) ss all) h.0) (all_tail (HasNumbersOf T.kind) (Insert o terms c) ss all),
+            (rows_more T p listed n sources steps earlier (Insert o terms c) row are (all_head (HasNumbersOf T.kind) (Insert o terms c) ss all) h.0)
+            (all_tail (HasNumbersOf T.kind) (Insert o terms c) ss all),
       )
     where
       zero_now : (b : Bool) → is_nought c ≡ b → next_number b count ≡ None → lead_of row ≡ None
@@ -212,5 +232,7 @@ module _ (T : PlainTable) (p : Presentation) (listed : IsField T.kind) (sources 
   unfolding AreFirst
   accepted_in_order s rows is e =
       let h = (accepted_parts T p s rows e).0 in
-      order T p listed (length (symbols_in T)) sources s.steps (rows_stored T s) (stored_are_closed T p listed sources s is h) s.steps h.conclusions [] [] 0 0 h.conclude refl
-      (stored_are_concluded T p listed sources s is h) (record { same_length = refl; zero_row = λ i l. absurd (omega (arith, l)) }) (λ i l. absurd (omega (arith, l))) (λ i d l. absurd (omega (arith, l))) is.numbers.steps
+      order T p listed (length (symbols_in T)) sources s.steps (rows_stored T s) (stored_are_closed T p listed sources s is h) s.steps h.conclusions []
+      [] 0 0 h.conclude refl
+      (stored_are_concluded T p listed sources s is h) (record { same_length = refl; zero_row = λ i l. absurd (omega (arith, l)) })
+      (λ i l. absurd (omega (arith, l))) (λ i d l. absurd (omega (arith, l))) is.numbers.steps

@@ -11,10 +11,11 @@ use Rattle.fpl_model.specs.declared.presentation.Presentation.{Presentation}
 use Rattle.fpl_log.specs.declared.step.Origin.{Origin}
 use Rattle.fpl_log.proofs.TermsTaken.{past_end}
 use Rattle.fpl_table.specs.Plain.{PlainTable}
-use Rattle.fpl_rewrite.specs.Origins.{relation_weight, is_exactly, is_triple, is_cube, is_three, origins_of}
+use Rattle.fpl_model.specs.Degrees.{is_exactly}
+use Rattle.fpl_rewrite.specs.Origins.{relation_weight, is_triple, is_cube, is_three, origins_of}
 use Rattle.plain_sources.proofs.Pairs.{parity}
 use Rattle.plain_sources.proofs.Listed.{IsTriple, IsCube, IsListed, listed_relation, listed_triple, listed_cube, listed}
-use Rattle.fpl_check.proofs.Loops.{and_true}
+use Rattle.fpl_check.proofs.RowLoops.{and_true}
 use Rattle.plain_sections.proofs.Tests.{most_true}
 use Rattle.fpl_check.specs.Steps.{weighs_next, is_origin}
 
@@ -31,7 +32,8 @@ module _ (T : PlainTable) where
   back : (i : ℕ) → i ≡ i + 1 - 1
   back i = omega arith
 
-  weighs : (p : Presentation) (k : ℕ) → k < length p.relations → ((d : Equation) → relation_weight T (get_or p.relations k d) ≡ exact (suc T.weight)) → (o : Option Equation) → slice_get p.relations k ≡ o → weighs_next T o ≡ true
+  weighs : (p : Presentation) (k : ℕ) → k < length p.relations → ((d : Equation) → relation_weight T (get_or p.relations k d) ≡ exact (suc T.weight)) →
+      (o : Option Equation) → slice_get p.relations k ≡ o → weighs_next T o ≡ true
   weighs p k l h None e = absurd (let a = past_end p.relations k (sym e) in omega (arith, l, a))
   weighs p k l h (Some q) e = ap (is_exactly (T.weight + 1)) (sym (ap (relation_weight T) (get_or_from_slice_get p.relations k q q e)) ∙ h q) ∙ exactly_next
 
@@ -43,10 +45,13 @@ module _ (T : PlainTable) where
       let a = h.first in
       let b = h.second in
       let c = h.third in
-      and_true _ _ (and_true _ _ (and_true _ _ (and_true _ _ (most_true 1 (i + 1) (omega arith)) (most_true (i + 1) (j + 1) (omega (arith, a)))) (most_true (j + 1) (k + 1) (omega (arith, b)))) (most_true (k + 1) (length T.basis) (omega (arith, c))))
-      (subst (λ w. is_triple T (i + 1 - 1) (j + 1 - 1) w ≡ true) (back k) (subst (λ w. is_triple T (i + 1 - 1) w k ≡ true) (back j) (subst (λ w. is_triple T w j k ≡ true) (back i) (triple_named i j k h))))
+      and_true _ _ (and_true _ _ (and_true _ _ (and_true _ _ (most_true 1 (i + 1) (omega arith)) (most_true (i + 1) (j + 1) (omega (arith, a))))
+      (most_true (j + 1) (k + 1) (omega (arith, b)))) (most_true (k + 1) (length T.basis) (omega (arith, c))))
+      (subst (λ w. is_triple T (i + 1 - 1) (j + 1 - 1) w ≡ true) (back k)
+      (subst (λ w. is_triple T (i + 1 - 1) w k ≡ true) (back j) (subst (λ w. is_triple T w j k ≡ true) (back i) (triple_named i j k h))))
   listed_named p _ (listed_cube i h) =
-      and_true _ _ (and_true _ _ (and_true _ _ (ap is_three h.three) (most_true 1 (i + 1) (omega arith))) (most_true (i + 1) (length T.basis) (let l = h.below in omega (arith, l)))) (subst (λ w. is_cube T w ≡ true) (back i) (cube_named i h))
+      and_true _ _ (and_true _ _ (and_true _ _ (ap is_three h.three) (most_true 1 (i + 1) (omega arith)))
+      (most_true (i + 1) (length T.basis) (let l = h.below in omega (arith, l)))) (subst (λ w. is_cube T w ≡ true) (back i) (cube_named i h))
 
   pub origin_named : (p : Presentation) (o : Origin) → Contains (origins_of T p) o → is_origin T p o ≡ true
   origin_named p o c = listed_named p o (listed T p o c)

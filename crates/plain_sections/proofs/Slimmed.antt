@@ -17,7 +17,7 @@ use Rattle.fpl_check.specs.Check.{test_count, rows_stored}
 use Rattle.fpl_check.proofs.ListedOrigins.{demanded}
 use Rattle.fpl_check.proofs.Conclusions.{HaveRows}
 use Rattle.plain_sections.proofs.Accepted.{AcceptedParts, as_many}
-use Rattle.fpl_check.proofs.PassedTests.{close_length, same_count}
+use Rattle.fpl_check.proofs.PassedRows.{close_length, same_count}
 use Rattle.plain_sections.proofs.Tests.{same_true}
 use Rattle.plain_sections.proofs.Slimming.{slim_concludes}
 
@@ -25,14 +25,16 @@ abbrev pub with_steps : Section → Option ℕ → List Step → Section
 with_steps s origins steps = record { weight = s.weight; origins = origins; steps = steps; closed = s.closed }
 
 module _ (T : PlainTable) (p : Presentation) (listed : IsField T.kind) (sources : HaveRows T p (length (symbols_in T))) where
-  pub slim_parts : (s : Section) (origins : Option ℕ) → test_count origins (length (origins_of T p)) ≡ Ok tt → AreInOrder [] 0 s.steps → All (HasNumbersOf T.kind) s.steps → AcceptedParts T p s →
+  pub slim_parts : (s : Section) (origins : Option ℕ) → test_count origins (length (origins_of T p)) ≡ Ok tt → AreInOrder [] 0 s.steps →
+      All (HasNumbersOf T.kind) s.steps → AcceptedParts T p s →
       AcceptedParts T p (with_steps s origins (slim_steps [] 0 s.steps))
   slim_parts s origins count order numbers h =
       let slim = slim_steps [] 0 s.steps in
       let c = slim_concludes T p listed (length (symbols_in T)) sources s.steps h.conclusions h.conclude order numbers in
       let closes : close_count slim ≡ length s.closed =
       sym (close_length slim c.rest (as_many T p (with_steps s origins slim) slim [] c.rest c.conclude)) ∙ ap length c.closes_are
-      ∙ close_length s.steps h.conclusions (as_many T p s s.steps [] h.conclusions h.conclude) ∙ same_count (close_count s.steps) (length s.closed) (demanded _ _ _ h.closes) in
+      ∙ close_length s.steps h.conclusions (as_many T p s s.steps [] h.conclusions h.conclude)
+      ∙ same_count (close_count s.steps) (length s.closed) (demanded _ _ _ h.closes) in
       record {
         conclusions = c.rest;
         conclude = c.conclude;

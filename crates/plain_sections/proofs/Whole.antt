@@ -36,7 +36,7 @@ use Rattle.fpl_check.specs.Check.{test_origin, test_origins, test_count, rows_st
 use Rattle.plain_sections.specs.Valid.{whole_section}
 use Rattle.fpl_check.proofs.Conclusions.{HaveRows}
 use Rattle.plain_sections.proofs.Accepted.{AcceptedParts, accepts_whole}
-use Rattle.fpl_check.proofs.PassedTests.{close_length}
+use Rattle.fpl_check.proofs.PassedRows.{close_length}
 use Rattle.plain_sections.proofs.Tests.{same_true}
 use Rattle.plain_sections.proofs.NamedOrigins.{origin_named}
 use Rattle.plain_sections.proofs.StoredBack.{forms_pass, all_stored_back}
@@ -45,7 +45,8 @@ use Rattle.plain_sections.proofs.Computing.{run_is, gathered_all}
 
 module _ (T : PlainTable) (p : Presentation) where
   -- the sweep of each origin, where all are swept again
-  again_parts : (A : Type 0) (rows : List (List Num)) (os : List Origin) (x y : A) → again T p rows os x ≡ Ok y → (test : (o : Origin) (row left : List Num) → row_of_origin T p o ≡ Ok row → sweep_rows T.kind rows row ≡ Ok left → Contains os o → lead_of left ≡ None) →
+  again_parts : (A : Type 0) (rows : List (List Num)) (os : List Origin) (x y : A) → again T p rows os x ≡ Ok y →
+      (test : (o : Origin) (row left : List Num) → row_of_origin T p o ≡ Ok row → sweep_rows T.kind rows row ≡ Ok left → Contains os o → lead_of left ≡ None) →
       test_origins T p rows os ≡ Ok tt
   again_parts A rows [] x y e test = refl
   again_parts A rows (o ∷ os) x y e test =
@@ -56,7 +57,8 @@ module _ (T : PlainTable) (p : Presentation) where
     where
       one : (row left : List Num) → row_of_origin T p o ≡ Ok row → sweep_rows T.kind rows row ≡ Ok left → lead_of left ≡ None → test_origin T p rows o ≡ Ok tt
       one row left r s z =
-          ap (λ w. and_then (test_zero (AtOrigin o)) (exactly (and_then (sweep_rows T.kind rows) w))) r ∙ ap (λ w. and_then (test_zero (AtOrigin o)) (exactly w)) s ∙ ap (remainder_at (AtOrigin o) left) z
+          ap (λ w. and_then (test_zero (AtOrigin o)) (exactly (and_then (sweep_rows T.kind rows) w))) r
+          ∙ ap (λ w. and_then (test_zero (AtOrigin o)) (exactly w)) s ∙ ap (remainder_at (AtOrigin o) left) z
 
       later : (x : Origin) → Contains os x → Contains (o ∷ os) x
       later x h = (suc h.0, (let l = h.1 in omega (arith, l)), h.2)
@@ -82,7 +84,8 @@ module _ (T : PlainTable) (p : Presentation) (listed : IsField T.kind) (sources 
   }
 
   spans : (h : Held) → close_weight T p ≡ Ok h → (o : Origin) → Contains (origins_of T p) o → InSpanOf T.kind (rows_of h.pivots) (vector o)
-  spans h run o c = ((close_weight_closes T listed p vector stand h run).span (vector o)).1 (spanned_one (field_of T.kind) (IsAmong T listed p n vector (origins_of T p)) (vector o) (o, c, refl))
+  spans h run o c = ((close_weight_closes T listed p vector stand h run).span (vector o)).1
+      (spanned_one (field_of T.kind) (IsAmong T listed p n vector (origins_of T p)) (vector o) (o, c, refl))
 
   pub rows_closed : (h : Held) → close_weight T p ≡ Ok h → IsClosedList T.kind n (rows_of h.pivots)
   rows_closed h run = (close_weight_closes T listed p vector stand h run).closed
@@ -96,7 +99,8 @@ module _ (T : PlainTable) (p : Presentation) (listed : IsField T.kind) (sources 
       again_parts T p Held (rows_of h.pivots) (origins_of T p) h h (subst (λ k. again T p (rows_of k.pivots) (origins_of T p) k ≡ Ok h) same g.1.1)
       (λ o row left r s c.
       let is = sources o c row r in
-      ((sweep_means T.kind (rows_of h.pivots) row left listed (subst (λ w. IsClosedList T.kind w (rows_of h.pivots)) (sym is.length_is) (rows_closed h run)) is.elements s).1.zero).1
+      ((sweep_means T.kind (rows_of h.pivots) row left listed (subst (λ w. IsClosedList T.kind w (rows_of h.pivots)) (sym is.length_is)
+      (rows_closed h run)) is.elements s).1.zero).1
       (subst (InSpanOf T.kind (rows_of h.pivots)) (ap vector_or_zero r) (spans h run o c)))
 
   -- the closed pivot rows, in ascending order
@@ -125,11 +129,13 @@ module _ (T : PlainTable) (p : Presentation) (listed : IsField T.kind) (sources 
       let up = ascending h run in
       let r = run_is T p listed n sources (origin_named T p) refl h run in
       let back : rows_stored T s ≡ rows = all_stored_back T.kind listed n rows closed.are_rows in
-      let closes : close_count h.steps ≡ length (closed_list rows) = sym (close_length h.steps r.rest r.told.long) ∙ ap length r.rows ∙ sym (length-map rows (coefficients_from 1)) in (
+      let closes : close_count h.steps ≡ length (closed_list rows) =
+      sym (close_length h.steps r.rest r.told.long) ∙ ap length r.rows ∙ sym (length-map rows (coefficients_from 1)) in (
         record {
           conclusions = r.rest;
           conclude = r.told.conclude;
-          closes = ap (λ b. demand b Whole (Count (close_count h.steps) (length (closed_list rows)))) (same_true (close_count h.steps) (length (closed_list rows)) closes);
+          closes = ap (λ b. demand b Whole (Count (close_count h.steps) (length (closed_list rows))))
+              (same_true (close_count h.steps) (length (closed_list rows)) closes);
           forms = forms_pass n 1 rows (λ i d l. (closed.are_rows i d l).length_is);
           same = ap₂ (λ (a b : List (List Num)). test_conclusions 1 a b) back r.rows ∙ conclusions_self 1 rows;
           leads = subst (λ w. test_leads 1 0 w ≡ Ok tt) (sym back) (leads_pass T.kind n 1 0 h.pivots up.rows up.up);
@@ -140,6 +146,7 @@ module _ (T : PlainTable) (p : Presentation) (listed : IsField T.kind) (sources 
         back,
       )
 
-  pub whole_accepted : (origins : Option ℕ) (h : Held) → test_count origins (length (origins_of T p)) ≡ Ok tt → close_weight T p ≡ Ok h → Accepts T p (whole_section T origins h) (rows_of h.pivots)
+  pub whole_accepted : (origins : Option ℕ) (h : Held) → test_count origins (length (origins_of T p)) ≡ Ok tt → close_weight T p ≡ Ok h →
+      Accepts T p (whole_section T origins h) (rows_of h.pivots)
   whole_accepted origins h count run =
       let w = whole_parts origins h count run in subst (Accepts T p (whole_section T origins h)) w.1 (accepts_whole T p (whole_section T origins h) w.0)

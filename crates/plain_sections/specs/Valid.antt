@@ -41,10 +41,12 @@ abbrev pub TellsOrigins : ℕ → Option ℕ → Type 0
 TellsOrigins n o = (o ≡ None) ⊎ (o ≡ Some n)
 
 abbrev pub AcceptedInOrder : Type 0
-AcceptedInOrder = (p : Presentation) (T : PlainTable) (s : Section) (rows : List (List Num)) → Holds p T → IsSectionFor T s → Accepts T p s rows → AreInOrder [] 0 s.steps
+AcceptedInOrder = (p : Presentation) (T : PlainTable) (s : Section) (rows : List (List Num)) → Holds p T → IsSectionFor T s → Accepts T p s rows →
+    AreInOrder [] 0 s.steps
 
 abbrev pub SlimIsAccepted : Type 0
-SlimIsAccepted = (p : Presentation) (T : PlainTable) (s : Section) (rows : List (List Num)) → Holds p T → IsSectionFor T s → Accepts T p s rows → Accepts T p (slimmed T p s) rows
+SlimIsAccepted = (p : Presentation) (T : PlainTable) (s : Section) (rows : List (List Num)) → Holds p T → IsSectionFor T s → Accepts T p s rows →
+    Accepts T p (slimmed T p s) rows
 
 abbrev pub SlimIsFor : Type 0
 SlimIsFor = (p : Presentation) (T : PlainTable) (s : Section) → IsSectionFor T s → IsSectionFor T (slimmed T p s)
@@ -59,7 +61,8 @@ WholeIsAccepted =
 
 abbrev pub SectionIsAccepted : Type 0
 SectionIsAccepted =
-    (p : Presentation) (T : PlainTable) (s : Section) → Holds p T → section_after T p ≡ Ok s → (rows : List (List Num)) × Accepts T p s rows × (next_of T p ≡ Ok (push_of T rows))
+    (p : Presentation) (T : PlainTable) (s : Section) → Holds p T → section_after T p ≡ Ok s → (rows : List (List Num)) × Accepts T p s rows ×
+    (next_of T p ≡ Ok (push_of T rows))
 
 abbrev pub SectionIsFor : Type 0
 SectionIsFor = (p : Presentation) (T : PlainTable) (s : Section) → Holds p T → length (symbols_in T) ≤ 2000000 → section_after T p ≡ Ok s → IsSectionFor T s
@@ -74,4 +77,5 @@ insert_count ((Close of terms) ∷ ss) = insert_count ss
 
 abbrev pub OneStepEach : Type 0
 OneStepEach =
-    (p : Presentation) (T : PlainTable) (s : Section) → Holds p T → section_after T p ≡ Ok s → (insert_count s.steps ≡ length s.closed) × (close_count s.steps ≡ length s.closed)
+    (p : Presentation) (T : PlainTable) (s : Section) → Holds p T → section_after T p ≡ Ok s → (insert_count s.steps ≡ length s.closed) ×
+    (close_count s.steps ≡ length s.closed)

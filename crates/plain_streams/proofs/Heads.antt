@@ -36,7 +36,8 @@ module _ (p : Presentation) (bytes : List ℕ) (s : IsStreamOf p bytes) where
   split = s.front ∙ take_past the_head (flat_map (section_bytes_of s.version p.field) (sections_in s.version p s.through (start_of p))) s.end s.head
 
   pub has_head : HasHead bytes head_of
-  has_head = subst (λ (b : List ℕ). HasHead b head_of) (sym split) (head_again (version_number s.version) p after (known s.version) (has_presentation p s.sound) s.text)
+  has_head = subst (λ (b : List ℕ). HasHead b head_of) (sym split)
+      (head_again (version_number s.version) p after (known s.version) (has_presentation p s.sound) s.text)
 
   pub head_is : (h : Head) → HasHead bytes h → head_of ≡ h
   head_is h is = one_head bytes head_of h has_head is
@@ -44,15 +45,19 @@ module _ (p : Presentation) (bytes : List ℕ) (s : IsStreamOf p bytes) where
   follow : Follow s.version p bytes (9 + length (canonical_of p)) (sections_in s.version p s.through (start_of p))
   follow = record { before = the_head; left = s.end - length the_head; at = omega arith; are = split }
 
-  pub stream_gives : (h : Head) (entries limit : ℕ) → HasHead bytes h → entries ≤ 2000000 → limit ≤ 1000 → GiveSame (walk_from true entries bytes h limit) (plain_walk entries p limit)
+  pub stream_gives : (h : Head) (entries limit : ℕ) → HasHead bytes h → entries ≤ 2000000 → limit ≤ 1000 →
+      GiveSame (walk_from true entries bytes h limit) (plain_walk entries p limit)
   stream_gives h entries limit is most range =
       subst (λ (g : Head). GiveSame (walk_from true entries bytes g limit) (plain_walk entries p limit)) (head_is h is)
-      (gives s.version p bytes entries most limit s.through (start_of p) [] (9 + length (canonical_of p)) (start_holds p s.sound) (omega (arith, range)) s.sections follow)
+      (gives s.version p bytes entries most limit s.through (start_of p) [] (9 + length (canonical_of p)) (start_holds p s.sound)
+      (omega (arith, range)) s.sections follow)
 
-  pub stream_passes : (h : Head) (entries limit : ℕ) → HasHead bytes h → entries ≤ 2000000 → limit ≤ 1000 → PassesWith (walk_from false entries bytes h limit).stop
+  pub stream_passes : (h : Head) (entries limit : ℕ) → HasHead bytes h → entries ≤ 2000000 → limit ≤ 1000 →
+      PassesWith (walk_from false entries bytes h limit).stop
   stream_passes h entries limit is most range =
       subst (λ (g : Head). PassesWith (walk_from false entries bytes g limit).stop) (head_is h is)
-      (passes s.version p bytes entries most limit s.through (start_of p) [] (9 + length (canonical_of p)) (start_holds p s.sound) (omega (arith, range)) s.sections follow)
+      (passes s.version p bytes entries most limit s.through (start_of p) [] (9 + length (canonical_of p)) (start_holds p s.sound)
+      (omega (arith, range)) s.sections follow)
 
 pub have_heads : HaveHeads
 have_heads p bytes s = (head_of p bytes s, has_head p bytes s)

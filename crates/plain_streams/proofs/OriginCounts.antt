@@ -13,7 +13,9 @@ use Rattle.fpl_table.specs.Push.{free_of, new_basis, push_of}
 use Rattle.fpl_table.specs.Shape.{HasShape}
 use Rattle.fpl_table.specs.Standard.{count_of, count_through}
 use Rattle.fpl_table.proofs.Leads.{free_few}
-use Rattle.fpl_rewrite.specs.Origins.{joined, relation_weight, is_exactly, relations_from, relations_of, is_triple, triples_of, is_cube, is_three, cubes_of, origins_of}
+use Rattle.math_linear.specs.Lists.{joined}
+use Rattle.fpl_model.specs.Degrees.{is_exactly}
+use Rattle.fpl_rewrite.specs.Origins.{relation_weight, relations_from, relations_of, is_triple, triples_of, is_cube, is_three, cubes_of, origins_of}
 use Rattle.fpl_rewrite.proofs.Relations.{few_relations}
 use Rattle.fpl_rewrite.proofs.SymbolCounts.{symbols_counted}
 use Rattle.plain_weights.proofs.Counts.{counts_pushed}
@@ -27,7 +29,8 @@ few_pushed T rows shape few =
     let long : length (push_of T rows).basis ≡ length T.basis + length (free_of T rows) =
     length-append T.basis (map (new_basis T) (free_of T rows)) ∙ ap (λ (n : ℕ). length T.basis + n) (length-map (free_of T rows) (new_basis T)) in
     let free = free_few rows (length (symbols_in T)) in
-    let counts : count_through (push_of T rows) (suc T.weight) ≡ count_through T T.weight + count_of T (suc T.weight) = counts_pushed T shape rows (suc T.weight) (omega arith) in
+    let counts : count_through (push_of T rows) (suc T.weight) ≡ count_through T T.weight + count_of T (suc T.weight) =
+    counts_pushed T shape rows (suc T.weight) (omega arith) in
     let most : length (push_of T rows).basis ≤ count_through (push_of T rows) (suc T.weight) = omega (arith, long, free, counts, few, symbols_counted T) in
     most
 
@@ -44,7 +47,13 @@ relations_most : (T : PlainTable) (r : ℕ) (qs : List Equation) → length (rel
 relations_most T r [] = omega arith
 relations_most T r (q ∷ qs) =
     let one = one_most (is_exactly (suc T.weight) (relation_weight T q)) (Relation r) in
-    omega (arith, length-append (cond (is_exactly (suc T.weight) (relation_weight T q)) (Relation r ∷ []) []) (relations_from T (r + 1) qs), one, relations_most T (r + 1) qs)
+    omega (
+      arith,
+      length-append (cond (is_exactly (suc T.weight) (relation_weight T q)) (Relation r ∷ []) [])
+          (relations_from T (r + 1) qs),
+      one,
+      relations_most T (r + 1) qs,
+    )
 
 cubes_most : (T : PlainTable) (b : Bool) → length (cond b (joined (length T.basis) (λ i. cond (is_cube T i) (Cube (i + 1) ∷ []) [])) []) ≤ length T.basis * 1
 cubes_most T true = joined_most (length T.basis) 1 (λ i. cond (is_cube T i) (Cube (i + 1) ∷ []) []) (λ i. one_most (is_cube T i) (Cube (i + 1)))
@@ -53,9 +62,13 @@ cubes_most T false = omega arith
 triples_most : (T : PlainTable) → length T.basis ≤ 2000000 → length (triples_of T) ≤ 2 ^ 63
 triples_most T few =
     let n = length T.basis in
-    let one : (i j k : ℕ) → length (cond (is_triple T i j k) (Jacobi (i + 1) (j + 1) (k + 1) ∷ []) []) ≤ 1 = λ i j k. one_most (is_triple T i j k) (Jacobi (i + 1) (j + 1) (k + 1)) in
-    let thirds : (i j : ℕ) → length (joined n (λ k. cond (is_triple T i j k) (Jacobi (i + 1) (j + 1) (k + 1) ∷ []) [])) ≤ 2000000 = λ i j. thirds_few n _ few (one i j) in
-    let seconds : (i : ℕ) → length (joined n (λ j. joined n (λ k. cond (is_triple T i j k) (Jacobi (i + 1) (j + 1) (k + 1) ∷ []) []))) ≤ 4000000000000 = λ i. seconds_few n _ few (thirds i) in
+    let one : (i j k : ℕ) → length (cond (is_triple T i j k) (Jacobi (i + 1) (j + 1) (k + 1) ∷ []) []) ≤ 1 =
+    λ i j k. one_most (is_triple T i j k) (Jacobi (i + 1) (j + 1) (k + 1)) in
+    let thirds : (i j : ℕ) → length (joined n (λ k. cond (is_triple T i j k) (Jacobi (i + 1) (j + 1) (k + 1) ∷ []) [])) ≤ 2000000 =
+    λ i j. thirds_few n _ few (one i j) in
+    let seconds : (i : ℕ) →
+    length (joined n (λ j. joined n (λ k. cond (is_triple T i j k) (Jacobi (i + 1) (j + 1) (k + 1) ∷ [])
+    []))) ≤ 4000000000000 = λ i. seconds_few n _ few (thirds i) in
     firsts_few n _ few seconds
   where
     thirds_few : {A : Type 0} (n : ℕ) (f : ℕ → List A) → n ≤ 2000000 → ((i : ℕ) → length (f i) ≤ 1) → length (joined n f) ≤ 2000000

@@ -24,7 +24,8 @@ pub record StandsFor (p : Presentation) (T : PlainTable) (h : Held) (s : Section
   pub table : push_of T rows ≡ push_of T (rows_of h.pivots)
   pub kept : slimmed T p s ≡ section_of T p h
 
-pub section_stands : (version : Version) (p : Presentation) (T : PlainTable) (h : Held) → Holds p T → close_weight T p ≡ Ok h → StandsFor p T h (section_in version T p h)
+pub section_stands : (version : Version) (p : Presentation) (T : PlainTable) (h : Held) → Holds p T → close_weight T p ≡ Ok h →
+    StandsFor p T h (section_in version T p h)
 section_stands One p T h holds run = record {
   weight = refl;
   rows = rows_of h.pivots;

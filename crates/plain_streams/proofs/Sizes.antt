@@ -20,7 +20,8 @@ use Rattle.fpl_section_bytes.specs.Spelling.{origin_bytes, origins_bytes, term_b
 use Rattle.fpl_section_bytes.specs.Stored.{IsStoredStep, IsStoredRow, IsStoredSection}
 
 -- items of at most b bytes each
-flat_most : {A : Type 0} (f : A → List ℕ) (b : ℕ) (P : A → Type 0) → ((x : A) → P x → length (f x) ≤ b) → (xs : List A) → AllByRecursion P xs → length (flat_map f xs) ≤ length xs * b
+flat_most : {A : Type 0} (f : A → List ℕ) (b : ℕ) (P : A → Type 0) → ((x : A) → P x → length (f x) ≤ b) → (xs : List A) → AllByRecursion P xs →
+    length (flat_map f xs) ≤ length xs * b
 flat_most f b P each [] all = omega arith
 flat_most f b P each (x ∷ xs) all = omega (arith, length-append (f x) (flat_map f xs), each x all.0, flat_most f b P each xs all.1)
 
@@ -47,7 +48,15 @@ module _ (kind : Kind) where
 
   step_most : (s : Step) → IsStoredStep Two kind s → length (step_bytes Two kind s) ≤ 2 ^ 39
   step_most (Insert origin terms scale) h =
-      omega (arith, length-append (origin_bytes origin) (number_bytes Two kind scale ++ terms_bytes Two kind terms), length-append (number_bytes Two kind scale) (terms_bytes Two kind terms), origin_most origin, number_most kind scale, terms_most terms h.2.0)
+      omega (
+        arith,
+        length-append (origin_bytes origin) (number_bytes Two kind scale ++ terms_bytes Two kind terms),
+        length-append
+            (number_bytes Two kind scale) (terms_bytes Two kind terms),
+        origin_most origin,
+        number_most kind scale,
+        terms_most terms h.2.0,
+      )
   step_most (Close of terms) h = omega (arith, terms_most terms h.1.0)
 
   coefficient_most : (c : Coefficient) → length (coefficient_bytes Two kind c) ≤ 36
@@ -60,7 +69,8 @@ module _ (kind : Kind) where
   origins_most None = omega arith
   origins_most (Some n) = omega arith
 
-  pub payload_most : (s : Section) → IsStoredSection Two kind s → length s.steps ≤ 4000000 → length s.closed ≤ 2000000 → length (payload_bytes Two kind s) < 2 ^ 64
+  pub payload_most : (s : Section) → IsStoredSection Two kind s → length s.steps ≤ 4000000 → length s.closed ≤ 2000000 →
+      length (payload_bytes Two kind s) < 2 ^ 64
   payload_most s h steps closed =
       let a = flat_most (step_bytes Two kind) (2 ^ 39) (IsStoredStep Two kind) step_most s.steps h.steps.1 in
       let b = flat_most (row_bytes Two kind) (2 ^ 38) (IsStoredRow Two kind) row_most s.closed h.closed.1 in

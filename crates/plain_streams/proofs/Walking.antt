@@ -64,7 +64,8 @@ same_after entries p v w (suc n) T sections a b =
     let count = count_through T (suc T.weight) in
     tested_same (walk_of true entries p v n) (walk_of true entries p w n) T sections a b false false (failed (too_many (suc T.weight) count))
     (computed_as (here T sections a false) p (close_weight T p)) (computed_as (here T sections b false) p (close_weight T p)) (nat_lt entries count)
-    (λ within. computed_same (walk_of true entries p v n) (walk_of true entries p w n) p T sections a b false false (λ S more. same_after entries p v w n S more a b) (close_weight T p))
+    (λ within. computed_same (walk_of true entries p v n) (walk_of true entries p w n) p T sections a b false false
+    (λ S more. same_after entries p v w n S more a b) (close_weight T p))
 
 -- a weight of which a check first tests the number of symbols
 tested_passes : (V : Stage → Walked) (stage : Stage) (w count : ℕ) (r : Result Stage Stop) (t : Bool) → (t ≡ false → PassesWith (walk_on V stage r).stop) →
@@ -88,7 +89,8 @@ module _ (version : Version) (p : Presentation) (bytes : List ℕ) where
 
   -- a section that stands whole gives the weight that is computed
   whole_step : (computes : Bool) (T : PlainTable) (sections : List Section) (place : ℕ) (h : Held) (s : Section) (before after : List ℕ) →
-      StandsFor p T h s → HasBytes version p.field s → suc T.weight < 2 ^ 32 → place ≡ length before → bytes ≡ before ++ (section_bytes_of version p.field s ++ after) →
+      StandsFor p T h s → HasBytes version p.field s → suc T.weight < 2 ^ 32 → place ≡ length before →
+      bytes ≡ before ++ (section_bytes_of version p.field s ++ after) →
       weighed computes p stream (here T sections place true)
       ≡ Ok (here (push_of T (rows_of h.pivots)) (sections ++ section_of T p h ∷ []) (length before + 12 + length (payload_bytes version p.field s)) true)
   whole_step computes T sections place h s before after stands fits small there are =
@@ -98,10 +100,12 @@ module _ (version : Version) (p : Presentation) (bytes : List ℕ) where
       let to = length before + 12 + length payload in
       let stage = here T sections place true in
       let whole : bytes ≡ before ++ (frame_bytes w payload ++ after) = are ∙ ap (λ (v : ℕ). before ++ (frame_bytes v payload ++ after)) stands.weight in
-      let found : frame_of bytes place w ≡ Ok (Whole from to) = ap₂ (λ (b : List ℕ) (n : ℕ). frame_of b n w) whole there ∙ frame_found before payload after w small fits.payload in
+      let found : frame_of bytes place w ≡ Ok (Whole from to) =
+      ap₂ (λ (b : List ℕ) (n : ℕ). frame_of b n w) whole there ∙ frame_found before payload after w small fits.payload in
       let range : slice_range bytes from to ≡ payload = ap (λ (b : List ℕ). slice_range b from to) whole ∙ payload_there before payload after w in
       let read : payload_at (version_of (version_number version)) p.field w to (slice_range bytes from to) ≡ Ok s =
-      ap₂ (λ (v : Version) (b : List ℕ). payload_at v p.field w to b) (version_again version) range ∙ payload_again version p.field w to s fits.parts stands.weight in
+      ap₂ (λ (v : Version) (b : List ℕ). payload_at v p.field w to b) (version_again version) range
+      ∙ payload_again version p.field w to s fits.parts stands.weight in
       ap (framed computes p stream stage) found ∙ ap (formed stage p to) read ∙ ap (adopted stage p s to) stands.accepted
       ∙ ap₂ (λ (S : PlainTable) (x : Section). Ok (here S (sections ++ x ∷ []) to true)) stands.table stands.kept
 
@@ -110,7 +114,8 @@ module _ (version : Version) (p : Presentation) (bytes : List ℕ) where
     pub held : Held
     pub run : close_weight T p ≡ Ok held
     pub to : ℕ
-    pub step : weighed computes p stream (here T sections place true) ≡ Ok (here (push_of T (rows_of held.pivots)) (sections ++ section_of T p held ∷ []) to true)
+    pub step : weighed computes p stream (here T sections place true) ≡ Ok
+        (here (push_of T (rows_of held.pivots)) (sections ++ section_of T p held ∷ []) to true)
     pub through : ℕ
     pub have : All (HasBytes version p.field) (sections_in version p through (push_of T (rows_of held.pivots)))
     pub follow : Follow to (sections_in version p through (push_of T (rows_of held.pivots)))
@@ -120,9 +125,11 @@ module _ (version : Version) (p : Presentation) (bytes : List ℕ) where
 
   none_follow : (T : PlainTable) (place : ℕ) → Follow place [] → IsTail T place
   none_follow T place f =
-      ap₂ (λ (b : List ℕ) (n : ℕ). frame_of b n (suc T.weight)) (f.are ∙ ap (λ (l : List ℕ). f.before ++ l) (take_all f.left [] (omega arith))) f.at ∙ frame_none f.before (suc T.weight)
+      ap₂ (λ (b : List ℕ) (n : ℕ). frame_of b n (suc T.weight)) (f.are ∙ ap (λ (l : List ℕ). f.before ++ l) (take_all f.left [] (omega arith))) f.at
+      ∙ frame_none f.before (suc T.weight)
 
-  one_follows : (computes : Bool) (T : PlainTable) (sections : List Section) (place m : ℕ) (h : Held) → Holds p T → suc T.weight < 2 ^ 32 → close_weight T p ≡ Ok h →
+  one_follows : (computes : Bool) (T : PlainTable) (sections : List Section) (place m : ℕ) (h : Held) → Holds p T → suc T.weight < 2 ^ 32 →
+      close_weight T p ≡ Ok h →
       All (HasBytes version p.field) (section_in version T p h ∷ sections_in version p m (push_of T (rows_of h.pivots))) →
       Follow place (section_in version T p h ∷ sections_in version p m (push_of T (rows_of h.pivots))) → IsTail T place ⊎ Next computes T sections place
   one_follows computes T sections place m h holds small run have f =
@@ -135,11 +142,13 @@ module _ (version : Version) (p : Presentation) (bytes : List ℕ) where
       elim (cases_lt f.left (12 + length payload)) [
         | inl l ↦
             let cut : bytes ≡ f.before ++ take f.left (frame_bytes (suc T.weight) payload) =
-            f.are ∙ ap (λ (b : List ℕ). f.before ++ b) (take-append-le f.left text (spelled rest) (omega (arith, l))) ∙ ap (λ (v : ℕ). f.before ++ take f.left (frame_bytes v payload)) stands.weight in
+            f.are ∙ ap (λ (b : List ℕ). f.before ++ b) (take-append-le f.left text (spelled rest) (omega (arith, l)))
+            ∙ ap (λ (v : ℕ). f.before ++ take f.left (frame_bytes v payload)) stands.weight in
             inl (ap₂ (λ (b : List ℕ) (n : ℕ). frame_of b n (suc T.weight)) cut f.at ∙ frame_cut f.before payload (suc T.weight) f.left small fits.payload l)
         | inr l ↦
             let after = take (f.left - length text) (spelled rest) in
-            let whole : bytes ≡ f.before ++ (text ++ after) = f.are ∙ ap (λ (b : List ℕ). f.before ++ b) (take_past text (spelled rest) f.left (omega (arith, l))) in
+            let whole : bytes ≡ f.before ++ (text ++ after) =
+            f.are ∙ ap (λ (b : List ℕ). f.before ++ b) (take_past text (spelled rest) f.left (omega (arith, l))) in
             inr (record {
               held = h;
               run = run;
@@ -156,13 +165,16 @@ module _ (version : Version) (p : Presentation) (bytes : List ℕ) where
             })
       ]
 
-  next_follows : (computes : Bool) (m : ℕ) (T : PlainTable) (sections : List Section) (place : ℕ) → Holds p T → suc T.weight < 2 ^ 32 → All (HasBytes version p.field) (sections_in version p m T) →
+  next_follows : (computes : Bool) (m : ℕ) (T : PlainTable) (sections : List Section) (place : ℕ) → Holds p T → suc T.weight < 2 ^ 32 →
+      All (HasBytes version p.field) (sections_in version p m T) →
       Follow place (sections_in version p m T) → IsTail T place ⊎ Next computes T sections place
   next_follows computes zero T sections place holds small have f = inl (none_follow T place f)
   next_follows computes (suc m) T sections place holds small have f = go (close_weight T p) refl have f
     where
-      go : (r : Result Held Unfit) → close_weight T p ≡ r → All (HasBytes version p.field) (sections_on (section_in version T p) (λ h. sections_in version p m (push_of T (rows_of h.pivots))) r) →
-          Follow place (sections_on (section_in version T p) (λ h. sections_in version p m (push_of T (rows_of h.pivots))) r) → IsTail T place ⊎ Next computes T sections place
+      go : (r : Result Held Unfit) → close_weight T p ≡ r →
+          All (HasBytes version p.field) (sections_on (section_in version T p) (λ h. sections_in version p m (push_of T (rows_of h.pivots))) r) →
+          Follow place (sections_on (section_in version T p) (λ h. sections_in version p m (push_of T (rows_of h.pivots))) r) → IsTail T place ⊎
+          Next computes T sections place
       go (Ok h) run have f = one_follows computes T sections place m h holds small run have f
       go (Err u) run have f = inl (none_follow T place f)
 
@@ -172,8 +184,10 @@ module _ (version : Version) (p : Presentation) (bytes : List ℕ) where
         let l : count_through T T.weight + count_of T (suc T.weight) ≤ entries = ltb-false _ _ within in
         omega (arith, l, symbols_counted T)
 
-    pub gives : (n m : ℕ) (T : PlainTable) (sections : List Section) (place : ℕ) → Holds p T → T.weight + n ≤ 1000 → All (HasBytes version p.field) (sections_in version p m T) →
-        Follow place (sections_in version p m T) → GiveSame (walk_of true entries p stream n (here T sections place true)) (walk_of true entries p nothing n (here T sections 0 false))
+    pub gives : (n m : ℕ) (T : PlainTable) (sections : List Section) (place : ℕ) → Holds p T → T.weight + n ≤ 1000 →
+        All (HasBytes version p.field) (sections_in version p m T) →
+        Follow place (sections_in version p m T) →
+        GiveSame (walk_of true entries p stream n (here T sections place true)) (walk_of true entries p nothing n (here T sections 0 false))
     gives zero m T sections place holds range have f = record { stop = refl; table = refl; sections = refl }
     gives (suc n) m T sections place holds range have f =
         let V = walk_of true entries p stream n in
@@ -181,21 +195,26 @@ module _ (version : Version) (p : Presentation) (bytes : List ℕ) where
         let stage = here T sections place true in
         let plain = here T sections 0 false in
         let count = count_through T (suc T.weight) in
-        tested_same V W T sections place 0 true false (failed (too_many (suc T.weight) count)) (weighed true p stream stage) (computed_as plain p (close_weight T p)) (nat_lt entries count) (λ within.
+        tested_same V W T sections place 0 true false (failed (too_many (suc T.weight) count)) (weighed true p stream stage)
+        (computed_as plain p (close_weight T p)) (nat_lt entries count) (λ within.
         elim (next_follows true m T sections place holds (omega (arith, range)) have f) [
           | inl tail ↦
               let P : Result Stage Stop → Type 0 = λ r. GiveSame (walk_on V stage r) (walk_on W plain (computed_as plain p (close_weight T p))) in
-              subst P (sym (ap (framed true p stream stage) tail)) (computed_same V W p T sections place 0 true false (λ S more. same_after entries p stream nothing n S more place 0) (close_weight T p))
+              subst P (sym (ap (framed true p stream stage) tail))
+              (computed_same V W p T sections place 0 true false (λ S more. same_after entries p stream nothing n S more place 0) (close_weight T p))
           | inr x ↦
               let S = push_of T (rows_of x.held.pivots) in
               let P : Result Stage Stop → Type 0 = λ r. GiveSame (walk_on V stage r) (walk_on W plain (computed_as plain p (close_weight T p))) in
-              let Q : Result Held Unfit → Type 0 = λ r. GiveSame (V (here S (sections ++ section_of T p x.held ∷ []) x.to true)) (walk_on W plain (computed_as plain p r)) in
+              let Q : Result Held Unfit → Type 0 =
+              λ r. GiveSame (V (here S (sections ++ section_of T p x.held ∷ []) x.to true)) (walk_on W plain (computed_as plain p r)) in
               let low : T.weight < 1000 = omega (arith, range) in
-              let on = gives n x.through S (sections ++ section_of T p x.held ∷ []) x.to (next_holds p T holds x.held x.run low (few_symbols T within)) (omega (arith, range)) x.have x.follow in
+              let on = gives n x.through S (sections ++ section_of T p x.held ∷ []) x.to (next_holds p T holds x.held x.run low (few_symbols T within))
+              (omega (arith, range)) x.have x.follow in
               subst P (sym x.step) (subst Q (sym x.run) on)
         ])
 
-    pub passes : (n m : ℕ) (T : PlainTable) (sections : List Section) (place : ℕ) → Holds p T → T.weight + n ≤ 1000 → All (HasBytes version p.field) (sections_in version p m T) →
+    pub passes : (n m : ℕ) (T : PlainTable) (sections : List Section) (place : ℕ) → Holds p T → T.weight + n ≤ 1000 →
+        All (HasBytes version p.field) (sections_in version p m T) →
         Follow place (sections_in version p m T) → PassesWith (walk_of false entries p stream n (here T sections place true)).stop
     passes zero m T sections place holds range have f = tt
     passes (suc n) m T sections place holds range have f =
@@ -209,5 +228,6 @@ module _ (version : Version) (p : Presentation) (bytes : List ℕ) where
           | inr x ↦
               let low : T.weight < 1000 = omega (arith, range) in
               subst P (sym x.step)
-              (passes n x.through (push_of T (rows_of x.held.pivots)) (sections ++ section_of T p x.held ∷ []) x.to (next_holds p T holds x.held x.run low (few_symbols T within)) (omega (arith, range)) x.have x.follow)
+              (passes n x.through (push_of T (rows_of x.held.pivots)) (sections ++ section_of T p x.held ∷ []) x.to
+              (next_holds p T holds x.held x.run low (few_symbols T within)) (omega (arith, range)) x.have x.follow)
         ])

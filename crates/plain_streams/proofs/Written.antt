@@ -55,7 +55,8 @@ module _ (entries : ℕ) (p : Presentation) where
         kept = k.kept ∙ append_assoc sections (section_of T p h ∷ []) (sections_in Two p k.many S) ∙ ap (λ (l : List Section). sections ++ l) listed;
       }
 
-  tested : (W : Stage → Walked) (T : PlainTable) (sections : List Section) (stop : Stop) (r : Result Stage Stop) (t : Bool) → Keeps T sections (walk_on W (here T sections 0 false) r) →
+  tested : (W : Stage → Walked) (T : PlainTable) (sections : List Section) (stop : Stop) (r : Result Stage Stop) (t : Bool) →
+      Keeps T sections (walk_on W (here T sections 0 false) r) →
       Keeps T sections (walk_on W (here T sections 0 false) (if t then Err stop else r))
   tested W T sections stop r true k = stays T sections _ refl refl
   tested W T sections stop r false k = k
@@ -64,7 +65,8 @@ module _ (entries : ℕ) (p : Presentation) where
   keeps zero T sections = stays T sections _ refl refl
   keeps (suc n) T sections =
       let W = walk_of true entries p nothing n in
-      tested W T sections (failed (too_many (suc T.weight) (count_through T (suc T.weight)))) (computed_as (here T sections 0 false) p (close_weight T p)) (nat_lt entries (count_through T (suc T.weight)))
+      tested W T sections (failed (too_many (suc T.weight) (count_through T (suc T.weight))))
+      (computed_as (here T sections 0 false) p (close_weight T p)) (nat_lt entries (count_through T (suc T.weight)))
       (one_more W T sections (λ S more. keeps n S more) (close_weight T p) refl)
 
 pub runs_keep_sections : RunsKeepSections
@@ -75,7 +77,8 @@ runs_keep_sections p entries limit =
 -- ---- and the sections of a version have bytes, where each does that may stand in the stream
 
 module _ (version : Version) (p : Presentation) (May : Section → Type 0)
-    (has : (T : PlainTable) (h : Held) → Holds p T → close_weight T p ≡ Ok h → length (symbols_in T) ≤ 2000000 → length T.basis ≤ 2000000 → May (section_in version T p h) → HasBytes version p.field (section_in version T p h)) where
+    (has : (T : PlainTable) (h : Held) → Holds p T → close_weight T p ≡ Ok h → length (symbols_in T) ≤ 2000000 → length T.basis ≤ 2000000 →
+    May (section_in version T p h) → HasBytes version p.field (section_in version T p h)) where
   abbrev HaveBytes : List Section → Type 0
   HaveBytes sections = All (HasBytes version p.field) sections
 
@@ -90,8 +93,11 @@ module _ (version : Version) (p : Presentation) (May : Section → Type 0)
   CameTo T w = (m : ℕ) → w.stage.table.weight ≡ T.weight + m → All May (sections_in version p m T) → HaveBytes (sections_in version p m T)
 
   one_has : (W : Stage → Walked) (T : PlainTable) (sections : List Section) (m : ℕ) → Holds p T → length (symbols_in T) ≤ 2000000 → length T.basis ≤ 2000000 →
-      ((h : Held) → close_weight T p ≡ Ok h → CameTo (push_of T (rows_of h.pivots)) (W (here (push_of T (rows_of h.pivots)) (sections ++ section_of T p h ∷ []) 0 false))) →
-      (r : Result Held Unfit) → close_weight T p ≡ r → (walk_on W (here T sections 0 false) (computed_as (here T sections 0 false) p r)).stage.table.weight ≡ T.weight + suc m → All May (listed m T r) → HaveBytes (listed m T r)
+      ((h : Held) → close_weight T p ≡ Ok h → CameTo (push_of T (rows_of h.pivots))
+      (W (here (push_of T (rows_of h.pivots)) (sections ++ section_of T p h ∷ []) 0 false))) →
+      (r : Result Held Unfit) → close_weight T p ≡ r →
+      (walk_on W (here T sections 0 false) (computed_as (here T sections 0 false) p r)).stage.table.weight ≡ T.weight + suc m →
+      All May (listed m T r) → HaveBytes (listed m T r)
   one_has W T sections m holds few basis again (Err u) run f may = no_sections
   one_has W T sections m holds few basis again (Ok h) run f may =
       let rest = sections_in version p m (push_of T (rows_of h.pivots)) in
@@ -105,12 +111,14 @@ module _ (version : Version) (p : Presentation) (May : Section → Type 0)
   tested_has W T sections m stop r false have f = have refl f
 
   module _ (entries : ℕ) (most : entries ≤ 2000000) where
-    have_bytes : (n : ℕ) (T : PlainTable) (sections : List Section) → Holds p T → IsFew T → T.weight + n ≤ 1000 → CameTo T (walk_of true entries p nothing n (here T sections 0 false))
+    have_bytes : (n : ℕ) (T : PlainTable) (sections : List Section) → Holds p T → IsFew T → T.weight + n ≤ 1000 →
+        CameTo T (walk_of true entries p nothing n (here T sections 0 false))
     have_bytes n T sections holds few range zero f may = no_sections
     have_bytes zero T sections holds few range (suc m) f may = absurd (omega (arith, f))
     have_bytes (suc n) T sections holds few range (suc m) f may =
         let W = walk_of true entries p nothing n in
-        tested_has W T sections m (failed (too_many (suc T.weight) (count_through T (suc T.weight)))) (computed_as (here T sections 0 false) p (close_weight T p)) (nat_lt entries (count_through T (suc T.weight)))
+        tested_has W T sections m (failed (too_many (suc T.weight) (count_through T (suc T.weight))))
+        (computed_as (here T sections 0 false) p (close_weight T p)) (nat_lt entries (count_through T (suc T.weight)))
         (λ within g.
         let count : count_through T T.weight + count_of T (suc T.weight) ≤ entries = ltb-false _ _ within in
         let symbols : length (symbols_in T) ≤ 2000000 = omega (arith, count, most, symbols_counted T) in
@@ -123,7 +131,8 @@ module _ (version : Version) (p : Presentation) (May : Section → Type 0)
     abbrev came_to : ℕ → ℕ
     came_to limit = (plain_walk entries p limit).stage.table.weight
 
-    pub streams : (limit end : ℕ) → IsSound p → length (canonical_of p) < 2 ^ 32 → limit ≤ 1000 → All May (sections_in version p (came_to limit) (start_of p)) → length (head_bytes_of (version_number version) p) ≤ end →
+    pub streams : (limit end : ℕ) → IsSound p → length (canonical_of p) < 2 ^ 32 → limit ≤ 1000 →
+        All May (sections_in version p (came_to limit) (start_of p)) → length (head_bytes_of (version_number version) p) ≤ end →
         IsStreamOf p (take end (stream_of version p (sections_in version p (came_to limit) (start_of p))))
     streams limit end sound text range may head = record {
       sound = sound;
@@ -142,9 +151,11 @@ any_section s = Unit {0}
 pub runs_write_streams : RunsWriteStreams
 runs_write_streams p entries limit end sound text most range head =
     let kept = runs_keep_sections p entries limit in
-    let stream = streams Two p any_section (λ T h holds run few basis may. section_has_bytes T p holds h run few basis) entries most limit end sound text range (λ i d l. tt) head in
+    let stream = streams Two p any_section
+    (λ T h holds run few basis may. section_has_bytes T p holds h run few basis) entries most limit end sound text range (λ i d l. tt) head in
     subst (λ (s : List Section). IsStreamOf p (take end (stream_of Two p s))) (sym kept) stream
 
 pub small_streams : SmallStreams
 small_streams p entries limit end sound text most range small head =
-    streams One p (IsSmallSection p.field) (λ T h holds run few basis fits. whole_has_bytes T p holds h run few basis fits) entries most limit end sound text range small head
+    streams One p (IsSmallSection p.field)
+    (λ T h holds run few basis fits. whole_has_bytes T p holds h run few basis fits) entries most limit end sound text range small head

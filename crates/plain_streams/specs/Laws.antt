@@ -34,7 +34,8 @@ abbrev pub HeadsAreOf : Type 0
 HeadsAreOf = (p : Presentation) (bytes : List ℕ) (h : Head) → IsStreamOf p bytes → HasHead bytes h → h.presentation ≡ p
 
 abbrev pub walk_from : (computes : Bool) → (entries : ℕ) → List ℕ → Head → ℕ → Walked
-walk_from computes entries bytes h n = walk_of computes entries h.presentation (record { version = h.version; bytes = bytes }) n (begun h.presentation h.end true)
+walk_from computes entries bytes h n =
+    walk_of computes entries h.presentation (record { version = h.version; bytes = bytes }) n (begun h.presentation h.end true)
 
 abbrev pub OwnStreamsGive : Type 0
 OwnStreamsGive =
@@ -61,7 +62,8 @@ RunsKeepSections =
 
 abbrev pub RunsWriteStreams : Type 0
 RunsWriteStreams =
-    (p : Presentation) (entries limit end : ℕ) → IsSound p → length (canonical_of p) < 2 ^ 32 → entries ≤ 2000000 → limit ≤ 1000 → length (head_bytes_of 2 p) ≤ end →
+    (p : Presentation) (entries limit end : ℕ) → IsSound p → length (canonical_of p) < 2 ^ 32 → entries ≤ 2000000 → limit ≤ 1000 →
+    length (head_bytes_of 2 p) ≤ end →
     IsStreamOf p (take end (stream_of Two p (plain_walk entries p limit).stage.sections))
 
 abbrev pub SmallStreams : Type 0

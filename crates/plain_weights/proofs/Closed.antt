@@ -39,24 +39,33 @@ module _ (T : PlainTable) (is_field : IsField T.kind) (p : Presentation) (vector
       none_there : {x : Vector (field_of T.kind)} → None ≡ Some x → ⊥
       none_there e = let k : ⊥ = cc in k
 
-  pub close_weight_closes : ReadsRows T is_field p n vector (origins_of T p) → (h : Held) → close_weight T p ≡ Ok h → IsClosing (origins_of T p) (rows_of h.pivots)
+  pub close_weight_closes : ReadsRows T is_field p n vector (origins_of T p) → (h : Held) → close_weight T p ≡ Ok h →
+      IsClosing (origins_of T p) (rows_of h.pivots)
   close_weight_closes r h eq =
       let f = first_fits {T = Elimination} _ (gather T p (origins_of T p) (begun T)) h eq in
       let g = first_fits {T = Held} (λ g. again T p (rows_of g.pivots) (origins_of T p) g) (close_of f.0) h f.1.1 in
-      let d = gather_spans T is_field p n vector (origins_of T p) (record { pivots = []; steps = [] }) f.0 (λ x. ⊥) r (λ i x l. absurd (omega arith)) nothing_spanned f.1.0 in
+      let d = gather_spans T is_field p n vector (origins_of T p) (record { pivots = []; steps = [] }) f.0 (λ x. ⊥) r
+      (λ i x l. absurd (omega arith)) nothing_spanned f.1.0 in
       subst (λ w. IsClosing (origins_of T p) (rows_of w.pivots)) (again_same T p (rows_of g.0.pivots) (origins_of T p) g.0 h g.1.1) (closing f.0 g.0 d g.1.0)
     where
-      closing : (e : Elimination) (g : Held) → IsGathered T is_field p n vector (λ x. ⊥) (origins_of T p) e → close_of e ≡ Ok g → IsClosing (origins_of T p) (rows_of g.pivots)
+      closing : (e : Elimination) (g : Held) → IsGathered T is_field p n vector (λ x. ⊥) (origins_of T p) e → close_of e ≡ Ok g →
+          IsClosing (origins_of T p) (rows_of g.pivots)
       closing e g d eq =
           let here : close_of (record { kind = T.kind; size = n; held = e.held }) ≡ Ok g = at_size e.kind e.size d.kind d.size eq in
           let c = close_means (record { kind = T.kind; size = n; held = e.held }) g is_field d.rows here in
           record {
             closed = c.closed;
             span = λ v. (
-              (λ k. spanned_through (field_of T.kind) _ (IsAmong T is_field p n vector (origins_of T p)) (λ x m. elim m [ inl b ↦ absurd b | inr a ↦ spanned_one (field_of T.kind) _ x a ]) v ((d.spans v).1 ((c.span v).0 k))),
-              (λ k. (c.span v).1 ((d.spans v).0 (spanned_through (field_of T.kind) (IsAmong T is_field p n vector (origins_of T p)) _ (λ x m. spanned_one (field_of T.kind) _ x (inr m)) v k))),
+              (λ k. spanned_through (field_of T.kind) _ (IsAmong T is_field p n vector (origins_of T p)) (λ x m. elim m [
+                | inl b ↦ absurd b
+                | inr a ↦ spanned_one (field_of T.kind) _ x a
+              ]) v ((d.spans v).1 ((c.span v).0 k))),
+              (λ k. (c.span v).1 ((d.spans v).0 (spanned_through (field_of T.kind) (IsAmong T is_field p n vector (origins_of T p)) _
+                  (λ x m. spanned_one (field_of T.kind) _ x (inr m)) v k))),
             );
           }
         where
-          at_size : (kind : _) (size : ℕ) → kind ≡ T.kind → size ≡ n → close_of (record { kind = kind; size = size; held = e.held }) ≡ Ok g → close_of (record { kind = T.kind; size = n; held = e.held }) ≡ Ok g
-          at_size kind size k s q = subst (λ w. close_of (record { kind = T.kind; size = w; held = e.held }) ≡ Ok g) s (subst (λ w. close_of (record { kind = w; size = size; held = e.held }) ≡ Ok g) k q)
+          at_size : (kind : _) (size : ℕ) → kind ≡ T.kind → size ≡ n → close_of (record { kind = kind; size = size; held = e.held }) ≡ Ok g →
+              close_of (record { kind = T.kind; size = n; held = e.held }) ≡ Ok g
+          at_size kind size k s q = subst (λ w. close_of (record { kind = T.kind; size = w; held = e.held }) ≡ Ok g) s
+              (subst (λ w. close_of (record { kind = w; size = size; held = e.held }) ≡ Ok g) k q)

@@ -33,7 +33,8 @@ module _ (p : Presentation) (T : PlainTable) where
   abbrev SpanAt : (k : Kind) → List (List Num) → Type 0
   SpanAt k rows = (vector : Origin → Vector (field_of k)) → RowsStand p T k vector → (v : Vector (field_of k)) → InSpanOf k rows v ↔ InOriginSpan p T k vector v
 
-  reads_rows : (listed : IsField T.kind) (vector : Origin → Vector (field_of T.kind)) → RowsStand p T T.kind vector → ReadsRows T listed p (length (symbols_in T)) vector (origins_of T p)
+  reads_rows : (listed : IsField T.kind) (vector : Origin → Vector (field_of T.kind)) → RowsStand p T T.kind vector →
+      ReadsRows T listed p (length (symbols_in T)) vector (origins_of T p)
   reads_rows listed vector stand = record {
     elements = λ o c row f. (stand o c row f).elements;
     long = λ o c row f. (stand o c row f).long;
@@ -41,22 +42,26 @@ module _ (p : Presentation) (T : PlainTable) where
   }
 
   closed_at : IsField T.kind → (k : Kind) → T.kind ≡ k → (h : Held) → close_weight T p ≡ Ok h → SpanAt k (rows_of h.pivots)
-  closed_at listed k e h run = subst (λ k. SpanAt k (rows_of h.pivots)) e (λ vector stand v. (close_weight_closes T listed p vector (reads_rows listed vector stand) h run).span v)
+  closed_at listed k e h run = subst (λ k. SpanAt k (rows_of h.pivots)) e
+      (λ vector stand v. (close_weight_closes T listed p vector (reads_rows listed vector stand) h run).span v)
 
   module _ (holds : Holds p T) where
     -- what follows from rows that stand for vectors
-    pub with_rows : (Q : Type 0) → ((listed : IsField T.kind) (vector : Origin → Vector (field_of T.kind)) → ReadsRows T listed p (length (symbols_in T)) vector (origins_of T p) → Q) → Q
+    pub with_rows : (Q : Type 0) →
+        ((listed : IsField T.kind) (vector : Origin → Vector (field_of T.kind)) → ReadsRows T listed p (length (symbols_in T)) vector (origins_of T p) → Q) → Q
     with_rows Q follows =
         subst (λ k. (vector : Origin → Vector (field_of k)) → RowsStand p T k vector → Q) holds.kind
         (λ vector stand. follows (is_field p T holds) vector (reads_rows (is_field p T holds) vector stand)) (origin_vector p T) (origins_stand p T holds)
 
     -- the rows are closed
     pub weighed_closed : (h : Held) → close_weight T p ≡ Ok h → IsClosedList T.kind (length (symbols_in T)) (rows_of h.pivots)
-    weighed_closed h run = with_rows (IsClosedList T.kind (length (symbols_in T)) (rows_of h.pivots)) (λ listed vector reads. (close_weight_closes T listed p vector reads h run).closed)
+    weighed_closed h run = with_rows (IsClosedList T.kind (length (symbols_in T)) (rows_of h.pivots))
+        (λ listed vector reads. (close_weight_closes T listed p vector reads h run).closed)
 
     -- and span exactly the source rows
     pub weighed_spans : (h : Held) → close_weight T p ≡ Ok h →
-        SpansKind (field_of p.field) (IsSource (field_of p.field) (presentation_in p) (table_in p.field T)) (length (rows_of h.pivots)) (row_in p.field (rows_of h.pivots))
+        SpansKind (field_of p.field) (IsSource (field_of p.field) (presentation_in p) (table_in p.field T)) (length (rows_of h.pivots))
+        (row_in p.field (rows_of h.pivots))
     weighed_spans h run =
         let span = closed_at (is_field p T holds) p.field holds.kind h run (origin_vector p T) (origins_stand p T holds) in
         record {

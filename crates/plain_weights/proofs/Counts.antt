@@ -10,7 +10,7 @@ use Rattle.fpl_numbers.specs.declared.number.Num.{Num}
 use Rattle.fpl_numbers.specs.Kinds.{field_of}
 use Rattle.math_algebra.specs.Table.{no_basis, Table}
 use Rattle.math_algebra.specs.Symbols.{symbols_of}
-use Rattle.math_algebra.specs.Built.{IsLower}
+use Rattle.math_algebra.specs.Extending.{IsLower}
 use Rattle.math_standard.proofs.NextTables.{length_map, get_or_map}
 use Rattle.math_standard.proofs.Standing.{symbols_lower}
 use Rattle.fpl_table.specs.Plain.{PlainTable, plain_basis, table_in, shell_in}
@@ -62,7 +62,8 @@ module _ (T : PlainTable) (shape : HasShape T) (rows : List (List Num)) where
 
   pub count_pushed : (w : ℕ) → w ≤ suc T.weight → count_of (push_of T rows) w ≡ count_of T w
   count_pushed w l =
-      ap length (bare_symbols (push_of T rows) w ∙ symbols_lower K (shell_in T.kind T) (bare (push_of T rows)) (bare T) lower positive w l ∙ sym (bare_symbols T w))
+      ap length (bare_symbols (push_of T rows) w ∙ symbols_lower K (shell_in T.kind T) (bare (push_of T rows)) (bare T) lower positive w l
+      ∙ sym (bare_symbols T w))
 
   pub counts_pushed : (w : ℕ) → w ≤ suc T.weight → count_through (push_of T rows) w ≡ count_through T w
   counts_pushed zero l = refl

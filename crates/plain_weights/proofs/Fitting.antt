@@ -26,7 +26,8 @@ module _ (kind : Kind) (always : Always kind) where
   sweep_fits : (pivots : List PivotRow) (n : ℕ) (x : Swept) → DoesFit (sweep_of kind pivots n x)
   sweep_fits pivots zero x = (x, refl)
   sweep_fits pivots (suc s) x =
-      then_fits (λ y. sweep_of kind pivots s y) (sweep_at kind pivots s x) (by_fits (find (stands_at (s + 1)) pivots) (slice_index_or x.row s (residue 0)) x) (λ y. sweep_fits pivots s y)
+      then_fits (λ y. sweep_of kind pivots s y) (sweep_at kind pivots s x)
+      (by_fits (find (stands_at (s + 1)) pivots) (slice_index_or x.row s (residue 0)) x) (λ y. sweep_fits pivots s y)
 
   keep_fits : (h : Held) (origin : Origin) (x : Swept) (o : Option ℕ) → DoesFit (keep_of kind h origin x o)
   keep_fits h origin x None = (_, refl)
@@ -36,7 +37,8 @@ module _ (kind : Kind) (always : Always kind) where
 
   insert_fits : (n : ℕ) (h : Held) (row : List Num) (origin : Origin) → DoesFit (insert_of (record { kind = kind; size = n; held = h }) row origin)
   insert_fits n h row origin =
-      then_fits (λ x. map_ok (λ g. inserted_as (lead_of x.row) g) (keep_of kind h origin x (lead_of x.row))) (sweep_of kind h.pivots n (record { row = row; terms = [] }))
+      then_fits (λ x. map_ok (λ g. inserted_as (lead_of x.row) g) (keep_of kind h origin x (lead_of x.row)))
+      (sweep_of kind h.pivots n (record { row = row; terms = [] }))
       (sweep_fits h.pivots n (record { row = row; terms = [] })) (λ x. map_fits (λ g. inserted_as (lead_of x.row) g) _ (keep_fits h origin x (lead_of x.row)))
 
   close_by_fits : (o : Option PivotRow) (s : ℕ) (h : Held) → DoesFit (close_by kind o s h)
@@ -45,7 +47,8 @@ module _ (kind : Kind) (always : Always kind) where
 
   close_fits : (pivots : List PivotRow) (n : ℕ) (h : Held) → DoesFit (close_to kind pivots n h)
   close_fits pivots zero h = (h, refl)
-  close_fits pivots (suc s) h = then_fits (λ g. close_at kind pivots s g) (close_to kind pivots s h) (close_fits pivots s h) (λ g. close_by_fits (find (stands_at (s + 1)) pivots) s g)
+  close_fits pivots (suc s) h = then_fits (λ g. close_at kind pivots s g) (close_to kind pivots s h) (close_fits pivots s h)
+      (λ g. close_by_fits (find (stands_at (s + 1)) pivots) s g)
 
 module _ (T : PlainTable) (always : Always T.kind) (p : Presentation) where
   -- all is gathered, and the kind stays the table's
@@ -78,8 +81,6 @@ module _ (T : PlainTable) (always : Always T.kind) (p : Presentation) where
       let g = gather_fits (origins_of T p) (begun T).size (begun T).held in
       subst (λ w. DoesFit (and_then (λ e. and_then (λ h. again T p (rows_of h.pivots) (origins_of T p) h) (close_of e)) w)) (sym g.1.0)
       (then_fits (λ h. again T p (rows_of h.pivots) (origins_of T p) h) (close_of g.0)
-      (subst (λ k. DoesFit (close_to k g.0.held.pivots g.0.size (record { pivots = []; steps = g.0.held.steps }))) (sym g.1.1) (close_fits T.kind always g.0.held.pivots g.0.size (record { pivots = []; steps = g.0.held.steps })))
+      (subst (λ k. DoesFit (close_to k g.0.held.pivots g.0.size (record { pivots = []; steps = g.0.held.steps }))) (sym g.1.1)
+      (close_fits T.kind always g.0.held.pivots g.0.size (record { pivots = []; steps = g.0.held.steps })))
       (λ h. again_fits (rows_of h.pivots) (origins_of T p) h))
-
-  pub next_fits : DoesFit (next_of T p)
-  next_fits = map_fits (λ h. push_of T (rows_of h.pivots)) (close_weight T p) close_weight_fits

@@ -73,7 +73,8 @@ module _ (T : PlainTable) (is_field : IsField T.kind) (p : Presentation) (n : �
   abbrev SpansAll : List PivotRow → (Vector K → Type 0) → Type 0
   SpansAll pivots S = (y : Vector K) → Spanned K S y ↔ InSpanAt K value pivots y
 
-  spans_as : (pivots : List PivotRow) (S S' : Vector K → Type 0) → ((x : Vector K) → S x → S' x) → ((x : Vector K) → S' x → S x) → SpansAll pivots S → SpansAll pivots S'
+  spans_as : (pivots : List PivotRow) (S S' : Vector K → Type 0) → ((x : Vector K) → S x → S' x) → ((x : Vector K) → S' x → S x) → SpansAll pivots S →
+      SpansAll pivots S'
   spans_as pivots S S' f g h y = (
     (λ k. (h y).0 (spanned_through K S' S (λ x m. spanned_one K S x (g x m)) y k)),
     (λ k. spanned_through K S S' (λ x m. spanned_one K S' x (f x m)) y ((h y).1 k)),
@@ -86,25 +87,34 @@ module _ (T : PlainTable) (is_field : IsField T.kind) (p : Presentation) (n : �
     pub rows : All (IsPivotRow T.kind n) e.held.pivots
     pub spans : SpansAll e.held.pivots (λ x. S x ⊎ IsAmong os x)
 
-  pub gather_spans : (os : List Origin) (h : Held) (e : Elimination) (S : Vector K → Type 0) → ReadsRows os → All (IsPivotRow T.kind n) h.pivots → SpansAll h.pivots S →
+  pub gather_spans : (os : List Origin) (h : Held) (e : Elimination) (S : Vector K → Type 0) → ReadsRows os → All (IsPivotRow T.kind n) h.pivots →
+      SpansAll h.pivots S →
       gather T p os (record { kind = T.kind; size = n; held = h }) ≡ Ok e → IsGathered S os e
   gather_spans [] h e S r rows spans eq =
       subst (IsGathered S []) (ok_same eq) (record {
         kind = refl;
         size = refl;
         rows = rows;
-        spans = spans_as h.pivots S (λ x. S x ⊎ IsAmong [] x) (λ x m. inl m) (λ x m. elim m [ inl s ↦ s | inr a ↦ absurd (let l = a.1.1 in omega arith) ]) spans;
+        spans = spans_as h.pivots S (λ x. S x ⊎ IsAmong [] x) (λ x m. inl m) (λ x m. elim m [
+          | inl s ↦ s
+          | inr a ↦ absurd (let l = a.1.1 in omega arith)
+        ]) spans;
       })
   gather_spans (o ∷ os) h e S r rows spans eq =
       let q = first_fits {T = Elimination} (λ f. gather T p os f) (put_of T p o (record { kind = T.kind; size = n; held = h })) e eq in
-      let f = first_fits {T = List Num} (λ row. map_ok (λ x. with_held (record { kind = T.kind; size = n; held = h }) x.held) (insert_of (record { kind = T.kind; size = n; held = h }) row o)) (row_of_origin T p o) q.0 q.1.0 in
+      let f = first_fits {T = List Num}
+      (λ row. map_ok (λ x. with_held (record { kind = T.kind; size = n; held = h }) x.held)
+      (insert_of (record { kind = T.kind; size = n; held = h }) row o)) (row_of_origin T p o) q.0 q.1.0 in
       let row = f.0 in
-      let g = part_fits {T = Inserted} (λ x. with_held (record { kind = T.kind; size = n; held = h }) x.held) (insert_of (record { kind = T.kind; size = n; held = h }) row o) q.0 f.1.1 in
+      let g = part_fits {T = Inserted} (λ x. with_held (record { kind = T.kind; size = n; held = h }) x.held)
+      (insert_of (record { kind = T.kind; size = n; held = h }) row o) q.0 f.1.1 in
       let x = g.0 in
       let here = first_of o os in
-      let put = insert_reads T.kind K value reads is_field n h row o x (standing T.kind K value reads is_field n h.pivots rows) (r.elements o here row f.1.0) (r.long o here row f.1.0) g.1.0 in
+      let put = insert_reads T.kind K value reads is_field n h row o x (standing T.kind K value reads is_field n h.pivots rows)
+      (r.elements o here row f.1.0) (r.long o here row f.1.0) g.1.0 in
       let more = spans_more T.kind K value reads is_field n h.pivots x.held.pivots x.lead (vector_in T.kind row) S spans put.inserted in
-      let d = gather_spans os x.held e (λ y. S y ⊎ (y ≡ vector_in T.kind row)) (rest o os r) put.pivots more (subst (λ w. gather T p os w ≡ Ok e) g.1.1 q.1.1) in
+      let d = gather_spans os x.held e (λ y. S y ⊎ (y ≡ vector_in T.kind row)) (rest o os r) put.pivots more
+      (subst (λ w. gather T p os w ≡ Ok e) g.1.1 q.1.1) in
       record {
         kind = d.kind;
         size = d.size;

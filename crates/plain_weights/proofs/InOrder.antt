@@ -26,7 +26,8 @@ use Rattle.plain_elimination.specs.Plain.{PivotRow, IsPivotRow, stands_at, Swept
 use Rattle.plain_elimination.proofs.Sweeping.{sweep_reads}
 
 -- the new numbers, after one step more
-numbers_more : (numbers : List (Option ℕ)) (count : ℕ) (ss : List Step) (s : Step) → (c : ℕ) × (numbers_after numbers count (ss ++ s ∷ []) ≡ numbers_after numbers count ss ++ (next_number (is_left_out s) c) ∷ [])
+numbers_more : (numbers : List (Option ℕ)) (count : ℕ) (ss : List Step) (s : Step) → (c : ℕ) ×
+    (numbers_after numbers count (ss ++ s ∷ []) ≡ numbers_after numbers count ss ++ (next_number (is_left_out s) c) ∷ [])
 numbers_more numbers count [] s = (count, refl)
 numbers_more numbers count (r ∷ ss) s = numbers_more (numbers ++ (next_number (is_left_out r) count) ∷ []) (next_count (is_left_out r) count) ss s
 
@@ -36,7 +37,8 @@ numbers_long numbers count (r ∷ ss) =
     let h = numbers_long (numbers ++ (next_number (is_left_out r) count) ∷ []) (next_count (is_left_out r) count) ss in
     let k = length-append numbers ((next_number (is_left_out r) count) ∷ []) in omega arith
 
-order_more : (numbers : List (Option ℕ)) (count : ℕ) (ss : List Step) (s : Step) → AreInOrder numbers count ss → CitesEarlier (numbers_after numbers count ss) s → AreInOrder numbers count (ss ++ s ∷ [])
+order_more : (numbers : List (Option ℕ)) (count : ℕ) (ss : List Step) (s : Step) → AreInOrder numbers count ss →
+    CitesEarlier (numbers_after numbers count ss) s → AreInOrder numbers count (ss ++ s ∷ [])
 order_more numbers count [] s h c = (c, tt)
 order_more numbers count (r ∷ ss) s h c = (h.0, order_more (numbers ++ (next_number (is_left_out r) count) ∷ []) (next_count (is_left_out r) count) ss s h.1 c)
 
@@ -103,7 +105,8 @@ module _ (kind : Kind) (P : ℕ → Type 0) where
   sweep_terms pivots (suc s) x y h a e =
       let f = first_fits (λ y. sweep_of kind pivots s y) (sweep_at kind pivots s x) y e in
       sweep_terms pivots s f.0 y h
-      (by_terms (find (stands_at (s + 1)) pivots) (get_or x.row s (residue 0)) x f.0 (λ q e. all_found (λ q. P q.step) (stands_at (s + 1)) pivots q h (sym e)) a f.1.0) f.1.1
+      (by_terms (find (stands_at (s + 1)) pivots) (get_or x.row s (residue 0)) x f.0
+      (λ q e. all_found (λ q. P q.step) (stands_at (s + 1)) pivots q h (sym e)) a f.1.0) f.1.1
 
 none_cited : (P : ℕ → Type 0) → All (λ (t : Term). P t.step) []
 none_cited P i d l = absurd (omega (arith, l))
@@ -123,9 +126,11 @@ module _ (kind : Kind) (listed : IsField kind) (n : ℕ) where
       go false f = refl
       go true f =
           let i = reads.inverse a is e in
-          absurd ((field_of kind).unit≢nought (sym i.1 ∙ ap (λ w. (field_of kind).times w (number_of kind a)) (reads.zero_is (inverse_of kind a) i.0 f) ∙ nought-times (field_of kind) (number_of kind a)))
+          absurd ((field_of kind).unit≢nought (sym i.1 ∙ ap (λ w. (field_of kind).times w (number_of kind a)) (reads.zero_is (inverse_of kind a) i.0 f)
+          ∙ nought-times (field_of kind) (number_of kind a)))
 
-  keep_recorded : (h g : Held) (origin : Origin) (x : Swept) (o : Option ℕ) → AreElements kind x.row → lead_of x.row ≡ o → All (λ t. IsEarlier (length (numbered h.steps)) t.step) x.terms → Recorded h.pivots h.steps →
+  keep_recorded : (h g : Held) (origin : Origin) (x : Swept) (o : Option ℕ) → AreElements kind x.row → lead_of x.row ≡ o →
+      All (λ t. IsEarlier (length (numbered h.steps)) t.step) x.terms → Recorded h.pivots h.steps →
       keep_of kind h origin x o ≡ Ok g → Recorded g.pivots g.steps
   keep_recorded h g origin x None a l terms r e =
       subst (λ g. Recorded g.pivots g.steps) (ok_same e)
@@ -145,13 +150,16 @@ module _ (kind : Kind) (listed : IsField kind) (n : ℕ) where
             (recorded_on h.pivots h.steps (Insert origin x.terms c) r.steps) (stays_last h.steps (Insert origin x.terms c) kept);
       })
 
-  pub insert_recorded : (h : Held) (row : List Num) (origin : Origin) (r : Inserted) → All (IsPivotRow kind n) h.pivots → AreElements kind row → length row ≡ n → Recorded h.pivots h.steps →
+  pub insert_recorded : (h : Held) (row : List Num) (origin : Origin) (r : Inserted) → All (IsPivotRow kind n) h.pivots → AreElements kind row →
+      length row ≡ n → Recorded h.pivots h.steps →
       insert_of (record { kind = kind; size = n; held = h }) row origin ≡ Ok r → Recorded r.held.pivots r.held.steps
   insert_recorded h row origin r all a len rec e =
       let f = first_fits _ (sweep_of kind h.pivots n (record { row = row; terms = [] })) r e in
-      let q = sweep_reads kind (field_of kind) (number_of kind) reads h.pivots n n (λ i. vzero (field_of kind)) (record { row = row; terms = [] }) f.0 all (omega arith) a len f.1.0 in
+      let q = sweep_reads kind (field_of kind) (number_of kind) reads h.pivots n n (λ i. vzero (field_of kind))
+      (record { row = row; terms = [] }) f.0 all (omega arith) a len f.1.0 in
       let g = part_fits _ (keep_of kind h origin f.0 (lead_of f.0.row)) r f.1.1 in
-      let terms = sweep_terms kind (IsEarlier (length (numbered h.steps))) h.pivots n (record { row = row; terms = [] }) f.0 (earlier_steps h.pivots h.steps rec.steps) (none_cited (IsEarlier (length (numbered h.steps)))) f.1.0 in
+      let terms = sweep_terms kind (IsEarlier (length (numbered h.steps))) h.pivots n (record { row = row; terms = [] }) f.0
+      (earlier_steps h.pivots h.steps rec.steps) (none_cited (IsEarlier (length (numbered h.steps)))) f.1.0 in
       subst (λ r. Recorded r.held.pivots r.held.steps) (sym g.1.1) (keep_recorded h g.0 origin f.0 (lead_of f.0.row) q.left.elements refl terms rec g.1.0)
 
 -- in closing, the steps of the pivot rows and of the closed rows stay
@@ -159,44 +167,59 @@ record BothRecorded (pivots : List PivotRow) (g : Held) : Type 0 where
   open_rows : All (λ q. Stays g.steps q.step) pivots
   closed_rows : Recorded g.pivots g.steps
 
-step_recorded : (kind : Kind) (pivots : List PivotRow) (s : ℕ) (f g : Held) (o : Option PivotRow) → find (stands_at (s + 1)) pivots ≡ o → BothRecorded pivots f → close_by kind o s f ≡ Ok g → BothRecorded pivots g
+step_recorded : (kind : Kind) (pivots : List PivotRow) (s : ℕ) (f g : Held) (o : Option PivotRow) → find (stands_at (s + 1)) pivots ≡ o →
+    BothRecorded pivots f → close_by kind o s f ≡ Ok g → BothRecorded pivots g
 step_recorded kind pivots s f g None is b e = subst (BothRecorded pivots) (ok_same e) b
 step_recorded kind pivots s f g (Some p) is b e =
     let r = part_fits _ (sweep_of kind f.pivots s (record { row = p.row; terms = [] })) g e in
     let of = all_found (λ q. Stays f.steps q.step) (stands_at (s + 1)) pivots p b.open_rows (sym is) in
-    let terms = sweep_terms kind (IsEarlier (length (numbered f.steps))) f.pivots s (record { row = p.row; terms = [] }) r.0 (earlier_steps f.pivots f.steps b.closed_rows.steps) (none_cited (IsEarlier (length (numbered f.steps)))) r.1.0 in
+    let terms = sweep_terms kind (IsEarlier (length (numbered f.steps))) f.pivots s (record { row = p.row; terms = [] }) r.0
+    (earlier_steps f.pivots f.steps b.closed_rows.steps) (none_cited (IsEarlier (length (numbered f.steps)))) r.1.0 in
     subst (BothRecorded pivots) (sym r.1.1)
     (record {
       open_rows = recorded_on pivots f.steps (Close p.step r.0.terms) b.open_rows;
       closed_rows = record {
         order = order_more [] 0 f.steps (Close p.step r.0.terms) b.closed_rows.order (of.earlier, of.stays, terms);
-        steps = all_more (λ q. Stays (f.steps ++ (Close p.step r.0.terms) ∷ []) q.step) f.pivots (record { lead = s + 1; step = length f.steps + 1; row = r.0.row })
+        steps = all_more (λ q. Stays (f.steps ++ (Close p.step r.0.terms) ∷ []) q.step) f.pivots
+            (record { lead = s + 1; step = length f.steps + 1; row = r.0.row })
             (recorded_on f.pivots f.steps (Close p.step r.0.terms) b.closed_rows.steps) (stays_last f.steps (Close p.step r.0.terms) refl);
       };
     })
 
-close_recorded : (kind : Kind) (pivots : List PivotRow) (m : ℕ) (h g : Held) → h.pivots ≡ [] → Recorded pivots h.steps → close_to kind pivots m h ≡ Ok g → BothRecorded pivots g
+close_recorded : (kind : Kind) (pivots : List PivotRow) (m : ℕ) (h g : Held) → h.pivots ≡ [] → Recorded pivots h.steps →
+    close_to kind pivots m h ≡ Ok g → BothRecorded pivots g
 close_recorded kind pivots zero h g none r e =
-    subst (BothRecorded pivots) (ok_same e) (record { open_rows = r.steps; closed_rows = record { order = r.order; steps = subst (All (λ q. Stays h.steps q.step)) (sym none) (λ i d l. absurd (omega (arith, l))) } })
+    subst (BothRecorded pivots) (ok_same e)
+    (record {
+      open_rows = r.steps;
+      closed_rows = record {
+        order = r.order;
+        steps = subst (All (λ q. Stays h.steps q.step)) (sym none) (λ i d l. absurd (omega (arith, l)));
+      };
+    })
 close_recorded kind pivots (suc s) h g none r e =
     let f = first_fits _ (close_to kind pivots s h) g e in
     step_recorded kind pivots s f.0 g (find (stands_at (s + 1)) pivots) refl (close_recorded kind pivots s h f.0 none r f.1.0) f.1.1
 
-pub close_order : (kind : Kind) (pivots : List PivotRow) (m : ℕ) (h g : Held) → h.pivots ≡ [] → Recorded pivots h.steps → close_to kind pivots m h ≡ Ok g → AreInOrder [] 0 g.steps
+pub close_order : (kind : Kind) (pivots : List PivotRow) (m : ℕ) (h g : Held) → h.pivots ≡ [] → Recorded pivots h.steps →
+    close_to kind pivots m h ≡ Ok g → AreInOrder [] 0 g.steps
 close_order kind pivots m h g none r e = (close_recorded kind pivots m h g none r e).closed_rows.order
 
 -- inserting records one step, and closing one for each closed row
 keep_counts : (kind : Kind) (h g : Held) (origin : Origin) (x : Swept) (o : Option ℕ) → keep_of kind h origin x o ≡ Ok g → length g.steps ≡ length h.steps + 1
 keep_counts kind h g origin x None e = ap (λ g. length g.steps) (sym (ok_same e)) ∙ length-append h.steps (_ ∷ [])
-keep_counts kind h g origin x (Some s) e = let f = part_fits _ (scale_of kind (inverse_of kind (get_or x.row (s - 1) (residue 0))) x.row) g e in ap (λ g. length g.steps) f.1.1 ∙ length-append h.steps (_ ∷ [])
+keep_counts kind h g origin x (Some s) e = let f = part_fits _ (scale_of kind (inverse_of kind (get_or x.row (s - 1) (residue 0))) x.row) g e in ap
+    (λ g. length g.steps) f.1.1 ∙ length-append h.steps (_ ∷ [])
 
-pub insert_counts : (kind : Kind) (n : ℕ) (h : Held) (row : List Num) (origin : Origin) (r : Inserted) → insert_of (record { kind = kind; size = n; held = h }) row origin ≡ Ok r → length r.held.steps ≡ length h.steps + 1
+pub insert_counts : (kind : Kind) (n : ℕ) (h : Held) (row : List Num) (origin : Origin) (r : Inserted) →
+    insert_of (record { kind = kind; size = n; held = h }) row origin ≡ Ok r → length r.held.steps ≡ length h.steps + 1
 insert_counts kind n h row origin r e =
     let f = first_fits _ (sweep_of kind h.pivots n (record { row = row; terms = [] })) r e in
     let g = part_fits _ (keep_of kind h origin f.0 (lead_of f.0.row)) r f.1.1 in
     ap (λ r. length r.held.steps) g.1.1 ∙ keep_counts kind h g.0 origin f.0 (lead_of f.0.row) g.1.0
 
-step_counts : (kind : Kind) (s : ℕ) (f g : Held) (o : Option PivotRow) → close_by kind o s f ≡ Ok g → length g.steps + length f.pivots ≡ length f.steps + length g.pivots
+step_counts : (kind : Kind) (s : ℕ) (f g : Held) (o : Option PivotRow) → close_by kind o s f ≡ Ok g →
+    length g.steps + length f.pivots ≡ length f.steps + length g.pivots
 step_counts kind s f g None e = subst (λ g. length g.steps + length f.pivots ≡ length f.steps + length g.pivots) (ok_same e) refl
 step_counts kind s f g (Some p) e =
     let r = part_fits _ (sweep_of kind f.pivots s (record { row = p.row; terms = [] })) g e in
@@ -204,7 +227,8 @@ step_counts kind s f g (Some p) e =
     let b = length-append f.pivots ((record { lead = s + 1; step = length f.steps + 1; row = r.0.row }) ∷ []) in
     subst (λ g. length g.steps + length f.pivots ≡ length f.steps + length g.pivots) (sym r.1.1) (omega arith)
 
-pub close_counts : (kind : Kind) (pivots : List PivotRow) (m : ℕ) (h g : Held) → close_to kind pivots m h ≡ Ok g → length g.steps + length h.pivots ≡ length h.steps + length g.pivots
+pub close_counts : (kind : Kind) (pivots : List PivotRow) (m : ℕ) (h g : Held) → close_to kind pivots m h ≡ Ok g →
+    length g.steps + length h.pivots ≡ length h.steps + length g.pivots
 close_counts kind pivots zero h g e = subst (λ g. length g.steps + length h.pivots ≡ length h.steps + length g.pivots) (ok_same e) refl
 close_counts kind pivots (suc s) h g e =
     let f = first_fits _ (close_to kind pivots s h) g e in

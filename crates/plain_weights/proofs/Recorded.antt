@@ -31,11 +31,15 @@ module _ (T : PlainTable) (p : Presentation) (n : ℕ) where
 
   pub put_parts : (o : Origin) (h : Held) (e : Elimination) → put_of T p o (record { kind = T.kind; size = n; held = h }) ≡ Ok e → Put o h e
   put_parts o h e eq =
-      let f = first_fits {T = List Num} (λ row. map_ok (λ x. with_held (record { kind = T.kind; size = n; held = h }) x.held) (insert_of (record { kind = T.kind; size = n; held = h }) row o)) (row_of_origin T p o) e eq in
-      let g = part_fits {T = Inserted} (λ x. with_held (record { kind = T.kind; size = n; held = h }) x.held) (insert_of (record { kind = T.kind; size = n; held = h }) f.0 o) e f.1.1 in
+      let f = first_fits {T = List Num}
+      (λ row. map_ok (λ x. with_held (record { kind = T.kind; size = n; held = h }) x.held)
+      (insert_of (record { kind = T.kind; size = n; held = h }) row o)) (row_of_origin T p o) e eq in
+      let g = part_fits {T = Inserted} (λ x. with_held (record { kind = T.kind; size = n; held = h }) x.held)
+      (insert_of (record { kind = T.kind; size = n; held = h }) f.0 o) e f.1.1 in
       record { row = f.0; inserted = g.0; reads = f.1.0; inserts = g.1.0; is = g.1.1 }
 
-  gather_counts : (os : List Origin) (h : Held) (e : Elimination) → gather T p os (record { kind = T.kind; size = n; held = h }) ≡ Ok e → length e.held.steps ≡ length h.steps + length os
+  gather_counts : (os : List Origin) (h : Held) (e : Elimination) → gather T p os (record { kind = T.kind; size = n; held = h }) ≡ Ok e →
+      length e.held.steps ≡ length h.steps + length os
   gather_counts [] h e eq = subst (λ e. length e.held.steps ≡ length h.steps + 0) (ok_same eq) (omega arith)
   gather_counts (o ∷ os) h e eq =
       let q = first_fits {T = Elimination} (λ f. gather T p os f) (put_of T p o (record { kind = T.kind; size = n; held = h })) e eq in
@@ -49,7 +53,8 @@ module _ (T : PlainTable) (p : Presentation) (n : ℕ) where
     recorded : Recorded e.held.pivots e.held.steps
 
   module _ (is_field : IsField T.kind) (vector : Origin → Vector (field_of T.kind)) where
-    gather_recorded : (os : List Origin) (h : Held) (e : Elimination) → ReadsRows T is_field p n vector os → All (IsPivotRow T.kind n) h.pivots → Recorded h.pivots h.steps →
+    gather_recorded : (os : List Origin) (h : Held) (e : Elimination) → ReadsRows T is_field p n vector os → All (IsPivotRow T.kind n) h.pivots →
+        Recorded h.pivots h.steps →
         gather T p os (record { kind = T.kind; size = n; held = h }) ≡ Ok e → GatheredInOrder e
     gather_recorded [] h e r all rec eq = subst GatheredInOrder (ok_same eq) (record { kind = refl; recorded = rec })
     gather_recorded (o ∷ os) h e r all rec eq =
@@ -82,10 +87,13 @@ module _ (T : PlainTable) (p : Presentation) where
   origins_counted h eq =
       let r = run_parts h eq in
       let a = gather_counts T p (length (symbols_in T)) (origins_of T p) (record { pivots = []; steps = [] }) r.gathered r.gathers in
-      let b = close_counts r.gathered.kind r.gathered.held.pivots r.gathered.size (record { pivots = []; steps = r.gathered.held.steps }) h r.closes in omega arith
+      let b = close_counts r.gathered.kind r.gathered.held.pivots r.gathered.size
+      (record { pivots = []; steps = r.gathered.held.steps }) h r.closes in omega arith
 
-  pub steps_in_order : (is_field : IsField T.kind) (vector : Origin → Vector (field_of T.kind)) → ReadsRows T is_field p (length (symbols_in T)) vector (origins_of T p) → (h : Held) → close_weight T p ≡ Ok h → AreInOrder [] 0 h.steps
+  pub steps_in_order : (is_field : IsField T.kind) (vector : Origin → Vector (field_of T.kind)) →
+      ReadsRows T is_field p (length (symbols_in T)) vector (origins_of T p) → (h : Held) → close_weight T p ≡ Ok h → AreInOrder [] 0 h.steps
   steps_in_order is_field vector reads h eq =
       let r = run_parts h eq in
-      let g = gather_recorded T p (length (symbols_in T)) is_field vector (origins_of T p) (record { pivots = []; steps = [] }) r.gathered reads (λ i d l. absurd (omega (arith, l))) nothing_recorded r.gathers in
+      let g = gather_recorded T p (length (symbols_in T)) is_field vector (origins_of T p) (record { pivots = []; steps = [] }) r.gathered reads
+      (λ i d l. absurd (omega (arith, l))) nothing_recorded r.gathers in
       close_order r.gathered.kind r.gathered.held.pivots r.gathered.size (record { pivots = []; steps = r.gathered.held.steps }) h refl g.recorded r.closes

@@ -32,7 +32,8 @@ abbrev pub NextIsRaised : Type 0
 NextIsRaised = (p : Presentation) (T : PlainTable) (h : Held) → Holds p T → IsRaised p T → close_weight T p ≡ Ok h → IsRaised p (push_of T (rows_of h.pivots))
 
 abbrev pub NextIsTable : Type 0
-NextIsTable = (p : Presentation) (T S : PlainTable) → Holds p T → T.weight < 1000 → length (symbols_in T) ≤ 2000000 → next_of T p ≡ Ok S → IsTableOf p (suc T.weight) S
+NextIsTable = (p : Presentation) (T S : PlainTable) → Holds p T → T.weight < 1000 → length (symbols_in T) ≤ 2000000 → next_of T p ≡ Ok S →
+    IsTableOf p (suc T.weight) S
 
 abbrev pub AlwaysFits : Type 0
 AlwaysFits = (n : ℕ) (p : Presentation) (T : PlainTable) → T.kind ≡ Prime n → (h : Held) × (close_weight T p ≡ Ok h)

@@ -1,4 +1,4 @@
-//! Checkpoints whose bytes are known: whole, cut, changed and written again.
+//! Payloads of sections whose bytes are known, and streams that are read and written again.
 #![tactic(auto)]
 
 #[cfg(test)]

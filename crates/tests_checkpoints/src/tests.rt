@@ -1,30 +1,12 @@
 ghost use Rattle.std.specs.Prelude.{◌≡◌, ◌⊎◌};
 
-use crate::streams::{CUBE, EMPTY, FIRST, FRACTIONS, ODD};
+use crate::streams::{CUBE, EMPTY, FRACTIONS, ODD};
 use fpl_checkpoint::{
     ByteWhy, Frame, ScanError, head_bytes, read_section, scan_frame, scan_head, section_bytes,
 };
 use fpl_scalar::Kind;
 use std::alloc::{AllocError, Global};
 use std::test::Fail;
-
-/// How many sections of weights up to 3 stand whole, if none of them and not the head is refused.
-fn whole_sections(alloc: Global, bytes: &[u8]) -> Result<u32, ScanError> {
-    let head = scan_head(alloc, bytes)?;
-    let field = head.presentation.field;
-    let mut at = head.end;
-    for w in 1..4 {
-        match scan_frame(bytes, at, w) {
-            Err(bad) => return Err(ScanError::Bad(bad)),
-            Ok(Frame::Tail) => return Ok(w - 1),
-            Ok(Frame::Whole { from, to }) => {
-                read_section(alloc, head.version, field, bytes, from, to, w)?;
-                at = to;
-            }
-        }
-    }
-    Ok(3)
-}
 
 /// The place and the reason of a refusal; `Err` for want of memory.
 fn told(answer: Result<u32, ScanError>) -> Result<Result<u32, (u64, ByteWhy)>, AllocError> {
@@ -33,62 +15,6 @@ fn told(answer: Result<u32, ScanError>) -> Result<Result<u32, (u64, ByteWhy)>, A
         Err(ScanError::Bad(bad)) => Ok(Err((bad.place, bad.why))),
         Err(ScanError::NoMemory) => Err(AllocError),
     }
-}
-
-#[test]
-fn cut_streams(rt: HostRuntime) -> Result<(), AllocError> {
-    for len in 0..=FIRST.len() {
-        let want = if len == 0 {
-            Err((0, ByteWhy::NotCheckpoint))
-        } else if len < 27 {
-            Err((len as u64, ByteWhy::HeadCut))
-        } else if len < 51 {
-            Ok(0)
-        } else if len < 75 {
-            Ok(1)
-        } else if len < 146 {
-            Ok(2)
-        } else {
-            Ok(3)
-        };
-        let got = told(whole_sections(rt.alloc(), &FIRST[..len]))?;
-        assert!(rt; got == want, "cut to {len} bytes");
-    }
-    Ok(())
-}
-
-// The bytes from one place up to another are changed to the same byte.
-#[test]
-fn changed_streams(rt: HostRuntime) -> Result<(), AllocError> {
-    let cases = [
-        (0, 1, 0xf0, Err((0, ByteWhy::NotCheckpoint))),
-        (1, 2, 0x00, Err((1, ByteWhy::NotCheckpoint))),
-        (4, 5, 0x07, Err((4, ByteWhy::UnknownVersion))),
-        (4, 5, 0x02, Err((47, ByteWhy::FieldCut))),
-        (5, 9, 0xff, Err((146, ByteWhy::HeadCut))),
-        (26, 27, 0x20, Err((9, ByteWhy::HeadText))),
-        (10, 11, 0x20, Err((9, ByteWhy::HeadText))),
-        (30, 31, 0x02, Err((27, ByteWhy::SectionWeight))),
-        (38, 39, 0x0b, Err((47, ByteWhy::FieldCut))),
-        (46, 47, 0x01, Err((47, ByteWhy::BadTag))),
-        (39, 47, 0xff, Err((47, ByteWhy::BadTag))),
-        (96, 97, 0x43, Err((96, ByteWhy::BadTag))),
-        (112, 113, 0x07, Err((109, ByteWhy::BadNumber))),
-        (108, 109, 0x02, Ok(3)),
-        (112, 113, 0x00, Ok(3)),
-        (125, 126, 0x02, Ok(3)),
-        (145, 146, 0x00, Ok(3)),
-    ];
-    for (from, to, byte, want) in cases {
-        let mut bytes = FIRST;
-        for i in from..to {
-            assert!(rt; i < 146);
-            bytes[i] = byte;
-        }
-        let got = told(whole_sections(rt.alloc(), &bytes))?;
-        assert!(rt; got == want, "bytes {from} to {to} changed to {byte}");
-    }
-    Ok(())
 }
 
 fn read_payload(

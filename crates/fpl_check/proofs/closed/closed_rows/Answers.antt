@@ -14,36 +14,42 @@ use Rattle.fpl_check.specs.Check.{rows_stored, test_closed}
 use Rattle.fpl_check.proofs.Composed.{passed, refused, same_refusal}
 use Rattle.fpl_check.proofs.ListedOrigins.{demanded}
 use Rattle.fpl_check.proofs.Tested.{all_formed}
-use Rattle.fpl_check.proofs.PassedTests.{close_among, close_length, same_count, stored_same}
+use Rattle.fpl_check.proofs.PassedRows.{close_among, close_length, same_count, stored_same}
 use Rattle.fpl_check.proofs.closed.closed_rows.Goals as goal
 
 pub test_conclusions-requires-clause-formed : goal.test_conclusions-requires-clause-formed
 test_conclusions-requires-clause-formed g c = all_formed c.args.n 1 c.args.section.now.closed c.in-Ok-test_forms.ensures
 
 -- the conclusions of Close steps are rows of the weight
-closes_are : (kind from : Kind) (n m : ℕ) (steps : List Step) (conclusions rows : List (List Num)) → from ≡ kind → m ≡ n → AreRows kind n conclusions → rows ≡ close_rows steps conclusions → AreRows from m rows
+closes_are : (kind from : Kind) (n m : ℕ) (steps : List Step) (conclusions rows : List (List Num)) → from ≡ kind → m ≡ n → AreRows kind n conclusions →
+    rows ≡ close_rows steps conclusions → AreRows from m rows
 closes_are kind from n m steps conclusions rows e f are is =
-    subst (λ k. AreRows k m rows) (sym e) (subst (λ l. AreRows kind l rows) (sym f) (subst (AreRows kind n) (sym is) (close_among (IsRowOf kind n) steps conclusions are)))
+    subst (λ k. AreRows k m rows) (sym e)
+    (subst (λ l. AreRows kind l rows) (sym f) (subst (AreRows kind n) (sym is) (close_among (IsRowOf kind n) steps conclusions are)))
 
 pub test_conclusions-requires-clause-conclusions : goal.test_conclusions-requires-clause-conclusions
 test_conclusions-requires-clause-conclusions g c =
-    closes_are c.args.table.now.kind (g.F.Field.kind_of c.field-field.result.now) (length (symbols_in c.args.table.now)) c.args.n c.args.section.now.steps c.args.conclusions c.in-Ok-close_rows.rows
+    closes_are c.args.table.now.kind (g.F.Field.kind_of c.field-field.result.now)
+    (length (symbols_in c.args.table.now)) c.args.n c.args.section.now.steps c.args.conclusions c.in-Ok-close_rows.rows
     c.field-field.ensures c.requires.symbols c.requires.conclusions (c.in-Ok-close_rows.ensures ∙ ap (close_rows c.args.section.now.steps) c.into_vec.ensures)
 
 pub test_rows-requires-clause-rows : goal.test_rows-requires-clause-rows
 test_rows-requires-clause-rows g c =
-    closes_are c.args.table.now.kind (g.F.Field.kind_of c.field-field.result.now) (length (symbols_in c.args.table.now)) c.args.n c.args.section.now.steps c.args.conclusions c.in-Ok-close_rows.rows
+    closes_are c.args.table.now.kind (g.F.Field.kind_of c.field-field.result.now)
+    (length (symbols_in c.args.table.now)) c.args.n c.args.section.now.steps c.args.conclusions c.in-Ok-close_rows.rows
     c.field-field.ensures c.requires.symbols c.requires.conclusions (c.in-Ok-close_rows.ensures ∙ ap (close_rows c.args.section.now.steps) c.into_vec.ensures)
 
 pub test_rows-requires-clause-few : goal.test_rows-requires-clause-few
 test_rows-requires-clause-few g c =
     let count = same_count _ _ (demanded _ _ _ c.in-Ok.ensures) in
-    let long = ap length (c.in-Ok-close_rows.ensures ∙ ap (close_rows c.args.section.now.steps) c.into_vec.ensures) ∙ close_length c.args.section.now.steps c.args.conclusions c.requires.whole in
+    let long = ap length (c.in-Ok-close_rows.ensures ∙ ap (close_rows c.args.section.now.steps) c.into_vec.ensures)
+    ∙ close_length c.args.section.now.steps c.args.conclusions c.requires.whole in
     let few = c.requires.section.few in
     omega (arith, count, long, few)
 
 -- the closed rows are the conclusions that passed
-module _ (T : PlainTable) (listed : IsField T.kind) (s : Section) (section : IsSectionFor T s) (n : ℕ) (conclusions rows : List (List Num)) (symbols : n ≡ length (symbols_in T))
+module _ (T : PlainTable) (listed : IsField T.kind) (s : Section) (section : IsSectionFor T s) (n : ℕ) (conclusions rows : List (List Num))
+    (symbols : n ≡ length (symbols_in T))
     (are : AreRows T.kind (length (symbols_in T)) conclusions) (whole : length conclusions ≡ length s.steps) (is : rows ≡ close_rows s.steps conclusions)
     (closes : test_closes s ≡ Ok tt) (forms : test_forms n 1 s.closed ≡ Ok tt) (same : test_conclusions 1 (map (stored_row n) s.closed) rows ≡ Ok tt) where
   same_here : test_conclusions 1 (rows_stored T s) (close_rows s.steps conclusions) ≡ Ok tt
@@ -60,10 +66,13 @@ module _ (T : PlainTable) (listed : IsField T.kind) (s : Section) (section : IsS
 
 pub returns-in-Ok-test_rows-clause-value : goal.returns-in-Ok-test_rows-clause-value
 returns-in-Ok-test_rows-clause-value g c =
-    ap (λ (t : Result (Unit {0}) Refusal). passing t (Ok (rows_stored c.args.table.now c.args.section.now))) (rest_is c.args.table.now (subst IsField c.field-field.ensures (g.met.F.Field.is_field c.field-field.result.now)) c.args.section.now c.requires.section c.args.n c.args.conclusions c.in-Ok-close_rows.rows
+    ap (λ (t : Result (Unit {0}) Refusal). passing t (Ok (rows_stored c.args.table.now c.args.section.now)))
+    (rest_is c.args.table.now (subst IsField c.field-field.ensures
+    (g.met.F.Field.is_field c.field-field.result.now)) c.args.section.now c.requires.section c.args.n c.args.conclusions c.in-Ok-close_rows.rows
     c.requires.symbols c.requires.conclusions c.requires.whole (c.in-Ok-close_rows.ensures ∙ ap (close_rows c.args.section.now.steps) c.into_vec.ensures) c.in-Ok.ensures c.in-Ok-test_forms.ensures c.in-Ok-test_conclusions.ensures
     ∙ c.in-Ok-test_rows.ensures.value)
-    ∙ ap Ok (rows_are c.args.table.now (subst IsField c.field-field.ensures (g.met.F.Field.is_field c.field-field.result.now)) c.args.section.now c.requires.section c.args.n c.args.conclusions c.in-Ok-close_rows.rows
+    ∙ ap Ok (rows_are c.args.table.now (subst IsField c.field-field.ensures
+    (g.met.F.Field.is_field c.field-field.result.now)) c.args.section.now c.requires.section c.args.n c.args.conclusions c.in-Ok-close_rows.rows
     c.requires.symbols c.requires.conclusions c.requires.whole (c.in-Ok-close_rows.ensures ∙ ap (close_rows c.args.section.now.steps) c.into_vec.ensures) c.in-Ok.ensures c.in-Ok-test_forms.ensures c.in-Ok-test_conclusions.ensures)
 
 pub returns-in-Err-test_rows-clause-value : goal.returns-in-Err-test_rows-clause-value

@@ -10,6 +10,12 @@ loop-i-preserved c =
     let next : c.loop-i.i + 1 ≡ suc c.loop-i.i = omega arith in
     let at = ap (λ j. close_count (drop j c.args.steps.now)) next in
     elim c.if-is_close.branch [
-      | then-is_close w ↦ let h = count_close c.args.steps.now c.loop-i.i (sym c.is_close.ensures ∙ w.if-is_close.true) in record { at_most = omega arith; done = omega arith }
-      | else-is_close w ↦ let h = count_other c.args.steps.now c.loop-i.i (sym c.is_close.ensures ∙ w.if-is_close.false) in record { at_most = omega arith; done = omega arith }
+      | then-is_close w ↦ let h = count_close c.args.steps.now c.loop-i.i (sym c.is_close.ensures ∙ w.if-is_close.true) in record {
+        at_most = omega arith;
+        done = omega arith;
+      }
+      | else-is_close w ↦ let h = count_other c.args.steps.now c.loop-i.i (sym c.is_close.ensures ∙ w.if-is_close.false) in record {
+        at_most = omega arith;
+        done = omega arith;
+      }
     ]

@@ -5,7 +5,8 @@ use Rattle.std.specs.Prelude.{slice_get, Ok}
 use Rattle.fpl_check.specs.Refusal.{IsRefusal}
 use Rattle.fpl_check.specs.ClosedRows.{stored_row, test_at, test_conclusions}
 use Rattle.fpl_check.proofs.Composed.{same_refusal}
-use Rattle.fpl_check.proofs.Loops.{conclusions_next, conclusions_stop, conclusions_end}
+use Rattle.fpl_check.proofs.Loops.{conclusions_next, conclusions_stop}
+use Rattle.fpl_check.proofs.RowLoops.{conclusions_end}
 use Rattle.fpl_check.proofs.closed.test_conclusions.Goals as goal
 
 pub returns-in-Err : goal.returns-in-Err
@@ -22,7 +23,8 @@ loop-k-preserved g c =
     let next : suc c.loop-k.k ≡ c.loop-k.k + 1 = omega arith in
     let at = sym (slice_get-map (stored_row c.args.n) c.args.closed.now c.loop-k.k) in
     c.loop-k.invariant
-    ∙ conclusions_next (c.loop-k.k + 1) c.loop-k.k xs c.args.conclusions.now (subst (λ o. test_at (c.loop-k.k + 1) o (slice_get c.args.conclusions.now c.loop-k.k) ≡ Ok tt) at c.in-Ok.ensures)
+    ∙ conclusions_next (c.loop-k.k + 1) c.loop-k.k xs c.args.conclusions.now
+    (subst (λ o. test_at (c.loop-k.k + 1) o (slice_get c.args.conclusions.now c.loop-k.k) ≡ Ok tt) at c.in-Ok.ensures)
     ∙ ap (λ i. test_conclusions (c.loop-k.k + 1 + 1) (drop i xs) (drop i c.args.conclusions.now)) next
 
 pub returns : goal.returns

@@ -9,7 +9,8 @@ returns-then-not-needs_no_more c =
     let steps = c.args.steps.now in
     let within : c.loop-k.k < length c.args.steps.now = omega arith in
     let mark = mark_is steps c.in_ok-marks.marks.items c.loop-k.k c.index.result.now c.in_ok-marks.ensures within c.index.ensures in
-    sym (c.loop-k.invariant ∙ closed_stops steps steps c.loop-k.k c.in-Some.step.now c.index.result.now c.in-Some.ensures mark (sym c.needs_no_more.ensures ∙ c.if-not-needs_no_more.true))
+    sym (c.loop-k.invariant ∙ closed_stops steps steps c.loop-k.k c.in-Some.step.now c.index.result.now c.in-Some.ensures mark
+    (sym c.needs_no_more.ensures ∙ c.if-not-needs_no_more.true))
 
 pub loop-k-preserved : goal.loop-k-preserved
 loop-k-preserved c = elim c.match-get.branch [
@@ -18,5 +19,6 @@ loop-k-preserved c = elim c.match-get.branch [
       let steps = c.args.steps.now in
       let within : c.loop-k.k < length c.args.steps.now = omega arith in
       let mark = mark_is steps c.in_ok-marks.marks.items c.loop-k.k w.index.result.now c.in_ok-marks.ensures within w.index.ensures in
-      c.loop-k.invariant ∙ closed_next steps steps c.loop-k.k w.in-Some.step.now w.index.result.now w.in-Some.ensures mark (sym w.needs_no_more.ensures ∙ w.if-not-needs_no_more.false)
+      c.loop-k.invariant ∙ closed_next steps steps c.loop-k.k w.in-Some.step.now w.index.result.now w.in-Some.ensures mark
+      (sym w.needs_no_more.ensures ∙ w.if-not-needs_no_more.false)
 ]

@@ -27,7 +27,8 @@ loop-k-preserved-in-Some-lead g c =
     record {
       at_most = (let h = c.loop-k.invariant.at_most in omega arith);
       marking = subst (λ (rows : List (List Num)). IsMarking c.args.n rows (slice_set c.loop-k.marks.items (c.in-Some-lead.lead - 1) true)) (sym list)
-          (marked_more c.args.n (drop c.loop-k.k c.args.rows.now) c.in-Some.row.now c.in-Some-lead.lead c.loop-k.marks.items c.loop-k.invariant.marking (sym c.in-Some-lead.ensures) place.0 (let l = is.length_is in omega (arith, place.1, l)));
+          (marked_more c.args.n (drop c.loop-k.k c.args.rows.now) c.in-Some.row.now c.in-Some-lead.lead c.loop-k.marks.items c.loop-k.invariant.marking
+          (sym c.in-Some-lead.ensures) place.0 (let l = is.length_is in omega (arith, place.1, l)));
     }
 
 pub loop-k-preserved-in_default-lead : goal.loop-k-preserved-in_default-lead
@@ -36,8 +37,11 @@ loop-k-preserved-in_default-lead g c =
     record {
       at_most = (let h = c.loop-k.invariant.at_most in omega arith);
       marking = subst (λ (rows : List (List Num)). IsMarking c.args.n rows c.loop-k.marks.items) (sym list)
-          (marked_same c.args.n (drop c.loop-k.k c.args.rows.now) c.in-Some.row.now c.loop-k.marks.items c.loop-k.invariant.marking (sym c.in_default-lead.ensures));
+          (marked_same c.args.n (drop c.loop-k.k c.args.rows.now) c.in-Some.row.now c.loop-k.marks.items c.loop-k.invariant.marking
+          (sym c.in_default-lead.ensures));
     }
 
 pub loop-k-preserved : goal.loop-k-preserved
-loop-k-preserved g c = absurd (let l : length c.args.rows.now ≤ c.loop-k.k - 1 = past_end c.args.rows.now (c.loop-k.k - 1) c.in_default.ensures in let h = c.loop-k.invariant.at_most in omega arith)
+loop-k-preserved g c = absurd
+    (let l : length c.args.rows.now ≤ c.loop-k.k - 1 = past_end c.args.rows.now
+    (c.loop-k.k - 1) c.in_default.ensures in let h = c.loop-k.invariant.at_most in omega arith)

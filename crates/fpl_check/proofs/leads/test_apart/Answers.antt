@@ -5,7 +5,7 @@ use Rattle.fpl_check.specs.Leads.{marked}
 use Rattle.fpl_check.specs.ClosedRows.{lead_or_none, test_crossing}
 use Rattle.fpl_check.proofs.Composed.{same_refusal}
 use Rattle.fpl_check.proofs.Marks.{crossing_marked}
-use Rattle.fpl_check.proofs.Loops.{apart_next, apart_stop}
+use Rattle.fpl_check.proofs.RowLoops.{apart_next, apart_stop}
 use Rattle.fpl_check.proofs.leads.test_apart.Goals.{in-None, in-Some+in-Ok-test_crossing}
 use Rattle.fpl_check.proofs.leads.test_apart.Goals as goal
 
@@ -17,7 +17,8 @@ returns-in-Err-test_crossing g c =
     let same = crossing_marked c.args.n (c.loop-k.k + 1) rows c.in-Ok.marks.items (lead_or_none row) row c.in-Ok.ensures is.length_is in
     same_refusal c.in-Err-test_crossing.fault _ _ c.loop-k.invariant
     (apart_stop c.in-Err-test_crossing.fault rows (c.loop-k.k + 1) rows c.loop-k.k row c.in-Some.ensures
-    (same_refusal c.in-Err-test_crossing.fault _ _ (same ∙ ap (λ ms. test_crossing (c.loop-k.k + 1) (marked ms) (lead_or_none row) 1 row) (sym c.deref.ensures.value)) c.in-Err-test_crossing.ensures))
+    (same_refusal c.in-Err-test_crossing.fault _ _ (same ∙ ap (λ ms. test_crossing (c.loop-k.k + 1) (marked ms) (lead_or_none row) 1 row)
+    (sym c.deref.ensures.value)) c.in-Err-test_crossing.ensures))
 
 pub loop-k-preserved : goal.loop-k-preserved
 loop-k-preserved g c = elim c.match-get.branch [

@@ -1,6 +1,6 @@
 use Rattle.std.proofs.Common.{◌≡◌, IfSome, subst, true}
 use Rattle.fpl_check.specs.Closing.{shows}
-use Rattle.fpl_check.proofs.StepOrigins.{origin_shown}
+use Rattle.fpl_check.proofs.InsertOrigins.{origin_shown}
 use Rattle.fpl_check.proofs.origins.test_next.Goals as goal
 
 pub returns-then-inserts-clause-value : goal.returns-then-inserts-clause-value

@@ -4,7 +4,7 @@ use Rattle.fpl_rows.specs.Positions.{next_of}
 use Rattle.fpl_rows.proofs.Leads.{lead_place, none_below}
 use Rattle.fpl_rows.proofs.Firsts.{next_is_none}
 use Rattle.fpl_check.specs.Steps.{remainder_at}
-use Rattle.fpl_check.proofs.Loops.{number_element}
+use Rattle.fpl_check.proofs.RowLoops.{number_element}
 use Rattle.fpl_check.proofs.remainder.test_zero.Goals as goal
 
 none_is : (o : Option ℕ) → is_some o ≡ false → None ≡ o

@@ -22,16 +22,19 @@ loop-i-preserved g c =
       | in-Some+in-Ok+in-Ok-push w ↦
           let kind = c.args.table.now.kind in
           let n = length (symbols_in c.args.table.now) in
-          let more : c.match-get.earlier ≡ c.loop-i.earlier ++ w.in-Ok.row ∷ [] = w.earlier-is ∙ w.in-Ok-push.ensures.ok ∙ ap (λ x. c.loop-i.earlier ++ x ∷ []) w.pack.ensures in
+          let more : c.match-get.earlier ≡ c.loop-i.earlier ++ w.in-Ok.row ∷ [] =
+          w.earlier-is ∙ w.in-Ok-push.ensures.ok ∙ ap (λ x. c.loop-i.earlier ++ x ∷ []) w.pack.ensures in
           record {
             rows = subst (AreRows kind n) (sym more) (all_more (IsRowOf kind n) c.loop-i.earlier w.in-Ok.row c.loop-i.invariant.rows w.in-Ok.ensures.row);
             most = (let l = slice_get_within c.args.steps.now c.loop-i.i w.in-Some.step.now (sym w.in-Some.ensures) in omega (arith, l));
             whole = (let e = ap length more ∙ length-append c.loop-i.earlier (w.in-Ok.row ∷ []) in let l = c.loop-i.invariant.whole in omega (arith, e, l));
             done = c.loop-i.invariant.done
-                ∙ steps_next c.args.table.now c.args.p.now c.args.steps.now c.loop-i.earlier w.in-Ok.row c.args.steps.now (c.loop-i.i + 1) c.loop-i.i w.in-Some.step.now (omega arith) w.in-Some.ensures w.in-Ok.ensures.value
+                ∙ steps_next c.args.table.now c.args.p.now c.args.steps.now c.loop-i.earlier w.in-Ok.row c.args.steps.now
+                (c.loop-i.i + 1) c.loop-i.i w.in-Some.step.now (omega arith) w.in-Some.ensures w.in-Ok.ensures.value
                 ∙ ap (λ rows. conclusions_from c.args.table.now c.args.p.now c.args.steps.now rows (drop (c.loop-i.i + 1) c.args.steps.now)) (sym more);
           }
     ]
 
 pub returns-clause-whole : goal.returns-clause-whole
-returns-clause-whole g c = (let e = c.len-i-end.ensures.value in let l = c.loop-i.invariant.whole in let m = c.loop-i.invariant.most in omega (arith, e, l, m, c.loop-i-test.false))
+returns-clause-whole g c =
+    (let e = c.len-i-end.ensures.value in let l = c.loop-i.invariant.whole in let m = c.loop-i.invariant.most in omega (arith, e, l, m, c.loop-i-test.false))

@@ -5,4 +5,5 @@ use Rattle.fpl_check.proofs.steps.conclude_tested_close.Goals as goal
 
 pub conclude_close-requires-clause-terms : goal.conclude_close-requires-clause-terms
 conclude_close-requires-clause-terms g c =
-    terms_pass c.args.table.now.kind Closes c.args.steps.now (length c.args.earlier.now) c.args.terms.now c.requires.terms (rw c.len.ensures.value at c.in-Ok.ensures)
+    terms_pass c.args.table.now.kind Closes c.args.steps.now (length c.args.earlier.now) c.args.terms.now c.requires.terms
+    (rw c.len.ensures.value at c.in-Ok.ensures)

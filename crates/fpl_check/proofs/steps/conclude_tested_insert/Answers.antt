@@ -8,4 +8,5 @@ conclude_insert-requires-clause-listed g c = origin_listed c.args.table.now c.ar
 
 pub conclude_insert-requires-clause-terms : goal.conclude_insert-requires-clause-terms
 conclude_insert-requires-clause-terms g c =
-    terms_pass c.args.table.now.kind Inserts c.args.steps.now (length c.args.earlier.now) c.args.terms.now c.requires.terms (rw c.len.ensures.value at c.in-Ok.ensures)
+    terms_pass c.args.table.now.kind Inserts c.args.steps.now (length c.args.earlier.now) c.args.terms.now c.requires.terms
+    (rw c.len.ensures.value at c.in-Ok.ensures)

@@ -1,5 +1,5 @@
 use Rattle.std.proofs.Common.{◌∙◌, refl, sym, ap₂, arith}
-use Rattle.fpl_check.proofs.Loops.{differ, found_same, found_other}
+use Rattle.fpl_check.proofs.RowLoops.{differ, found_same, found_other}
 use Rattle.fpl_check.proofs.StoredRows.{rest_start}
 use Rattle.fpl_check.proofs.SameRows.{turn_none, turn_past, turn_one, turn_end, turn_left, turn_right, turn_stop, turn_same, turn_over, turn_on, is_told, not_told}
 use Rattle.fpl_check.proofs.stored.test_same.Goals as goal

@@ -8,7 +8,8 @@ invariant-symbols g l = record {
   few : l.i ≤ l.after;
   within : l.after ≤ l.n;
   rest : IsRest l.n l.after l.i l.stored;
-  done : test_same l.k 1 (stored_row l.n l.stored) l.concluded ≡ test_same l.k (l.after + 1) (drop l.after (stored_row l.n l.stored)) (drop l.after l.concluded);
+  done : test_same l.k 1 (stored_row l.n l.stored) l.concluded ≡ test_same l.k (l.after + 1) (drop l.after (stored_row l.n l.stored))
+      (drop l.after l.concluded);
 }
 
 abbrev pub decreases-symbols : goal.decreases-symbols

@@ -9,4 +9,5 @@ returns-else-eq-clause-text c =
     (λ e. false≢true (c.if-eq.ensures ∙ same_bytes c.as_slice.result.now c.args.text.now (c.as_slice.ensures.value ∙ e)))
 
 pub returns-in-Err-Refused-clause-text : goal.returns-in-Err-Refused-clause-text
-returns-in-Err-Refused-clause-text c = not_read c.args.text.now c.in-Err-Refused.field-0-0 c.in-Err-Refused.field-0-1 (rw c.in-Err-Refused.field-0-is at c.in-Err-Refused.ensures.read)
+returns-in-Err-Refused-clause-text c = not_read c.args.text.now c.in-Err-Refused.field-0-0 c.in-Err-Refused.field-0-1
+    (rw c.in-Err-Refused.field-0-is at c.in-Err-Refused.ensures.read)

@@ -23,7 +23,11 @@ loop-symbol-preserved g c =
     let s = next_step c.args.row.now c.loop-symbol.after c.in-Some.symbol c.in-Some.ensures in
     let more = kept_more c.args.row.now c.loop-symbol.after c.in-Some.symbol c.loop-symbol.kept c.in-Some.ensures c.loop-symbol.invariant.kept in
     let same = c.in_ok-push.ensures.ok ∙ ap (λ (n : Num). c.loop-symbol.kept ++ (coefficient c.in-Some.symbol n) ∷ []) (c.num-number.ensures ∙ c.at.ensures) in
-    record { within = s.to_end; kept = more ∙ ap (λ (l : List Coefficient). l ++ coefficients_from (c.in-Some.symbol + 1) (drop c.in-Some.symbol c.args.row.now)) (sym same) }
+    record {
+      within = s.to_end;
+      kept = more ∙ ap (λ (l : List Coefficient). l ++ coefficients_from (c.in-Some.symbol + 1)
+          (drop c.in-Some.symbol c.args.row.now)) (sym same);
+    }
 
 pub returns : goal.returns
 returns g c = sym (kept_all c.args.row.now c.loop-symbol.after c.loop-symbol.kept c.in_default.ensures c.loop-symbol.invariant.kept)

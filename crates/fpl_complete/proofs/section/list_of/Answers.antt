@@ -9,6 +9,7 @@ pub loop-i-preserved : goal.loop-i-preserved
 loop-i-preserved g c = elim c.match-get.branch [
   | in-None w ↦ absurd (let l : length c.args.rows.now ≤ c.loop-i.i = past_end c.args.rows.now c.loop-i.i w.in-None.ensures in omega arith)
   | in-Some+in_ok-coefficients_of-in-Some+in_ok-push-in-Some w ↦
-      rows_next c.args.rows.now c.loop-i.list c.match-get.list _ (c.loop-i.i + 1) c.loop-i.i w.in-Some.row.now (omega arith) w.in-Some.ensures c.loop-i.invariant
+      rows_next c.args.rows.now c.loop-i.list c.match-get.list _ (c.loop-i.i + 1) c.loop-i.i w.in-Some.row.now
+      (omega arith) w.in-Some.ensures c.loop-i.invariant
       (w.list-is ∙ w.in_ok-push-in-Some.ensures.ok ∙ ap (λ (r : List Coefficient). c.loop-i.list ++ r ∷ []) w.in_ok-coefficients_of-in-Some.ensures)
 ]

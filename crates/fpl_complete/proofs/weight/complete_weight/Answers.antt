@@ -11,4 +11,5 @@ section_of-requires-clause-closes g c = fewer_rows c.args.table.now c.args.p.now
 pub returns-in-Ok-section_of-clause-value : goal.returns-in-Ok-section_of-clause-value
 returns-in-Ok-section_of-clause-value g c =
     let next : c.weight.result + 1 ≡ suc c.args.table.now.weight = omega (arith, c.weight.ensures.value) in
-    weighs c.args.table.now c.args.p.now (c.weight.result + 1) c.in-Ok.closed.rows c.in-Ok.closed.steps c.in-Ok-section_of.section next c.in-Ok.ensures.value c.in-Ok-section_of.ensures
+    weighs c.args.table.now c.args.p.now
+    (c.weight.result + 1) c.in-Ok.closed.rows c.in-Ok.closed.steps c.in-Ok-section_of.section next c.in-Ok.ensures.value c.in-Ok-section_of.ensures

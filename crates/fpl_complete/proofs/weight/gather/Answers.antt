@@ -21,7 +21,8 @@ origins-preserved g c =
       size = c.in-Ok-put.ensures.size ∙ i.size;
       weight = c.in-Some.ensures.weight ∙ i.weight;
       listed = λ o h. i.listed o (contains_rest os rest c.in-Some.origin o list h);
-      done = gather_next T p os rest c.in-Some.origin c.origins.echelon c.put.new.echelon (gather T p (origins_of T p) (begun T)) list c.in-Ok-put.ensures.value i.done;
+      done = gather_next T p os rest c.in-Some.origin c.origins.echelon c.put.new.echelon
+          (gather T p (origins_of T p) (begun T)) list c.in-Ok-put.ensures.value i.done;
       start = let s = c.in-Ok-put.ensures.step in let n = i.start in omega arith;
       count = let s = c.in-Ok-put.ensures.step in let n = i.count in omega arith;
     }

@@ -17,7 +17,8 @@ origins-preserved g c =
     record {
       weight = c.in-Some.ensures.weight ∙ i.weight;
       listed = λ o h. i.listed o (contains_rest os rest c.in-Some.origin o list h);
-      done = λ h. again_next T p c.args.rows.now os rest c.in-Some.origin h (again T p c.args.rows.now (origins_of T p) h) list (c.in-Ok-sweep_one.ensures.value h) (i.done h);
+      done = λ h. again_next T p c.args.rows.now os rest c.in-Some.origin h (again T p c.args.rows.now (origins_of T p) h) list
+          (c.in-Ok-sweep_one.ensures.value h) (i.done h);
     }
 
 pub returns-in-Err-sweep_one : goal.returns-in-Err-sweep_one
@@ -26,4 +27,7 @@ returns-in-Err-sweep_one g c =
     let p = c.args.p.now in
     let os = to_come T p c.origins.origins in
     let rest = to_come T p c.next.new.self in
-    record { value = λ h. again_stops T p c.args.rows.now os rest c.in-Some.origin h c.in-Err-sweep_one.fault (again T p c.args.rows.now (origins_of T p) h) c.in-Some.ensures.value (c.in-Err-sweep_one.ensures.value h) (c.origins.invariant.done h) }
+    record {
+      value = λ h. again_stops T p c.args.rows.now os rest c.in-Some.origin h c.in-Err-sweep_one.fault
+          (again T p c.args.rows.now (origins_of T p) h) c.in-Some.ensures.value (c.in-Err-sweep_one.ensures.value h) (c.origins.invariant.done h);
+    }

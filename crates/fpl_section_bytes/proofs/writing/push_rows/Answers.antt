@@ -3,7 +3,8 @@ use Rattle.std.specs.Int.{w32, to_be_bytes}
 use Rattle.fpl_log.proofs.TermsTaken.{past_end}
 use Rattle.fpl_bytes.specs.declared.version.Version.TheVariants.{Two}
 use Rattle.fpl_section_bytes.specs.Spelling.{row_bytes}
-use Rattle.fpl_section_bytes.proofs.Written.{item_written}
+use Rattle.fpl_section_bytes.specs.Stored.{IsStoredRow}
+use Rattle.fpl_section_bytes.proofs.Written.{wrote_more}
 use Rattle.fpl_section_bytes.proofs.writing.push_rows.Goals.{in-None, in-Some+in_ok-push_row-in-Some}
 use Rattle.fpl_section_bytes.proofs.writing.push_rows.Goals as goal
 
@@ -11,6 +12,7 @@ pub loop-n-preserved : goal.loop-n-preserved
 loop-n-preserved c = elim c.match-get.branch [
   | in-None w ↦ absurd (let l : length c.args.rows.now ≤ c.loop-n.n = past_end c.args.rows.now c.loop-n.n w.in-None.ensures in omega arith)
   | in-Some+in_ok-push_row-in-Some w ↦
-      item_written (row_bytes Two c.args.kind) c.args.rows.now c.loop-n.n w.in-Some.row.now c.args.out.now.items (to_be_bytes w32 (length c.args.rows.now)) c.loop-n.out.items c.match-get.out.items
-      w.in-Some.ensures c.loop-n.invariant (ap (λ v. v.items) w.out-is ∙ w.in_ok-push_row-in-Some.ensures)
+      wrote_more (row_bytes Two c.args.kind) (IsStoredRow Two c.args.kind) c.args.rows.now c.loop-n.n w.in-Some.row.now c.args.out.now.items
+      (to_be_bytes w32 (length c.args.rows.now)) c.loop-n.out.items c.match-get.out.items
+      w.in-Some.ensures c.loop-n.invariant (ap (λ v. v.items) w.out-is ∙ w.in_ok-push_row-in-Some.ensures.bytes) w.in_ok-push_row-in-Some.ensures.stored
 ]

@@ -1,8 +1,9 @@
-use Rattle.std.proofs.Common.{◌<◌, ◌++◌, ◌∷◌, [], ℕ, List, ap, sym, subst, arith}
+use Rattle.std.proofs.Common.{◌<◌, ◌++◌, ◌∷◌, [], ◌∙◌, ℕ, List, ap, sym, subst, arith}
 use Rattle.fpl_log.specs.declared.section.Section.{Section}
 use Rattle.fpl_table.specs.Plain.{PlainTable}
 use Rattle.fpl_rewrite.proofs.SymbolCounts.{rows_counted}
 use Rattle.fpl_check.specs.Premises.{IsSectionFor}
+use Rattle.fpl_check.proofs.Fitting.{unfit_fractions}
 use Rattle.fpl_complete.specs.State.{PlainState, IsStorable, IsState}
 use Rattle.fpl_complete.proofs.Raising.{state_adopted, few_symbols, whole_here, within_then, counts_then}
 use Rattle.fpl_complete.proofs.state.State.adopt.Goals as goal
@@ -10,8 +11,15 @@ use Rattle.fpl_complete.proofs.state.State.adopt.Goals as goal
 pub accept-requires-clause-few : goal.accept-requires-clause-few
 accept-requires-clause-few g c =
     few_symbols c.self.inside.table c.next_count-count.result
-    (whole_here c.self.inside.table c.args.self.now.table c.next_count-count.result (ap (λ (s : PlainState). s.table) c.self.view_is) c.next_count-count.ensures)
+    (whole_here c.self.inside.table c.args.self.now.table c.next_count-count.result
+    (ap (λ (s : PlainState). s.table) c.self.view_is) c.next_count-count.ensures)
     (omega (arith, c.requires.entries, c.if-count-entries.false))
+
+pub returns-in-Err-Unfit-clause-fractions : goal.returns-in-Err-Unfit-clause-fractions
+returns-in-Err-Unfit-clause-fractions g c = λ w op a b e.
+    ap (λ (s : PlainState). s.presentation.field) (sym c.self.view_is)
+    ∙ unfit_fractions c.self.inside.table c.self.inside.presentation c.args.section c.in-Err-Unfit.u c.self.inside.presentation.field c.self.invariant.holds.kind
+    (rw c.in-Err-Unfit.field-0-is at c.in-Err-Unfit.ensures.value)
 
 pub keep-requires-clause-rows : goal.keep-requires-clause-rows
 keep-requires-clause-rows g c = rows_counted c.self.inside.table c.in-Ok.weighed.rows c.in-Ok.ensures.closed.are_rows
@@ -28,7 +36,7 @@ invariant_of-self g c =
     (whole_here T c.args.self.now.table m (ap (λ (s : PlainState). s.table) c.self.view_is) c.next_count-count.ensures)
     (omega (arith, c.requires.entries, c.if-count-entries.false)) below c.args.section
     (subst (λ (s : PlainState). IsSectionFor s.table c.args.section) (sym c.self.view_is) c.requires.section)
-    (subst (λ (s : PlainState). IsStorable s.table.kind c.args.section) (sym c.self.view_is) c.requires.storable) c.in-Ok.ensures.section
+    (subst (λ (s : PlainState). IsStorable s.table.kind c.args.section) (sym c.self.view_is) c.requires.storable) c.in-Ok.ensures.value c.in-Ok.ensures.section
     c.in-Ok.ensures.closed c.in-Ok.ensures.spans))
 
 pub returns-in-Ok-keep-clause-within : goal.returns-in-Ok-keep-clause-within
@@ -38,4 +46,5 @@ returns-in-Ok-keep-clause-within g c =
 
 pub returns-in-Ok-keep-clause-counts : goal.returns-in-Ok-keep-clause-counts
 returns-in-Ok-keep-clause-counts g c =
-    counts_then c.self.inside.table c.args.self.now.table c.keep.new.table c.in-Ok.weighed.rows c.self.invariant.holds.shape (ap (λ (s : PlainState). s.table) c.self.view_is) c.in-Ok-keep.ensures.table
+    counts_then c.self.inside.table c.args.self.now.table c.keep.new.table c.in-Ok.weighed.rows c.self.invariant.holds.shape
+    (ap (λ (s : PlainState). s.table) c.self.view_is) c.in-Ok-keep.ensures.table

@@ -9,13 +9,15 @@ use Rattle.fpl_complete.proofs.state.State.next_weight.Goals as goal
 pub complete_weight-requires-clause-few : goal.complete_weight-requires-clause-few
 complete_weight-requires-clause-few g c =
     few_symbols c.self.inside.table c.next_count-count.result
-    (whole_here c.self.inside.table c.args.self.now.table c.next_count-count.result (ap (λ (s : PlainState). s.table) c.self.view_is) c.next_count-count.ensures)
+    (whole_here c.self.inside.table c.args.self.now.table c.next_count-count.result
+    (ap (λ (s : PlainState). s.table) c.self.view_is) c.next_count-count.ensures)
     (omega (arith, c.requires.entries, c.if-count-entries.false))
 
 pub returns-in-Err-Unfit-clause-fractions : goal.returns-in-Err-Unfit-clause-fractions
 returns-in-Err-Unfit-clause-fractions g c = λ w op a b e.
     ap (λ (s : PlainState). s.presentation.field) (sym c.self.view_is)
-    ∙ unfit_fractions c.self.inside.table c.self.inside.presentation c.self.inside.presentation.field c.in-Err-Unfit.u c.self.invariant.holds.kind (rw c.in-Err-Unfit.field-0-is at c.in-Err-Unfit.ensures.value)
+    ∙ unfit_fractions c.self.inside.table c.self.inside.presentation c.self.inside.presentation.field c.in-Err-Unfit.u c.self.invariant.holds.kind
+    (rw c.in-Err-Unfit.field-0-is at c.in-Err-Unfit.ensures.value)
 
 pub keep-requires-clause-rows : goal.keep-requires-clause-rows
 keep-requires-clause-rows g c = rows_counted c.self.inside.table c.in-Ok.weighed.rows c.in-Ok.ensures.closed.are_rows
@@ -39,10 +41,15 @@ returns-in-Ok-keep-clause-within g c =
 
 pub returns-in-Ok-keep-clause-counts : goal.returns-in-Ok-keep-clause-counts
 returns-in-Ok-keep-clause-counts g c =
-    counts_then c.self.inside.table c.args.self.now.table c.keep.new.table c.in-Ok.weighed.rows c.self.invariant.holds.shape (ap (λ (s : PlainState). s.table) c.self.view_is) c.in-Ok-keep.ensures.table
+    counts_then c.self.inside.table c.args.self.now.table c.keep.new.table c.in-Ok.weighed.rows c.self.invariant.holds.shape
+    (ap (λ (s : PlainState). s.table) c.self.view_is) c.in-Ok-keep.ensures.table
 
 pub returns-in-Ok-keep-clause-value : goal.returns-in-Ok-keep-clause-value
 returns-in-Ok-keep-clause-value g c =
     subst (λ (s : PlainState). Keeps s c.keep.new.table c.keep.new.sections) c.self.view_is
-    (keeps (record { presentation = c.self.inside.presentation; table = c.self.inside.table; sections = c.self.inside.sections }) c.keep.new.table c.keep.new.sections c.in-Ok.weighed.rows c.in-Ok.weighed.section
+    (keeps (record {
+      presentation = c.self.inside.presentation;
+      table = c.self.inside.table;
+      sections = c.self.inside.sections;
+    }) c.keep.new.table c.keep.new.sections c.in-Ok.weighed.rows c.in-Ok.weighed.section
     (weighs c.self.inside.table c.self.inside.presentation c.in-Ok.weighed.rows c.in-Ok.weighed.section c.in-Ok.ensures.value) c.in-Ok-keep.ensures.table c.in-Ok-keep.ensures.sections)

@@ -31,12 +31,15 @@ loop-self-preserved g c =
       computed = computed_more p start.table.weight s.table.weight new.table.weight s.sections new.sections section next c.weight.ensures.sections n.sections i.computed
           (subst (λ (p : Presentation). Computes p new.table.weight (Ok section)) i.presentation n.section);
       later = (let a = i.later in let b = n.step in omega arith);
-      cost = cost_next p start.table.weight c.args.d c.args.steps.now c.loop-self.steps s.table (subst (λ (p : Presentation). IsRaised p s.table) i.presentation c.weight.ensures.raised) i.from (omega arith) i.cost
-          c.next_weight.new.steps new.table.weight next (subst (λ (p : Presentation). c.next_weight.new.steps ≤ c.loop-self.steps + length (origins_of s.table p)) i.presentation n.most.1);
+      cost = cost_next p start.table.weight c.args.d c.args.steps.now c.loop-self.steps s.table
+          (subst (λ (p : Presentation). IsRaised p s.table) i.presentation c.weight.ensures.raised) i.from (omega arith) i.cost
+          c.next_weight.new.steps new.table.weight next
+          (subst (λ (p : Presentation). c.next_weight.new.steps ≤ c.loop-self.steps + length (origins_of s.table p)) i.presentation n.most.1);
     }
 
 pub returns-in-Err-clause-table : goal.returns-in-Err-clause-table
-returns-in-Err-clause-table g c = subst (λ (x : PlainState). IsTableOf x.presentation x.table.weight x.table) (sym c.in-Err.ensures.unchanged) c.weight.ensures.standard
+returns-in-Err-clause-table g c = subst (λ (x : PlainState). IsTableOf x.presentation x.table.weight x.table)
+    (sym c.in-Err.ensures.unchanged) c.weight.ensures.standard
 
 pub returns-in-Err-clause-overflow : goal.returns-in-Err-clause-overflow
 returns-in-Err-clause-overflow g c = λ w op a b e.
@@ -60,8 +63,10 @@ returns-in-Err-clause-cost g c =
     let test = c.loop-self-test.true in
     let at = c.weight.ensures.value in
     cost_whole p start.table.weight c.args.d (s.table.weight + 1) c.args.steps.now c.next_weight.new.steps (omega arith)
-    (cost_next p start.table.weight c.args.d c.args.steps.now c.loop-self.steps s.table (subst (λ (p : Presentation). IsRaised p s.table) i.presentation c.weight.ensures.raised) i.from (omega arith) i.cost
-    c.next_weight.new.steps (s.table.weight + 1) (omega arith) (subst (λ (p : Presentation). c.next_weight.new.steps ≤ c.loop-self.steps + length (origins_of s.table p)) i.presentation c.in-Err.ensures.most.1))
+    (cost_next p start.table.weight c.args.d c.args.steps.now c.loop-self.steps s.table
+    (subst (λ (p : Presentation). IsRaised p s.table) i.presentation c.weight.ensures.raised) i.from (omega arith) i.cost
+    c.next_weight.new.steps (s.table.weight + 1) (omega arith)
+    (subst (λ (p : Presentation). c.next_weight.new.steps ≤ c.loop-self.steps + length (origins_of s.table p)) i.presentation c.in-Err.ensures.most.1))
 
 pub returns-in-Err-clause-limit : goal.returns-in-Err-clause-limit
 returns-in-Err-clause-limit g c = λ w n e.
@@ -75,7 +80,8 @@ returns-in-Err-clause-limit g c = λ w n e.
         above = omega (arith, at, i.from);
         to_end = omega (arith, at, c.loop-self-test.true, c.weight.ensures.value);
         table = s.table;
-        below = subst (λ (p : Presentation). IsTableOf p (w - 1) s.table) i.presentation (subst (λ (v : ℕ). IsTableOf s.presentation v s.table) below c.weight.ensures.standard);
+        below = subst (λ (p : Presentation). IsTableOf p (w - 1) s.table) i.presentation
+            (subst (λ (v : ℕ). IsTableOf s.presentation v s.table) below c.weight.ensures.standard);
         number = sym h.1;
         passes = h.2;
         least = λ v l k. i.within v l (omega (arith, at, k));

@@ -7,7 +7,8 @@ use Rattle.fpl_complete.proofs.state.State.table.Goals as goal
 
 pub returns-clause-standard : goal.returns-clause-standard
 returns-clause-standard g c =
-    subst (λ (s : PlainState). IsTableOf s.presentation s.table.weight s.table) c.self.view_is (held_is_table c.self.inside.presentation c.self.inside.table c.self.invariant.holds)
+    subst (λ (s : PlainState). IsTableOf s.presentation s.table.weight s.table) c.self.view_is
+    (held_is_table c.self.inside.presentation c.self.inside.table c.self.invariant.holds)
 
 pub returns-clause-raised : goal.returns-clause-raised
 returns-clause-raised g c = subst (λ (s : PlainState). IsRaised s.presentation s.table) c.self.view_is c.self.invariant.raised
