@@ -1,38 +1,28 @@
 //! Finitely presented Lie superalgebras, weight by weight.
 #![tactic(auto)]
 
-ghost use Rattle.std.specs.Prelude.{◌≡◌, ◌<◌};
-
-mod check_text;
-#[cfg(test)]
-mod checkpoint_tests;
-mod fault_line;
-mod laws;
-mod line;
-mod outcome;
-mod put;
-mod run;
-mod spelling;
-mod status;
-mod stream;
-#[cfg(test)]
-mod stream_tests;
-#[cfg(test)]
-mod tests;
-mod walk;
-mod words;
+ghost use Rattle.std.specs.Prelude.{◌≡◌, ◌<◌, ◌⊎◌, ◌↔◌, List, ℕ, IfSome, Some};
+ghost use Rattle.std.specs.Io.KnownBytes.{IsAtEnd};
+ghost use Rattle.fpl_outside.specs.Outside.{Rose, Takes};
+ghost use Rattle.fpl_reply.specs.Reply.{Reply, status_of, line_of};
+ghost use Rattle.fpl_reply.specs.Leaves.{Says, IsAnswered};
+ghost use Rattle.fpl_views.specs.declared.shown.Shown.{Shown};
+ghost use Rattle.fpl_run.specs.declared.words.Command.{Command};
+ghost use Rattle.fpl_run.specs.declared.task.Way.TheVariants.{Show};
+ghost use Rattle.fpl_run.specs.Words.{spelled, IsCommand, IsNoCommand};
+ghost use Rattle.fpl_run.specs.Task.{way_of};
+ghost use Rattle.fpl_run.specs.Answer.{Answers, Fronts};
+ghost use Rattle.fpl_run.specs.Run.{ReadsNothing, Means, MayPut};
 
 use fpl_outside::{Sink, Source, StdSink, StdSource};
+use fpl_reply::Status;
+use fpl_run::run;
 use fpl_steps::Steps;
-pub use laws::{one_reply, written_checkpoints};
-pub use spelling::command;
-pub use status::Status;
 use std::alloc::{AllocError, Global};
 use std::marker::Brand;
 use std::process::ExitCode;
 use std::sync::ledger::{Blank, Ledger};
 use std::{env, io};
-pub use words::{Command, View};
 
 // Runs with a counter of steps that nobody reads.
 fn run_uncounted<L: Ledger, I: Source, O: Sink, E: Sink>(
@@ -46,9 +36,18 @@ fn run_uncounted<L: Ledger, I: Source, O: Sink, E: Sink>(
     requires name { blank.name ≡ L.name }
     requires parts { blank.parts ≡ L.parts }
     requires some { 0 < blank.parts }
+    ensures usage { (result ≡ Status.Usage) ↔ IsNoCommand (spelled words.now.items) }
+    ensures answer { IfSome (I.left input.old) (λ bytes. IsAnswered (Answers (spelled words.now.items) bytes) (Fronts (spelled words.now.items) bytes) result (O.taken out.old) (O.taken out.new) (E.taken err.old) (E.taken err.new) (E.faults err.old) (E.faults err.new)) }
+    ensures means { result ≡ Status.Done → IfSome (I.left input.old) (λ bytes. (c : Command) (v : Shown) → IsCommand (spelled words.now.items) c → way_of c.view ≡ Some (Show v) → (text : List ℕ) × Takes (O.taken out.old) (O.taken out.new) text × Means c bytes v text) }
+    ensures line { (reply : Reply) × (status_of reply ≡ result) × Says (E.taken err.old) (E.taken err.new) (E.faults err.old) (E.faults err.new) (line_of reply) }
+    ensures read { result ≡ Status.ReadFault → Rose (I.faults input.old) (I.faults input.new) × (ReadsNothing (spelled words.now.items) → ⊥) }
+    ensures write { result ≡ Status.WriteFault → Rose (O.faults out.old) (O.faults out.new) }
+    ensures nothing { ((c : Command) → IsCommand (spelled words.now.items) c → MayPut c.view result → ⊥) → O.taken out.new ≡ O.taken out.old }
+    ensures end { result ≡ Status.Done → ReadsNothing (spelled words.now.items) ⊎ IsAtEnd (I.left input.new) }
+    ensures unread { ReadsNothing (spelled words.now.items) → input.new ≡ input.old }
 {
     let mut steps = Steps::<L>::new(blank);
-    run::run(alloc, words, input, out, err, &mut steps)
+    run(alloc, words, input, out, err, &mut steps)
 }
 
 // The words without the program's name.

@@ -1,0 +1,14 @@
+pub mod Names
+pub mod Marks
+pub mod Walks
+pub mod Ends
+pub mod Streams
+pub mod Streaming
+pub mod Replies
+pub mod OneReply
+pub mod Costs
+pub mod Meaning
+pub mod Standing
+pub mod Own
+pub mod Within
+pub mod OwnStreams

@@ -1,0 +1,182 @@
+-- Words and the bytes of an input have at most one reply.
+use Rattle.std.proofs.Common.{◌≡◌, ℕ, ◌⊎◌, inl, inr, List, [], None, Some, Ok, Err, refl, sym, ap, ◌∙◌, subst, arith}
+use mathlib.Core.Path.{ap₂}
+use Rattle.std.specs.declared.option.Option.{Option}
+use Rattle.std.specs.declared.result.Result.{Result}
+use Rattle.fpl_reader.proofs.OneAnswer.{one_presentation, one_refusal, not_both}
+use Rattle.fpl_bytes.specs.declared.fault.BadBytes.{BadBytes}
+use Rattle.fpl_checkpoint.proofs.OneHead.{one_head, not_bad, one_refusal as one_refusal_of_head}
+use Rattle.fpl_walk.specs.Walk.{Fault, bad_bytes, Stop, ended, failed}
+use Rattle.fpl_reply.specs.declared.view_fault.ViewFault.{ViewFault}
+use Rattle.fpl_reader.specs.Reasons.{reason_text}
+use Rattle.fpl_reply.specs.Reply.{Reply, done, usage, refused, stopped, failed_in_view, no_memory, read_fault, write_fault, not_built}
+use Rattle.fpl_run.specs.declared.words.Command.{Command}
+use Rattle.fpl_run.specs.declared.task.Way.{Way}
+use Rattle.fpl_run.specs.declared.task.Task.{Task}
+use Rattle.fpl_run.specs.Words.{IsCommand}
+use Rattle.fpl_run.specs.Task.{way_of, task_for}
+use Rattle.fpl_run.specs.Start.{Start, of_text, of_head, walk_for, HasCome}
+use Rattle.fpl_run.specs.Read.{IsStart, IsNoStart}
+use Rattle.fpl_run.specs.Read.IsStart.{from_text, from_head}
+use Rattle.fpl_run.specs.Read.IsNoStart.{input_too_long, text_too_long, no_presentation, no_head}
+use Rattle.fpl_run.specs.Answer.{AnswersTask, AnswersStart, AnswersCommand, Answers, text_of_way, written_before}
+use Rattle.fpl_run.specs.Answer.AnswersTask.{stopped_at, fails_in_view, shown}
+use Rattle.fpl_run.specs.Answer.AnswersStart.{not_built_yet, built}
+use Rattle.fpl_run.specs.Answer.AnswersCommand.{unread, no_start, start}
+use Rattle.fpl_run.specs.Answer.Answers.{no_command, command}
+use Rattle.fpl_run.specs.Laws.{OneReply}
+use Rattle.fpl_run.proofs.Names.{one_command}
+
+pub stops_one : (s t : Stop) (o : Option Stop) → o ≡ Some s → o ≡ Some t → s ≡ t
+stops_one s t o e f = cc
+
+faults_one : (t : List ℕ) (f g : Fault) (o : Option Stop) → o ≡ Some (failed f) → o ≡ Some (failed g) → stopped t f ≡ stopped t g
+faults_one t f g o d e = let same : failed f ≡ failed g = stops_one (failed f) (failed g) o d e in cc
+
+-- a walk that stops at a fault doesn't come to an end
+pub no_fault_at_end : (f : Fault) (o : Option Stop) → o ≡ Some (failed f) → (o ≡ None) ⊎ (o ≡ Some ended) → ⊥
+no_fault_at_end f o e (inl k) = let no : Some (failed f) ≡ None = sym e ∙ k in cc
+no_fault_at_end f o e (inr k) = let no : failed f ≡ ended = stops_one (failed f) ended o e k in cc
+
+texts_one : (r : Result (List ℕ) ViewFault) (t u : List ℕ) → r ≡ Ok t → r ≡ Ok u → done t ≡ done u
+texts_one r t u e k = let same : Ok t ≡ Ok u = sym e ∙ k in cc
+
+view_faults_one : (r : Result (List ℕ) ViewFault) (f g : ViewFault) → r ≡ Err f → r ≡ Err g → failed_in_view f ≡ failed_in_view g
+view_faults_one r f g e k = let same : Err f ≡ Err g = sym e ∙ k in cc
+
+text_or_fault : (r : Result (List ℕ) ViewFault) (t : List ℕ) (f : ViewFault) → r ≡ Ok t → r ≡ Err f → ⊥
+text_or_fault r t f e k = let no : Ok t ≡ Err f = sym e ∙ k in cc
+
+module _ (t : Task) (s : Start) where
+  abbrev stop : Option Stop
+  stop = (walk_for t s).stop
+
+  abbrev text : Result (List ℕ) ViewFault
+  text = text_of_way t.way s t.limit (walk_for t s).stage
+
+  pub task_one : (q r : Reply) → AnswersTask t s q → AnswersTask t s r → q ≡ r
+  task_one _ _ (stopped_at f e) (stopped_at g k) = faults_one (written_before t.way s.presentation (walk_for t s).stage.sections) f g stop e k
+  task_one _ _ (stopped_at f e) (fails_in_view come g k) = absurd (no_fault_at_end f stop e come)
+  task_one _ _ (stopped_at f e) (shown come u k) = absurd (no_fault_at_end f stop e come)
+  task_one _ _ (fails_in_view come f e) (stopped_at g k) = absurd (no_fault_at_end g stop k come)
+  task_one _ _ (fails_in_view come f e) (fails_in_view also g k) = view_faults_one text f g e k
+  task_one _ _ (fails_in_view come f e) (shown also u k) = absurd (text_or_fault text u f k e)
+  task_one _ _ (shown come u e) (stopped_at g k) = absurd (no_fault_at_end g stop k come)
+  task_one _ _ (shown come u e) (fails_in_view also g k) = absurd (text_or_fault text u g e k)
+  task_one _ _ (shown come u e) (shown also v k) = texts_one text u v e k
+
+pub ways_one : (o : Option Way) (v w : Way) → o ≡ Some v → o ≡ Some w → v ≡ w
+ways_one o v w e f = let same : Some v ≡ Some w = sym e ∙ f in cc
+
+not_way : (o : Option Way) (w : Way) → o ≡ None → o ≡ Some w → ⊥
+not_way o w e f = let no : None ≡ Some w = sym e ∙ f in cc
+
+module _ (c : Command) where
+  pub start_one : (s : Start) (q r : Reply) → AnswersStart c s q → AnswersStart c s r → q ≡ r
+  start_one s _ _ (not_built_yet e) (not_built_yet k) = refl
+  start_one s _ _ (not_built_yet e) (built way k r b) = absurd (not_way (way_of c.view) way e k)
+  start_one s _ _ (built way e q a) (not_built_yet k) = absurd (not_way (way_of c.view) way k e)
+  start_one s _ _ (built way e q a) (built also k r b) =
+      task_one (task_for c also) s q r (subst (λ (w : Way). AnswersTask (task_for c w) s q) (ways_one (way_of c.view) way also e k) a) b
+
+  -- the task of a command whose view is built
+  pub built_task : (way : Way) → way_of c.view ≡ Some way → (s : Start) (r : Reply) → AnswersStart c s r → AnswersTask (task_for c way) s r
+  built_task way is s _ (not_built_yet e) = absurd (not_way (way_of c.view) way e is)
+  built_task way is s _ (built also e r a) = subst (λ (w : Way). AnswersTask (task_for c w) s r) (ways_one (way_of c.view) also way e is) a
+
+  module _ (bytes : List ℕ) where
+    pub starts_one : (s t : Start) → IsStart c bytes s → IsStart c bytes t → s ≡ t
+    starts_one _ _ (from_text l a p h) (from_text m b q k) = ap of_text (one_presentation bytes p q h k)
+    starts_one _ _ (from_text l a p h) (from_head m b g k) = absurd (a b)
+    starts_one _ _ (from_head l a g h) (from_text m b p k) = absurd (b a)
+    starts_one _ _ (from_head l a g h) (from_head m b f k) = ap (of_head bytes) (one_head bytes g f h k)
+
+    pub start_or_none : (s : Start) (r : Reply) → IsStart c bytes s → IsNoStart c bytes r → ⊥
+    start_or_none _ _ (from_text l a p h) (input_too_long m) = omega (arith, l, m)
+    start_or_none _ _ (from_text l a p h) (text_too_long k b m) = omega (arith, l, m)
+    start_or_none _ _ (from_text l a p h) (no_presentation m b place reason k) = not_both bytes p place reason h k
+    start_or_none _ _ (from_text l a p h) (no_head m b f k) = a b
+    start_or_none _ _ (from_head l a g h) (input_too_long m) = omega (arith, l, m)
+    start_or_none _ _ (from_head l a g h) (text_too_long k b m) = b a
+    start_or_none _ _ (from_head l a g h) (no_presentation m b place reason k) = b a
+    start_or_none _ _ (from_head l a g h) (no_head m b f k) = not_bad bytes g f h k
+
+    none_one : (q r : Reply) → IsNoStart c bytes q → IsNoStart c bytes r → q ≡ r
+    none_one _ _ (input_too_long l) (input_too_long m) = refl
+    none_one _ _ (input_too_long l) (text_too_long m b k) = absurd (omega (arith, l, m))
+    none_one _ _ (input_too_long l) (no_presentation m b place reason k) = absurd (omega (arith, l, m))
+    none_one _ _ (input_too_long l) (no_head m b f k) = absurd (omega (arith, l, m))
+    none_one _ _ (text_too_long l a h) (input_too_long m) = absurd (omega (arith, l, m))
+    none_one _ _ (text_too_long l a h) (text_too_long m b k) = refl
+    none_one _ _ (text_too_long l a h) (no_presentation m b place reason k) = absurd (omega (arith, h, m))
+    none_one _ _ (text_too_long l a h) (no_head m b f k) = absurd (a b)
+    none_one _ _ (no_presentation l a place reason h) (input_too_long m) = absurd (omega (arith, l, m))
+    none_one _ _ (no_presentation l a place reason h) (text_too_long m b k) = absurd (omega (arith, l, k))
+    none_one _ _ (no_presentation l a place reason h) (no_presentation m b place' reason' k) =
+        let o = one_refusal bytes place place' reason reason' h k in ap₂ (λ x y. refused x (reason_text y)) o.0 o.1
+    none_one _ _ (no_presentation l a place reason h) (no_head m b f k) = absurd (a b)
+    none_one _ _ (no_head l a b h) (input_too_long m) = absurd (omega (arith, l, m))
+    none_one _ _ (no_head l a b h) (text_too_long m n k) = absurd (n a)
+    none_one _ _ (no_head l a b h) (no_presentation m n place reason k) = absurd (n a)
+    none_one _ _ (no_head l a b h) (no_head m n f k) = ap (λ (x : BadBytes). stopped [] (bad_bytes x)) (one_refusal_of_head bytes b f h k)
+
+    command_one : (q r : Reply) → AnswersCommand c bytes q → AnswersCommand c bytes r → q ≡ r
+    command_one _ _ (unread a) (unread b) = refl
+    command_one _ _ (unread a) (no_start b r k) = absurd (b a)
+    command_one _ _ (unread a) (start b t is r k) = absurd (b a)
+    command_one _ _ (no_start a q h) (unread b) = absurd (a b)
+    command_one _ _ (no_start a q h) (no_start b r k) = none_one q r h k
+    command_one _ _ (no_start a q h) (start b t is r k) = absurd (start_or_none t q is h)
+    command_one _ _ (start a s is q h) (unread b) = absurd (a b)
+    command_one _ _ (start a s is q h) (no_start b r k) = absurd (start_or_none s r is k)
+    command_one _ _ (start a s is q h) (start b t also r k) = start_one t q r (subst (λ (x : Start). AnswersStart c x q) (starts_one s t is also) h) k
+
+    -- the reply to a start, where the view is built
+    pub task_reply : (way : Way) → way_of c.view ≡ Some way → (s : Start) → IsStart c bytes s → (r : Reply) → AnswersCommand c bytes r → AnswersTask (task_for c way) s r
+    task_reply way made s is _ (unread u) = absurd (not_way (way_of c.view) way (ap way_of u) made)
+    task_reply way made s is _ (no_start u r h) = absurd (start_or_none s r is h)
+    task_reply way made s is _ (start u t also r h) = built_task way made s r (subst (λ (x : Start). AnswersStart c x r) (starts_one t s also is) h)
+
+-- a reply of a built view that is no refusal has a start
+abbrev pub IsTold : Reply → Type 0
+IsTold (done text) = Unit {0}
+IsTold usage = ⊥
+IsTold (refused place reason) = ⊥
+IsTold (stopped text fault) = ⊥
+IsTold (failed_in_view fault) = ⊥
+IsTold no_memory = ⊥
+IsTold read_fault = ⊥
+IsTold write_fault = ⊥
+IsTold not_built = ⊥
+
+none_told : (c : Command) (bytes : List ℕ) (r : Reply) → IsNoStart c bytes r → IsTold r → ⊥
+none_told c bytes _ (input_too_long l) h = h
+none_told c bytes _ (text_too_long l m k) h = h
+none_told c bytes _ (no_presentation l m place reason k) h = h
+none_told c bytes _ (no_head l m b k) h = h
+
+pub started : (c : Command) (bytes : List ℕ) (r : Reply) → IsTold r → AnswersCommand c bytes r → (s : Start) × IsStart c bytes s
+started c bytes _ told (unread u) = absurd told
+started c bytes _ told (no_start u r h) = absurd (none_told c bytes r h told)
+started c bytes _ told (start u s is r h) = (s, is)
+
+-- a view that isn't built has no fault after its start
+unbuilt_reply : (c : Command) (s : Start) → way_of c.view ≡ None → (r : Reply) → AnswersStart c s r → r ≡ not_built
+unbuilt_reply c s e _ (not_built_yet k) = refl
+unbuilt_reply c s e _ (built way k r a) = absurd (not_way (way_of c.view) way e k)
+
+pub unbuilt_command : (c : Command) (bytes : List ℕ) (s : Start) → way_of c.view ≡ None → IsStart c bytes s → (r : Reply) → AnswersCommand c bytes r → r ≡ not_built
+unbuilt_command c bytes s e is _ (unread u) = refl
+unbuilt_command c bytes s e is _ (no_start u r h) = absurd (start_or_none c bytes s r is h)
+unbuilt_command c bytes s e is _ (start u t also r h) = unbuilt_reply c t e r h
+
+-- the reply to words that spell a command
+pub of_words : (words : List (List ℕ)) (bytes : List ℕ) (c : Command) → IsCommand words c → (r : Reply) → Answers words bytes r → AnswersCommand c bytes r
+of_words words bytes c is _ (no_command none) = absurd (none c is)
+of_words words bytes c is _ (command d also r a) = subst (λ (x : Command). AnswersCommand x bytes r) (one_command words d c also is) a
+
+pub one_reply : OneReply
+one_reply words bytes _ _ (no_command a) (no_command b) = refl
+one_reply words bytes _ _ (no_command a) (command c is s b) = absurd (a c is)
+one_reply words bytes _ _ (command c is r a) (no_command b) = absurd (b c is)
+one_reply words bytes _ _ (command c is r a) (command d is' s b) = command_one d bytes r s (subst (λ (x : Command). AnswersCommand x bytes r) (one_command words c d is is') a) b

@@ -1,0 +1,135 @@
+-- A checkpoint of a presentation's own has the reply of the presentation, and passes a check.
+use Rattle.std.proofs.Common.{◌≡◌, ℕ, zero, suc, ◌≤◌, ◌⊎◌, inl, inr, List, ◌∷◌, take, Bool, true, false, Ok, Err, None, Some, refl, sym, ap, ◌∙◌, subst, arith}
+use mathlib.Core.Path.{ap₂}
+use Rattle.std.specs.declared.option.Option.{Option}
+use Rattle.std.specs.declared.result.Result.{Result}
+use Rattle.fpl_log.specs.declared.section.Section.{Section}
+use Rattle.fpl_model.specs.declared.presentation.Presentation.{Presentation}
+use Rattle.fpl_table.specs.Plain.{PlainTable}
+use Rattle.fpl_checkpoint.specs.declared.head.Head.{Head}
+use Rattle.fpl_checkpoint.specs.Scans.{HasHead}
+use Rattle.fpl_checkpoint.proofs.OneHead.{not_bad}
+use Rattle.fpl_walk.specs.Walk.{Stage, Stop, Fault, ended, failed, too_many, bad_bytes, bad_section, overflow, begun, walk_of}
+use Rattle.plain_streams.specs.Streams.{IsStreamOf, nothing}
+use Rattle.plain_streams.specs.Laws.{GiveSame, PassesWith, walk_from}
+use Rattle.plain_streams.proofs.Heads.{have_heads, heads_are_of, own_streams_give, own_streams_pass}
+use Rattle.fpl_reply.specs.declared.status.Status.{Status}
+use Rattle.fpl_reply.specs.declared.status.Status.TheVariants.{Done, Limit}
+use Rattle.fpl_reply.specs.declared.view_fault.ViewFault.{ViewFault}
+use Rattle.fpl_reply.specs.Reply.{Reply, stopped, fault_status, status_of}
+use Rattle.fpl_views.specs.Views.{text_of_view}
+use Rattle.fpl_run.specs.declared.words.Command.{Command}
+use Rattle.fpl_run.specs.declared.task.Way.{Way}
+use Rattle.fpl_run.specs.declared.task.Way.TheVariants.{Show, Write, Check}
+use Rattle.fpl_run.specs.declared.task.Task.{Task}
+use Rattle.fpl_run.specs.Words.{IsCommand}
+use Rattle.fpl_run.specs.Task.{way_of, task_for, does_compute}
+use Rattle.fpl_run.specs.Start.{Start, of_text, of_head, walk_for, HasCome}
+use Rattle.fpl_run.specs.Read.{IsStart, IsNoStart, IsMarked}
+use Rattle.fpl_checkpoint.specs.Heads.{checkpoint_mark}
+use Rattle.fpl_run.specs.Read.IsStart.{from_text, from_head}
+use Rattle.fpl_run.specs.Read.IsNoStart.{input_too_long, text_too_long, no_presentation, no_head}
+use Rattle.fpl_run.specs.Stream.{stream_text}
+use Rattle.fpl_run.specs.Answer.{AnswersTask, AnswersStart, AnswersCommand, text_of_way, written_before}
+use Rattle.fpl_run.specs.Answer.AnswersTask.{stopped_at, fails_in_view, shown}
+use Rattle.fpl_run.specs.Answer.AnswersStart.{not_built_yet, built}
+use Rattle.fpl_run.specs.Answer.AnswersCommand.{unread, no_start, start}
+use Rattle.fpl_run.specs.Laws.{IsCheckpointOf, OwnCheckpoints}
+use Rattle.fpl_run.proofs.Names.{command_in_range}
+use Rattle.fpl_run.proofs.OneReply.{of_words, built_task}
+
+computes : (way : Way) → (way ≡ Check → ⊥) → does_compute way ≡ true
+computes (Show v) other = refl
+computes Write other = refl
+computes Check other = absurd (other refl)
+
+-- a view that computes has one text of one table and its sections, whatever was stored
+text_same : (way : Way) → does_compute way ≡ true → (s t : Start) (limit : ℕ) (g h : Stage) → s.presentation ≡ t.presentation → g.table ≡ h.table → g.sections ≡ h.sections →
+    text_of_way way s limit g ≡ text_of_way way t limit h
+text_same (Show v) c s t limit g h p e f =
+    ap (λ (x : Presentation). text_of_view v x g.table g.sections) p ∙ ap (λ (x : PlainTable). text_of_view v t.presentation x g.sections) e ∙ ap (λ (x : List Section). text_of_view v t.presentation h.table x) f
+text_same Write c s t limit g h p e f = ap₂ (λ x y. Ok (stream_text x y)) p f
+text_same Check c s t limit g h p e f = cc
+
+passing_fault : (f : Fault) → PassesWith (Some (failed f)) → fault_status f ≡ Limit
+passing_fault (too_many w n) h = refl
+passing_fault (bad_bytes b) h = absurd h
+passing_fault (bad_section w spot why) h = absurd h
+passing_fault (overflow w u) h = absurd h
+
+-- a stream has a head, and so begins with the mark
+marked_front : (n end : ℕ) (rest : List ℕ) → suc n ≤ end → IsMarked (take end (checkpoint_mark ∷ rest))
+marked_front n zero rest l = absurd (omega (arith, l))
+marked_front n (suc k) rest l = (omega arith, refl)
+
+stream_marked : (p : Presentation) (bytes : List ℕ) → IsStreamOf p bytes → IsMarked bytes
+stream_marked p bytes stream = subst IsMarked (sym stream.front) (marked_front _ stream.end _ stream.head)
+
+module _ (c : Command) (p : Presentation) (bytes : List ℕ) (own : IsCheckpointOf p bytes) (range : (c.limit ≤ 1000) × (c.entries ≤ 2000000)) where
+  held : (h : Head) → HasHead bytes h → h.presentation ≡ p
+  held h has = heads_are_of p bytes h own.1 has
+
+  module _ (way : Way) (goes : does_compute way ≡ true) (h : Head) (has : HasHead bytes h) where
+    abbrev t : Task
+    t = task_for c way
+
+    same_walks : GiveSame (walk_for t (of_head bytes h)) (walk_for t (of_text p))
+    same_walks =
+        subst (λ (b : Bool). GiveSame (walk_from b c.entries bytes h c.limit) (walk_of b c.entries p nothing c.limit (begun p 0 false))) (sym goes)
+        (own_streams_give p bytes h c.entries c.limit own.1 has range.1 range.0)
+
+    come_too : HasCome t (of_head bytes h) → HasCome t (of_text p)
+    come_too (inl e) = inl (sym same_walks.stop ∙ e)
+    come_too (inr e) = inr (sym same_walks.stop ∙ e)
+
+    text_too : text_of_way way (of_head bytes h) c.limit (walk_for t (of_head bytes h)).stage ≡ text_of_way way (of_text p) c.limit (walk_for t (of_text p)).stage
+    text_too = text_same way goes (of_head bytes h) (of_text p) c.limit (walk_for t (of_head bytes h)).stage (walk_for t (of_text p)).stage (held h has) same_walks.table same_walks.sections
+
+    alone : (r : Reply) → AnswersTask t (of_head bytes h) r → AnswersTask t (of_text p) r
+    alone _ (stopped_at f e) =
+        subst (λ (x : List ℕ). AnswersTask t (of_text p) (stopped x f)) (ap₂ (written_before way) (sym (held h has)) (sym same_walks.sections)) (stopped_at f (sym same_walks.stop ∙ e))
+    alone _ (fails_in_view come f e) = fails_in_view (come_too come) f (sym text_too ∙ e)
+    alone _ (shown come text e) = shown (come_too come) text (sym text_too ∙ e)
+
+  alone_start : (way_of c.view ≡ Some Check → ⊥) → (h : Head) → HasHead bytes h → (r : Reply) → AnswersStart c (of_head bytes h) r → AnswersStart c (of_text p) r
+  alone_start other h has _ (not_built_yet e) = not_built_yet e
+  alone_start other h has _ (built way e r a) = built way e r (alone way (computes way (λ k. other (e ∙ ap Some k))) h has r a)
+
+  -- it is a start, from its head
+  head_start : (s : Start) → IsStart c bytes s → (h : Head) × (HasHead bytes h × (s ≡ of_head bytes h))
+  head_start _ (from_text l a q k) = absurd (a (inr (stream_marked p bytes own.1)))
+  head_start _ (from_head l a h k) = (h, (k, refl))
+
+  no_refusal : (r : Reply) → IsNoStart c bytes r → ⊥
+  no_refusal _ (input_too_long l) = omega (arith, l, own.0)
+  no_refusal _ (text_too_long l a k) = a (inr (stream_marked p bytes own.1))
+  no_refusal _ (no_presentation l a place reason k) = a (inr (stream_marked p bytes own.1))
+  no_refusal _ (no_head l a b k) = let g = have_heads p bytes own.1 in not_bad bytes g.0 b g.1 k
+
+  pub alone_of : (way_of c.view ≡ Some Check → ⊥) → (r : Reply) → AnswersCommand c bytes r → AnswersStart c (of_text p) r
+  alone_of other _ (unread u) = not_built_yet (ap way_of u)
+  alone_of other _ (no_start u r h) = absurd (no_refusal r h)
+  alone_of other _ (start u s is r a) =
+      let h = head_start s is in
+      alone_start other h.0 h.1.0 r (subst (λ (x : Start). AnswersStart c x r) h.1.1 a)
+
+  task_passes : (h : Head) → HasHead bytes h → (r : Reply) → AnswersTask (task_for c Check) (of_head bytes h) r → (status_of r ≡ Done) ⊎ (status_of r ≡ Limit)
+  task_passes h has _ (stopped_at f e) =
+      let pass : PassesWith (walk_from false c.entries bytes h c.limit).stop = own_streams_pass p bytes h c.entries c.limit own.1 has range.1 range.0 in
+      let stop : (walk_from false c.entries bytes h c.limit).stop ≡ Some (failed f) = e in
+      inr (passing_fault f (subst PassesWith stop pass))
+  task_passes h has _ (fails_in_view come f e) = cc
+  task_passes h has _ (shown come text e) = inl refl
+
+  pub command_passes : way_of c.view ≡ Some Check → (r : Reply) → AnswersCommand c bytes r → (status_of r ≡ Done) ⊎ (status_of r ≡ Limit)
+  command_passes e _ (unread u) = let no : ◌≡◌ {A = Option Way} (Some Check) None = sym e ∙ ap way_of u in cc
+  command_passes e _ (no_start u r h) = absurd (no_refusal r h)
+  command_passes e _ (start u s is r a) =
+      let h = head_start s is in
+      task_passes h.0 h.1.0 r (built_task c Check e (of_head bytes h.0) r (subst (λ (x : Start). AnswersStart c x r) h.1.1 a))
+
+pub own_checkpoints : OwnCheckpoints
+own_checkpoints words c p bytes r is own a = record {
+  checked = λ e. command_passes c p bytes own (command_in_range words c is) e r (of_words words bytes c is r a);
+  answered = λ other. alone_of c p bytes own (command_in_range words c is) other r (of_words words bytes c is r a);
+}

@@ -1,0 +1,149 @@
+-- From the reply to a part of the input to that of the whole, and to what a run did.
+use Rattle.std.proofs.Common.{◌≡◌, ℕ, ◌<◌, ◌+◌, ◌⊎◌, inl, inr, List, [], ◌++◌, length, length-append, refl, sym, ap, ◌∙◌, subst, arith, None, Some}
+use Rattle.std.specs.Prelude.{IfSome}
+use Rattle.std.specs.declared.option.Option.{Option}
+use Rattle.std.specs.Io.KnownBytes.{IsAtEnd}
+use Rattle.std.proofs.lemmas.List.{append-nil}
+use Rattle.fpl_outside.specs.Outside.{Gives, Takes}
+use Rattle.fpl_outside.specs.Whole.{PassedMax}
+use Rattle.fpl_walk.specs.Walk.{Fault, too_many, bad_bytes, bad_section, overflow}
+use Rattle.fpl_reply.specs.declared.status.Status.{Status}
+use Rattle.fpl_reply.specs.declared.status.Status.TheVariants.{Usage, ReadFault}
+use Rattle.fpl_reply.specs.Reply.{Reply, read_fault, fault_status, status_of, text_of, with_text, line_of}
+use Rattle.fpl_reply.specs.Leaves.{Says, Leaves, IsAnswered}
+use Rattle.fpl_reply.specs.Leaves.Leaves.{whole, part, front}
+use Rattle.fpl_reply.proofs.Leaving.{leaves_through, none_taken, status_shown, IsInner, fault_inner, view_fault_inner}
+use Rattle.fpl_run.specs.declared.words.View.{View}
+use Rattle.fpl_run.specs.declared.words.Command.{Command}
+use Rattle.fpl_run.specs.declared.task.Way.{Way}
+use Rattle.fpl_run.specs.declared.task.Way.TheVariants.{Show, Write, Check}
+use Rattle.fpl_run.specs.declared.task.Task.{Task}
+use Rattle.fpl_run.specs.Words.{IsCommand}
+use Rattle.fpl_run.specs.Task.{way_of, task_for}
+use Rattle.fpl_run.specs.Start.{Start}
+use Rattle.fpl_run.specs.Read.{IsUnread, IsStart, IsNoStart}
+use Rattle.fpl_run.specs.Read.IsNoStart.{input_too_long, text_too_long, no_presentation, no_head}
+use Rattle.fpl_run.specs.Answer.{AnswersTask, AnswersStart, AnswersCommand, Answers, IsFront, FrontsStart, FrontsCommand, Fronts}
+use Rattle.fpl_run.specs.Answer.AnswersTask.{stopped_at, fails_in_view, shown}
+use Rattle.fpl_run.specs.Answer.AnswersStart.{not_built_yet, built}
+use Rattle.fpl_run.specs.Answer.AnswersCommand.{unread, no_start, start}
+use Rattle.fpl_run.specs.Answer.Answers.{command}
+use Rattle.fpl_run.specs.Run.{IsWritten, MayPut}
+
+pub always : {A : Type 0} (o : Option A) (P : A → Type 0) → ((x : A) → P x) → IfSome o P
+always None P f = tt
+always (Some x) P f = f x
+
+-- an input that was read to its end held what was read
+pub whole_input : (old new : Option (List ℕ)) (bytes : List ℕ) (P : List ℕ → Type 0) → Gives old new bytes → IsAtEnd new → P bytes → IfSome old P
+whole_input None new bytes P g e p = tt
+whole_input (Some bs) None bytes P g e p = cc
+whole_input (Some bs) (Some rest) bytes P g e p =
+    let same : Some bs ≡ Some (bytes ++ rest) = g in
+    let all : bs ≡ bytes ++ rest = cc in
+    let whole : bs ≡ bytes = rw (all, e) (append-nil bytes) in
+    subst P (sym whole) p
+
+pub passed_input : (old new : Option (List ℕ)) (max : ℕ) (P : List ℕ → Type 0) → PassedMax old new max → ((bs : List ℕ) → max < length bs → P bs) → IfSome old P
+passed_input None new max P h f = tt
+passed_input (Some bs) None max P h f = let no : Some bs ≡ None = h.gives in cc
+passed_input (Some bs) (Some rest) max P h f =
+    let same : Some bs ≡ Some (h.front ++ h.piece ++ rest) = h.gives in
+    let all : bs ≡ h.front ++ h.piece ++ rest = cc in
+    let passed : max < length h.front + length h.piece = h.passed in
+    f bs (rw all (omega (arith, length-append (h.front ++ h.piece) rest, length-append h.front h.piece, passed)))
+
+-- a task, told by its command
+pub start_through : (c : Command) (s : Start) (way : Way) → way_of c.view ≡ Some way → (a b : Option (List ℕ)) (r : Reply) →
+    Leaves (AnswersTask (task_for c way) s) (IsFront (task_for c way) s) a b r → Leaves (AnswersStart c s) (FrontsStart c s) a b r
+start_through c s way is a b r h =
+    leaves_through (AnswersTask (task_for c way) s) (AnswersStart c s) (IsFront (task_for c way) s) (FrontsStart c s) a b (λ x k. built way is x k) (λ text f. (way, is, f)) r h
+
+-- what was read, told by its bytes
+pub command_through : (c : Command) (bytes : List ℕ) (s : Start) → (IsUnread c.view → ⊥) → IsStart c bytes s → (a b : Option (List ℕ)) (r : Reply) →
+    Leaves (AnswersStart c s) (FrontsStart c s) a b r → Leaves (AnswersCommand c bytes) (FrontsCommand c bytes) a b r
+command_through c bytes s now is a b r h =
+    leaves_through (AnswersStart c s) (AnswersCommand c bytes) (FrontsStart c s) (FrontsCommand c bytes) a b (λ x k. start now s is x k) (λ text f. (s, is, f)) r h
+
+-- no reply to what is read of an input
+module _ (c : Command) (bytes : List ℕ) where
+  task_inner : (t : Task) (s : Start) (r : Reply) → AnswersTask t s r → IsInner (status_of r)
+  task_inner t s _ (stopped_at f e) = fault_inner f
+  task_inner t s _ (fails_in_view come f e) = view_fault_inner f
+  task_inner t s _ (shown come text e) = (λ e. cc, λ e. cc, λ e. cc, λ e. cc)
+
+  start_inner : (s : Start) (r : Reply) → AnswersStart c s r → IsInner (status_of r)
+  start_inner s _ (not_built_yet e) = (λ e. cc, λ e. cc, λ e. cc, λ e. cc)
+  start_inner s _ (built way is r a) = task_inner (task_for c way) s r a
+
+  no_start_inner : (r : Reply) → IsNoStart c bytes r → IsInner (status_of r)
+  no_start_inner _ (input_too_long l) = (λ e. cc, λ e. cc, λ e. cc, λ e. cc)
+  no_start_inner _ (text_too_long l m k) = (λ e. cc, λ e. cc, λ e. cc, λ e. cc)
+  no_start_inner _ (no_presentation l m place reason k) = (λ e. cc, λ e. cc, λ e. cc, λ e. cc)
+  no_start_inner _ (no_head l m b k) = fault_inner (bad_bytes b)
+
+  pub command_inner : (r : Reply) → AnswersCommand c bytes r → IsInner (status_of r)
+  command_inner _ (unread u) = (λ e. cc, λ e. cc, λ e. cc, λ e. cc)
+  command_inner _ (no_start u r h) = no_start_inner r h
+  command_inner _ (start u s is r h) = start_inner s r h
+
+  pub ended_inner : (F : List ℕ → Type 0) (oo on : Option (List ℕ)) (r : Reply) → Leaves (AnswersCommand c bytes) F oo on r → (status_of r ≡ ReadFault → ⊥) × (status_of r ≡ Usage → ⊥)
+  ended_inner F oo on _ (whole r text h t) =
+      let inner : IsInner (status_of r) = subst IsInner (status_shown text r) (command_inner (with_text text r) h) in
+      (inner.0, inner.1)
+  ended_inner F oo on _ (part r h p t) = (λ e. cc, λ e. cc)
+  ended_inner F oo on _ (front h) = (λ e. cc, λ e. cc)
+
+  fault_may_put : (v : View) (f : Fault) → IsWritten v → MayPut v (fault_status f)
+  fault_may_put v (too_many w n) e = e
+  fault_may_put v (bad_bytes b) e = e
+  fault_may_put v (bad_section w spot why) e = e
+  fault_may_put v (overflow w u) e = e
+
+  -- where nothing may be put, there is no text
+  task_quiet : (s : Start) (way : Way) → way_of c.view ≡ Some way → (r : Reply) → AnswersTask (task_for c way) s r → (MayPut c.view (status_of r) → ⊥) → text_of r ≡ []
+  task_quiet s (Show v) is _ (stopped_at f e) never = refl
+  task_quiet s Write is _ (stopped_at f e) never = absurd (never (fault_may_put c.view f is))
+  task_quiet s Check is _ (stopped_at f e) never = refl
+  task_quiet s way is _ (fails_in_view come f e) never = refl
+  task_quiet s way is _ (shown come text e) never = absurd (never tt)
+
+  start_quiet : (s : Start) (r : Reply) → AnswersStart c s r → (MayPut c.view (status_of r) → ⊥) → text_of r ≡ []
+  start_quiet s _ (not_built_yet e) never = refl
+  start_quiet s _ (built way is r a) never = task_quiet s way is r a never
+
+  no_start_quiet : (r : Reply) → IsNoStart c bytes r → text_of r ≡ []
+  no_start_quiet _ (input_too_long l) = refl
+  no_start_quiet _ (text_too_long l m k) = refl
+  no_start_quiet _ (no_presentation l m place reason k) = refl
+  no_start_quiet _ (no_head l m b k) = refl
+
+  command_quiet : (r : Reply) → AnswersCommand c bytes r → (MayPut c.view (status_of r) → ⊥) → text_of r ≡ []
+  command_quiet _ (unread u) never = refl
+  command_quiet _ (no_start u r h) never = no_start_quiet r h
+  command_quiet _ (start u s is r h) never = start_quiet s r h never
+
+  pub quiet_output : (oo on : Option (List ℕ)) (r : Reply) → Leaves (AnswersCommand c bytes) (FrontsCommand c bytes) oo on r → (MayPut c.view (status_of r) → ⊥) → on ≡ oo
+  quiet_output oo on _ (whole r text h t) never =
+      let none : text_of (with_text text r) ≡ [] = command_quiet (with_text text r) h (λ m. never (subst (MayPut c.view) (status_shown text r) m)) in
+      none_taken oo on (subst (λ x. Takes oo on x) none t)
+  quiet_output oo on _ (part r h p t) never = absurd (never tt)
+  quiet_output oo on _ (front (inl e)) never = e
+  quiet_output oo on _ (front (inr h)) never =
+      let f = h.1.2 in
+      let is : way_of c.view ≡ Some f.0 = f.1 in
+      let way : f.0 ≡ Write = f.2.0 in
+      absurd (never (is ∙ ap Some way))
+
+pub command_reply : (words : List (List ℕ)) (c : Command) → IsCommand words c → (left oo on : Option (List ℕ)) (r : Reply) →
+    IfSome left (λ bytes. (r ≡ read_fault) ⊎ Leaves (AnswersCommand c bytes) (FrontsCommand c bytes) oo on r) → IfSome left (λ bytes. (r ≡ read_fault) ⊎ Leaves (Answers words bytes) (Fronts words bytes) oo on r)
+command_reply words c is None oo on r h = tt
+command_reply words c is (Some bytes) oo on r (inl e) = inl e
+command_reply words c is (Some bytes) oo on r (inr h) =
+    inr (leaves_through (AnswersCommand c bytes) (Answers words bytes) (FrontsCommand c bytes) (Fronts words bytes) oo on (λ x a. command c is x a) (λ text f. (c, is, f)) r h)
+
+pub answered : (words : List (List ℕ)) (left oo on eo en : Option (List ℕ)) (before now : ℕ) (r : Reply) →
+    IfSome left (λ bytes. (r ≡ read_fault) ⊎ Leaves (Answers words bytes) (Fronts words bytes) oo on r) → Says eo en before now (line_of r) →
+    IfSome left (λ bytes. IsAnswered (Answers words bytes) (Fronts words bytes) (status_of r) oo on eo en before now)
+answered words None oo on eo en before now r h l = tt
+answered words (Some bytes) oo on eo en before now r h l = record { reply = r; status = refl; leaves = h; line = l }

@@ -1,0 +1,10 @@
+pub mod Words
+pub mod Task
+pub mod Start
+pub mod Read
+pub mod CheckText
+pub mod Stream
+pub mod Answer
+pub mod Begin
+pub mod Run
+pub mod Laws

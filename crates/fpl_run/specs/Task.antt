@@ -1,0 +1,33 @@
+-- How a command is done.
+--   way_of view: how a view is made, where it is built: a text of the table; sections written along the way; or a check of those stored
+--   task_for c way: a command that is done so
+--   does_compute way: whether the weights are computed whose sections aren't stored, as all do but a check
+--   IsCounted way: a row that it gives to an elimination is an origin of a weight
+use Rattle.std.specs.Prelude.{Bool, true, false, Option, Some, None}
+use Rattle.fpl_views.specs.declared.shown.Shown.TheVariants as shown
+use Rattle.fpl_views.specs.Views as views
+use Rattle.fpl_run.specs.declared.words.View.{View}
+use Rattle.fpl_run.specs.declared.words.View.TheVariants as view
+use Rattle.fpl_run.specs.declared.words.Command.{Command}
+use Rattle.fpl_run.specs.declared.task.Way.{Way}
+use Rattle.fpl_run.specs.declared.task.Way.TheVariants.{Show, Write, Check}
+use Rattle.fpl_run.specs.declared.task.Task.{Task}
+
+abbrev pub way_of : View → Option Way
+way_of view.Table = Some (Show shown.Table)
+way_of view.Series = Some (Show shown.Series)
+way_of view.Checkpoint = Some Write
+way_of view.Check = Some Check
+way_of _ = None
+
+abbrev pub task_for : Command → Way → Task
+task_for c way = record { way = way; limit = c.limit; entries = c.entries }
+
+abbrev pub does_compute : Way → Bool
+does_compute Check = false
+does_compute _ = true
+
+abbrev pub IsCounted : Way → Type 0
+IsCounted (Show v) = views.IsCounted v
+IsCounted Write = Unit {0}
+IsCounted Check = Unit {0}

@@ -1,0 +1,173 @@
+//! From the bytes of an input to what they come to.
+ghost use Rattle.std.specs.Prelude.{◌≡◌, ◌≢◌, ◌≤◌, ◌⊎◌, ◌↔◌, length, IfSome, IsTrue, None};
+ghost use Rattle.std.specs.Io.KnownBytes.{IsAtEnd};
+ghost use Rattle.fpl_bytes.specs.Codes.{IsBytes};
+ghost use Rattle.fpl_outside.specs.Outside.{Rose};
+ghost use Rattle.fpl_reply.specs.Reply.{read_fault, status_of};
+ghost use Rattle.fpl_reply.specs.Outcome.{reply_of};
+ghost use Rattle.fpl_reply.specs.Leaves.{Leaves};
+ghost use Rattle.fpl_run.specs.Words.{IsInRange};
+ghost use Rattle.fpl_run.specs.Task.{way_of};
+ghost use Rattle.fpl_run.specs.Read.{IsUnread, IsMarked, IsCheckpoint};
+ghost use Rattle.fpl_run.specs.Answer.{AnswersCommand, FrontsCommand};
+ghost use Rattle.fpl_run.specs.Run.{MayPut, CostsAtMost};
+
+use crate::start::{Begin, answer_start};
+use crate::words::{Command, View};
+use fpl_checkpoint::{CHECKPOINT_MARK, ScanError, scan_head};
+use fpl_outside::{ReadError, Sink, Source, read_whole};
+use fpl_reader::{ReaderError, read};
+use fpl_reply::{Outcome, Refusal, Status};
+use fpl_steps::Steps;
+use std::alloc::Global;
+use std::sync::ledger::Ledger;
+
+// The most bytes of any input, and of a presentation.
+const MOST_BYTES: usize = 1_073_741_824;
+
+const MOST_TEXT: usize = 67_108_864;
+
+fn is_unread(view: View) -> bool
+    ensures { IsTrue result ↔ IsUnread view }
+{
+    matches!(view, View::Sample)
+}
+
+fn is_marked(bytes: &[u8]) -> bool
+    ensures { IsTrue result ↔ IsMarked bytes.now }
+{
+    !bytes.is_empty() && bytes[0] == CHECKPOINT_MARK
+}
+
+fn is_checkpoint(c: Command, bytes: &[u8]) -> bool
+    ensures { IsTrue result ↔ IsCheckpoint c bytes.now }
+{
+    matches!(c.view, View::Check) || is_marked(bytes)
+}
+
+fn answer_text<O: Sink, L: Ledger>(
+    alloc: Global,
+    c: Command,
+    bytes: &[u8],
+    out: &mut O,
+    steps: &mut Steps<L>,
+) -> Outcome
+    requires range { IsInRange c.limit c.entries }
+    requires read { IsUnread c.view → ⊥ }
+    requires short { length bytes.now ≤ MOST_BYTES }
+    requires plain { IsCheckpoint c bytes.now → ⊥ }
+    ensures reply { Leaves (AnswersCommand c bytes.now) (FrontsCommand c bytes.now) (O.taken out.old) (O.taken out.new) (reply_of result) }
+    ensures fault { status_of (reply_of result) ≡ Status.WriteFault → Rose (O.faults out.old) (O.faults out.new) }
+    ensures cost { CostsAtMost c bytes.now steps.old steps.new }
+    ensures idle { way_of c.view ≡ None → steps.new ≡ steps.old }
+{
+    if bytes.len() > MOST_TEXT {
+        return Outcome::Refused {
+            place: MOST_TEXT as u64,
+            why: Refusal::TooLong,
+        };
+    }
+    match read(alloc, bytes) {
+        Ok(presentation) => {
+            let begin = Begin {
+                presentation,
+                version: 2,
+                place: 0,
+                stored: false,
+            };
+            answer_start(alloc, c, begin, b"", out, steps)
+        }
+        Err(ReaderError::Refused { place, reason }) => Outcome::Refused {
+            place,
+            why: Refusal::Unread(reason),
+        },
+        Err(ReaderError::NoMemory) => Outcome::NoMemory,
+    }
+}
+
+fn answer_checkpoint<O: Sink, L: Ledger>(
+    alloc: Global,
+    c: Command,
+    bytes: &[u8],
+    out: &mut O,
+    steps: &mut Steps<L>,
+) -> Outcome
+    requires range { IsInRange c.limit c.entries }
+    requires read { IsUnread c.view → ⊥ }
+    requires short { length bytes.now ≤ MOST_BYTES }
+    requires checkpoint { IsCheckpoint c bytes.now }
+    ensures reply { Leaves (AnswersCommand c bytes.now) (FrontsCommand c bytes.now) (O.taken out.old) (O.taken out.new) (reply_of result) }
+    ensures fault { status_of (reply_of result) ≡ Status.WriteFault → Rose (O.faults out.old) (O.faults out.new) }
+    ensures cost { CostsAtMost c bytes.now steps.old steps.new }
+    ensures idle { way_of c.view ≡ None → steps.new ≡ steps.old }
+{
+    match scan_head(alloc, bytes) {
+        Ok(head) => {
+            let begin = Begin {
+                presentation: head.presentation,
+                version: head.version,
+                place: head.end,
+                stored: true,
+            };
+            answer_start(alloc, c, begin, bytes, out, steps)
+        }
+        Err(ScanError::Bad(bad)) => Outcome::BadBytes(bad),
+        Err(ScanError::NoMemory) => Outcome::NoMemory,
+    }
+}
+
+fn answer_bytes<O: Sink, L: Ledger>(
+    alloc: Global,
+    c: Command,
+    bytes: &[u8],
+    out: &mut O,
+    steps: &mut Steps<L>,
+) -> Outcome
+    requires range { IsInRange c.limit c.entries }
+    requires read { IsUnread c.view → ⊥ }
+    requires short { length bytes.now ≤ MOST_BYTES }
+    ensures bytes { IsBytes bytes.now }
+    ensures reply { Leaves (AnswersCommand c bytes.now) (FrontsCommand c bytes.now) (O.taken out.old) (O.taken out.new) (reply_of result) }
+    ensures fault { status_of (reply_of result) ≡ Status.WriteFault → Rose (O.faults out.old) (O.faults out.new) }
+    ensures cost { CostsAtMost c bytes.now steps.old steps.new }
+    ensures idle { way_of c.view ≡ None → steps.new ≡ steps.old }
+{
+    if is_checkpoint(c, bytes) {
+        return answer_checkpoint(alloc, c, bytes, out, steps);
+    }
+    answer_text(alloc, c, bytes, out, steps)
+}
+
+/// What a command comes to.
+pub(crate) fn answer_command<I: Source, O: Sink, L: Ledger>(
+    alloc: Global,
+    c: Command,
+    input: &mut I,
+    out: &mut O,
+    steps: &mut Steps<L>,
+) -> Outcome
+    requires range { IsInRange c.limit c.entries }
+    ensures command { status_of (reply_of result) ≢ Status.Usage }
+    ensures reply { IfSome (I.left input.old) (λ bytes. (reply_of result ≡ read_fault) ⊎ Leaves (AnswersCommand c bytes) (FrontsCommand c bytes) (O.taken out.old) (O.taken out.new) (reply_of result)) }
+    ensures fault { status_of (reply_of result) ≡ Status.WriteFault → Rose (O.faults out.old) (O.faults out.new) }
+    ensures cost { IfSome (I.left input.old) (λ bytes. CostsAtMost c bytes steps.old steps.new) }
+    ensures nothing { (MayPut c.view (status_of (reply_of result)) → ⊥) → O.taken out.new ≡ O.taken out.old }
+    ensures bytes { status_of (reply_of result) ≡ Status.Done → IfSome (I.left input.old) IsBytes }
+    ensures unread { IsUnread c.view → input.new ≡ input.old }
+    ensures idle { way_of c.view ≡ None → steps.new ≡ steps.old }
+    ensures read { status_of (reply_of result) ≡ Status.ReadFault → Rose (I.faults input.old) (I.faults input.new) × (IsUnread c.view → ⊥) }
+    ensures end { status_of (reply_of result) ≡ Status.Done → IsAtEnd (I.left input.new) }
+{
+    if is_unread(c.view) {
+        return Outcome::NotBuilt;
+    }
+    match read_whole(alloc, input, MOST_BYTES) {
+        Ok(bytes) => answer_bytes(alloc, c, &bytes, out, steps),
+        Err(ReadError::TooLong) => Outcome::Refused {
+            place: MOST_BYTES as u64,
+            why: Refusal::TooLong,
+        },
+        Err(ReadError::Fault) => Outcome::ReadFault,
+        Err(ReadError::NoMemory) => Outcome::NoMemory,
+    }
+}

@@ -1,0 +1,29 @@
+-- What the texts of the views obey, over any sound presentation and its standard table through any weight.
+--   TextsShow: where the plain run of a view gives a text, the text shows what the view promises
+--   TextsFitOverPrimes: over a prime no operation of a view fails to fit
+--   TextsAreOfTables: the text of a view of the table alone is the same for all sections
+use Rattle.std.specs.Prelude.{ℕ, ◌≡◌, List, Ok, Err}
+use Rattle.fpl_numbers.specs.declared.number.Unfit.{Unfit}
+use Rattle.fpl_numbers.specs.declared.number.Kind.TheVariants.{Prime}
+use Rattle.fpl_log.specs.declared.section.Section.{Section}
+use Rattle.fpl_model.specs.declared.presentation.Presentation.{Presentation}
+use Rattle.fpl_model.specs.Sound.{IsSound}
+use Rattle.fpl_table.specs.Plain.{PlainTable}
+use Rattle.fpl_table.specs.Standard.{IsTableOf}
+use Rattle.plain_tables.specs.Raised.{IsRaised}
+use Rattle.fpl_reply.specs.declared.view_fault.ViewFault.TheVariants.{Overflow}
+use Rattle.fpl_views.specs.declared.shown.Shown.{Shown}
+use Rattle.fpl_views.specs.Views.{text_of_view, Shows, IsOfTable}
+
+abbrev pub TextsShow : Type 0
+TextsShow =
+    (v : Shown) (p : Presentation) (T : PlainTable) (sections : List Section) (text : List ℕ) → IsSound p → IsTableOf p T.weight T → IsRaised p T →
+    text_of_view v p T sections ≡ Ok text → Shows v p T sections text
+
+abbrev pub TextsFitOverPrimes : Type 0
+TextsFitOverPrimes =
+    (v : Shown) (n : ℕ) (p : Presentation) (T : PlainTable) (sections : List Section) (u : Unfit) → IsSound p → IsTableOf p T.weight T → IsRaised p T →
+    p.field ≡ Prime n → text_of_view v p T sections ≡ Err (Overflow u) → ⊥
+
+abbrev pub TextsAreOfTables : Type 0
+TextsAreOfTables = (v : Shown) → IsOfTable v → (p : Presentation) (T : PlainTable) (ss more : List Section) → text_of_view v p T ss ≡ text_of_view v p T more

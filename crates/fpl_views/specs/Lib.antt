@@ -1,0 +1,4 @@
+pub mod Table
+pub mod Series
+pub mod Views
+pub mod Laws

@@ -1,0 +1,33 @@
+-- The views of a table: what each writes, and what that says. A row for each view.
+--   text_of_view v p T sections: the plain run of a view of the table T of p, which was raised by the sections: its text, or the first fault of its own
+--   Shows v p T sections text: what the text says, in the words of the algebra: no walk and no elimination stands in it
+--   IsOfTable v: the text is of the table alone, and not of the sections
+--   IsCounted v: it gives no row to an elimination
+use Rattle.std.specs.Prelude.{ℕ, List, Result, Ok}
+use Rattle.fpl_log.specs.declared.section.Section.{Section}
+use Rattle.fpl_model.specs.declared.presentation.Presentation.{Presentation}
+use Rattle.fpl_table.specs.Plain.{PlainTable}
+use Rattle.fpl_spelling.specs.Spelling.{names_of}
+use Rattle.fpl_print.specs.TableText.{table_text}
+use Rattle.fpl_print.specs.SeriesText.{series_text}
+use Rattle.fpl_reply.specs.declared.view_fault.ViewFault.{ViewFault}
+use Rattle.fpl_views.specs.declared.shown.Shown.{Shown}
+use Rattle.fpl_views.specs.declared.shown.Shown.TheVariants.{Table, Series}
+use Rattle.fpl_views.specs.Table.{ShowsTable}
+use Rattle.fpl_views.specs.Series.{ShowsSeries}
+
+abbrev pub text_of_view : Shown → Presentation → PlainTable → List Section → Result (List ℕ) ViewFault
+text_of_view Table p T sections = Ok (table_text (names_of p) T)
+text_of_view Series p T sections = Ok (series_text T)
+
+abbrev pub Shows : Shown → Presentation → PlainTable → List Section → List ℕ → Type 0
+Shows Table p T sections text = ShowsTable p T text
+Shows Series p T sections text = ShowsSeries p T text
+
+abbrev pub IsOfTable : Shown → Type 0
+IsOfTable Table = Unit {0}
+IsOfTable Series = Unit {0}
+
+abbrev pub IsCounted : Shown → Type 0
+IsCounted Table = Unit {0}
+IsCounted Series = Unit {0}

@@ -1,0 +1,10 @@
+//! The views of a table: what each shows, and its text. Each view has a file of its own.
+#![tactic(auto)]
+
+mod laws;
+mod series;
+mod shown;
+mod table;
+
+pub use laws::{views_of_tables, views_show};
+pub use shown::{ShowError, Shown, show};

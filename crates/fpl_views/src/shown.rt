@@ -1,0 +1,58 @@
+//! The texts of the views.
+ghost use Rattle.std.specs.Prelude.{◌≡◌, ◌≤◌, Ok, Err, IfOk, IsErrOf};
+ghost use Rattle.fpl_reply.specs.declared.view_fault.ViewFault.{ViewFault};
+ghost use Rattle.fpl_model.specs.Sound.{IsSound};
+ghost use Rattle.fpl_table.specs.Standard.{IsTableOf};
+ghost use Rattle.fpl_views.specs.Views.{text_of_view, IsCounted};
+
+use crate::series::show_series;
+use crate::table::show_table;
+use fpl_log::Sections;
+use fpl_model::Presentation;
+use fpl_reply::ViewFault;
+use fpl_scalar::Field;
+use fpl_steps::Steps;
+use fpl_table::Table;
+use std::alloc::Global;
+use std::sync::ledger::Ledger;
+
+/// What is shown of a table.
+#[derive(Clone, Copy, Debug, PartialEq, Eq)]
+pub enum Shown {
+    /// The commutator table.
+    Table,
+    /// How many even and how many odd basis elements each weight has.
+    Series,
+}
+
+/// Why a view has no text.
+#[derive(Clone, Copy, Debug, PartialEq, Eq)]
+pub enum ShowError {
+    Fault(ViewFault),
+    NoMemory,
+}
+
+/// The text of a view of the presentation's table, which was raised by the sections.
+///
+/// A fault is the first of the view's own operations that doesn't fit, or the number of its words.
+/// A view that eliminates takes a step for each row that it gives.
+pub fn show<F: Field, L: Ledger>(
+    alloc: Global,
+    shown: Shown,
+    p: &Presentation,
+    table: &Table<F>,
+    sections: &Sections,
+    steps: &mut Steps<L>,
+) -> Result<Vec<u8>, ShowError>
+    requires sound { IsSound p.now }
+    requires standard { IsTableOf p.now table.now.weight table.now }
+    ensures text { IfOk result (λ text. text_of_view shown p.now table.now sections.now ≡ Ok text.items) }
+    ensures fault { (fault : ViewFault) → IsErrOf result (ShowError.Fault fault) → text_of_view shown p.now table.now sections.now ≡ Err fault }
+    ensures rises { steps.old ≤ steps.new }
+    ensures idle { IsCounted shown → steps.new ≡ steps.old }
+{
+    match shown {
+        Shown::Table => show_table(alloc, p, table),
+        Shown::Series => show_series(alloc, p, table),
+    }
+}

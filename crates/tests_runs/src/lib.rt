@@ -1,0 +1,7 @@
+//! Runs whose reads and puts fail, one after the other.
+#![tactic(auto)]
+
+ghost use Rattle.std.specs.Prelude.{◌≡◌, ◌≤◌, ◌<◌};
+
+#[cfg(test)]
+mod tests;
