@@ -4,7 +4,7 @@ ghost use Rattle.fpl_model.specs.Sound.{IsSound};
 ghost use Rattle.fpl_model.specs.declared.presentation.Presentation.{Presentation};
 ghost use Rattle.fpl_reader.specs.Reading.{HasPresentation};
 ghost use Rattle.fpl_canonical.specs.Canonical.{canonical_of};
-ghost use Rattle.fpl_checkpoint.specs.Heads.{VERSION, checkpoint_mark, head_bytes_of, byte, sized, head_text};
+ghost use Rattle.fpl_checkpoint.specs.Heads.{checkpoint_mark, head_bytes_of, byte, sized, head_text};
 ghost use Rattle.fpl_checkpoint.specs.Scans.{Scans};
 
 use fpl_bytes::u32_at;
@@ -34,7 +34,7 @@ pub struct Head {
 /// The head of version 2. The canonical text has to have fewer than 2^32 bytes.
 pub fn head_bytes(alloc: Global, p: &Presentation) -> Result<Vec<u8>, AllocError>
     requires { length (canonical_of p.now) < 2 ^ 32 }
-    ensures { IfOk result (λ v. v.items ≡ head_bytes_of VERSION p.now) }
+    ensures { IfOk result (λ v. v.items ≡ head_bytes_of 2 p.now) }
 {
     let text = write(alloc, p)?;
     let mut out = Vec::new(alloc);
