@@ -59,7 +59,8 @@ abbrev mutual
   expression_text names stand (gen g) = name_text names g
   expression_text names stand none = codes "0"
   expression_text names stand (sum_of es) = in_parentheses (encloses_sum stand) (sum_text names true es)
-  expression_text names stand (multiple c e) = in_parentheses (encloses_multiple stand) (own_sign stand c ++ magnitude_text c ++ codes "*" ++ expression_text names Factor e)
+  expression_text names stand (multiple c e) =
+      in_parentheses (encloses_multiple stand) (own_sign stand c ++ magnitude_text c ++ codes "*" ++ expression_text names Factor e)
   expression_text names stand (bracket_of a b) = codes "[" ++ expression_text names Alone a ++ codes "," ++ expression_text names Alone b ++ codes "]"
 
   pub sum_text : (names : List (List ℕ)) → (first : Bool) → Trees Num → List ℕ

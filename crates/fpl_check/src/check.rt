@@ -74,7 +74,8 @@ pub fn check_section<F: Field>(
     requires section { IsSectionFor table.now section.now }
     ensures value { GivesCheck (λ rows. rows) result (check_of table.now p.now section.now) }
     ensures closed { IfOk result (λ rows. IsClosedList table.now.kind (length (symbols_in table.now)) rows) }
-    ensures spans { IfOk result (λ rows. SpansKind (field_of p.now.field) (IsSource (field_of p.now.field) (presentation_in p.now) (table_in p.now.field table.now)) (length rows) (row_in p.now.field rows)) }
+    ensures spans { IfOk result (λ rows. SpansKind (field_of p.now.field) (IsSource (field_of p.now.field) (presentation_in p.now)
+        (table_in p.now.field table.now)) (length rows) (row_in p.now.field rows)) }
 {
     checked_rows(alloc, table, p, section)
 }

@@ -40,7 +40,8 @@ fn conclude_insert<F: Field>(
     requires earlier { AreRows table.now.kind (length (symbols_in table.now)) earlier.now }
     requires terms { All (IsTermOf table.now.kind (length earlier.now)) terms.now }
     requires scale { IsElement table.now.kind scale.now }
-    ensures value { GivesBy (λ row. row) result (and_then (λ row. conclude_of table.now.kind earlier.now row terms.now (scale_if scale.now)) (row_of_origin table.now p.now origin)) }
+    ensures value { GivesBy (λ row. row) result (and_then (λ row. conclude_of table.now.kind earlier.now row terms.now (scale_if scale.now))
+        (row_of_origin table.now p.now origin)) }
     ensures row { IfOk result (λ row. IsRowOf table.now.kind (length (symbols_in table.now)) row) }
 {
     match origin_row(alloc, table, p, symbols, origin) {

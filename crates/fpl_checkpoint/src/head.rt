@@ -48,7 +48,8 @@ pub fn head_bytes(alloc: Global, p: &Presentation) -> Result<Vec<u8>, AllocError
 fn canonical_reading(alloc: Global, text: &[u8]) -> Result<Option<Presentation>, AllocError>
     requires { length text.now < 2 ^ 32 }
     ensures sound { IfOk result (λ found. IfSome found IsSound) }
-    ensures text { IfOk result (λ found. MatchOption found ((p : Presentation) → HasPresentation text.now p → text.now ≡ canonical_of p → ⊥) (λ p. HasPresentation text.now p × (text.now ≡ canonical_of p))) }
+    ensures text { IfOk result (λ found. MatchOption found ((p : Presentation) → HasPresentation text.now p → text.now ≡ canonical_of p → ⊥)
+        (λ p. HasPresentation text.now p × (text.now ≡ canonical_of p))) }
 {
     match read(alloc, text) {
         Ok(p) => {

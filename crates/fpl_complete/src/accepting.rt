@@ -45,7 +45,8 @@ pub fn accept<F: Field>(
     ensures value { GivesCheck (λ w. w.rows) result (check_of table.now p.now section) }
     ensures section { IfOk result (λ w. w.section ≡ slimmed table.now p.now section) }
     ensures closed { IfOk result (λ w. IsClosedList table.now.kind (length (symbols_in table.now)) w.rows) }
-    ensures spans { IfOk result (λ w. SpansKind (field_of p.now.field) (IsSource (field_of p.now.field) (presentation_in p.now) (table_in p.now.field table.now)) (length w.rows) (row_in p.now.field w.rows)) }
+    ensures spans { IfOk result (λ w. SpansKind (field_of p.now.field) (IsSource (field_of p.now.field) (presentation_in p.now) (table_in p.now.field table.now))
+        (length w.rows) (row_in p.now.field w.rows)) }
 {
     let rows = match check_section(alloc, table, p, &section) {
         Ok(rows) => rows,

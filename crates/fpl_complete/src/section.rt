@@ -54,7 +54,13 @@ pub fn section_of<F: Field>(
     requires names { AllNameEarlier 0 steps }
     requires elements { All (AreElements (F.kind_of field.now)) rows.now }
     requires closes { length rows.now ≤ length steps }
-    ensures { IfOk result (λ s. s ≡ record { weight = weight; origins = Some (length steps - length rows.now); steps = slim_steps [] 0 steps; closed = closed_list rows.now }) }
+    ensures { IfOk result (λ s. s ≡ record {
+      weight = weight;
+      origins = Some (length steps - length rows.now);
+      steps = slim_steps [] 0 steps;
+      closed =
+          closed_list rows.now;
+    }) }
 {
     let origins = (steps.len() - rows.len()) as u64;
     let closed = list_of(alloc, field, rows)?;

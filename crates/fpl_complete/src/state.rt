@@ -129,7 +129,9 @@ impl<F: Field> State<F> {
         requires weight { self.old.table.weight < 1000 }
         requires entries { entries ≤ 2000000 }
         ensures presentation { self.new.presentation ≡ self.old.presentation }
-        ensures value { OnOk result ((h : Held) × (close_weight self.old.table self.old.presentation ≡ Ok h) × (self.new.table ≡ push_of self.old.table (rows_of h.pivots)) × (self.new.sections ≡ self.old.sections ++ section_of self.old.table self.old.presentation h ∷ [])) }
+        ensures value { OnOk result ((h : Held) × (close_weight self.old.table self.old.presentation ≡ Ok h)
+            × (self.new.table ≡ push_of self.old.table (rows_of h.pivots)) × (self.new.sections ≡ self.old.sections
+            ++ section_of self.old.table self.old.presentation h ∷ [])) }
         ensures next { OnOk result (next_of self.old.table self.old.presentation ≡ Ok self.new.table) }
         ensures weight { OnOk result (self.new.table.weight ≡ self.old.table.weight + 1) }
         ensures sections { OnOk result (self.new.sections ≡ self.old.sections ++ section_at self.new.sections self.new.table.weight ∷ []) }
@@ -137,8 +139,10 @@ impl<F: Field> State<F> {
         ensures within { OnOk result (count_through self.new.table self.new.table.weight ≤ entries) }
         ensures counts { OnOk result ((v : ℕ) → v ≤ self.old.table.weight + 1 → count_through self.new.table v ≡ count_through self.old.table v) }
         ensures limit { (w c : ℕ) → IsErrOf result (RaiseFault.Limit w c) ↔ ((w ≡ self.old.table.weight + 1) × (c ≡ count_through self.old.table w) × (entries < c)) }
-        ensures overflow { (w : ℕ) (op : Op) (a b : Num) → IsErrOf result (RaiseFault.Overflow w op a b) → (w ≡ self.old.table.weight + 1) × OverflowsAt self.old.presentation w (unfit_of op a b) × (count_through self.old.table w ≤ entries) }
-        ensures refused { (w : ℕ) (op : Op) (a b : Num) → IsErrOf result (RaiseFault.Overflow w op a b) → close_weight self.old.table self.old.presentation ≡ Err (unfit_of op a b) }
+        ensures overflow { (w : ℕ) (op : Op) (a b : Num) → IsErrOf result (RaiseFault.Overflow w op a b) →
+            (w ≡ self.old.table.weight + 1) × OverflowsAt self.old.presentation w (unfit_of op a b) × (count_through self.old.table w ≤ entries) }
+        ensures refused { (w : ℕ) (op : Op) (a b : Num) → IsErrOf result (RaiseFault.Overflow w op a b) →
+            close_weight self.old.table self.old.presentation ≡ Err (unfit_of op a b) }
         ensures fractions { (w : ℕ) (op : Op) (a b : Num) → IsErrOf result (RaiseFault.Overflow w op a b) → self.old.presentation.field ≡ Kind.Rational }
         ensures unchanged { OnErr result (self.new ≡ self.old) }
         ensures step { OnOk result (steps.new ≡ steps.old + length (origins_of self.old.table self.old.presentation)) }
@@ -191,9 +195,14 @@ impl<F: Field> State<F> {
         ensures counts { OnOk result ((v : ℕ) → v ≤ self.old.table.weight + 1 → count_through self.new.table v ≡ count_through self.old.table v) }
 
         // What a refusal names.
-        ensures limit { (w c : ℕ) → IsErrOf result (AdoptFault.Raise (RaiseFault.Limit w c)) ↔ ((w ≡ self.old.table.weight + 1) × (c ≡ count_through self.old.table w) × (entries < c)) }
-        ensures bad { (w : ℕ) (spot : Spot) (why : Why) → IsErrOf result (AdoptFault.Bad w spot why) → (w ≡ self.old.table.weight + 1) × (check_of self.old.table self.old.presentation section ≡ Err (bad spot why)) × (count_through self.old.table w ≤ entries) }
-        ensures overflow { (w : ℕ) (op : Op) (a b : Num) → IsErrOf result (AdoptFault.Raise (RaiseFault.Overflow w op a b)) → (w ≡ self.old.table.weight + 1) × (check_of self.old.table self.old.presentation section ≡ Err (unfit (unfit_of op a b))) × (count_through self.old.table w ≤ entries) }
+        ensures limit { (w c : ℕ) → IsErrOf result (AdoptFault.Raise (RaiseFault.Limit w c)) ↔
+            ((w ≡ self.old.table.weight + 1) × (c ≡ count_through self.old.table w) × (entries < c)) }
+        ensures bad { (w : ℕ) (spot : Spot) (why : Why) → IsErrOf result (AdoptFault.Bad w spot why) →
+            (w ≡ self.old.table.weight + 1) × (check_of self.old.table self.old.presentation section ≡ Err (bad spot why))
+            × (count_through self.old.table w ≤ entries) }
+        ensures overflow { (w : ℕ) (op : Op) (a b : Num) → IsErrOf result (AdoptFault.Raise (RaiseFault.Overflow w op a b)) →
+            (w ≡ self.old.table.weight + 1) × (check_of self.old.table self.old.presentation section ≡ Err (unfit (unfit_of op a b)))
+            × (count_through self.old.table w ≤ entries) }
         ensures fractions { (w : ℕ) (op : Op) (a b : Num) → IsErrOf result (AdoptFault.Raise (RaiseFault.Overflow w op a b)) → self.old.presentation.field ≡ Kind.Rational }
         ensures unchanged { OnErr result (self.new ≡ self.old) }
     {
@@ -246,13 +255,16 @@ impl<F: Field> State<F> {
         ensures fits { (v : ℕ) → self.old.table.weight < v → v ≤ self.new.table.weight → Computes self.old.presentation v (Ok (section_at self.new.sections v)) }
 
         // What a refusal names.
-        ensures limit { (w c : ℕ) → IsErrOf result (RaiseFault.Limit w c) → PassesAfter self.old.presentation self.old.table.weight d entries w c × (w ≡ self.new.table.weight + 1) }
-        ensures overflow { (w : ℕ) (op : Op) (a b : Num) → IsErrOf result (RaiseFault.Overflow w op a b) → (w ≡ self.new.table.weight + 1) × (w ≤ d) × OverflowsAt self.old.presentation w (unfit_of op a b) × (count_through self.new.table w ≤ entries) }
+        ensures limit { (w c : ℕ) → IsErrOf result (RaiseFault.Limit w c) → PassesAfter self.old.presentation self.old.table.weight d entries w c
+            × (w ≡ self.new.table.weight + 1) }
+        ensures overflow { (w : ℕ) (op : Op) (a b : Num) → IsErrOf result (RaiseFault.Overflow w op a b) →
+            (w ≡ self.new.table.weight + 1) × (w ≤ d) × OverflowsAt self.old.presentation w (unfit_of op a b) × (count_through self.new.table w ≤ entries) }
         ensures fractions { (w : ℕ) (op : Op) (a b : Num) → IsErrOf result (RaiseFault.Overflow w op a b) → self.old.presentation.field ≡ Kind.Rational }
 
         // Each origin takes one step, whatever the answer.
         ensures steps { steps.old ≤ steps.new }
-        ensures cost { (count : ℕ → ℕ) → BoundsOrigins self.old.presentation self.old.table.weight d count → steps.new ≤ steps.old + sum_after count self.old.table.weight (d - self.old.table.weight) }
+        ensures cost { (count : ℕ → ℕ) → BoundsOrigins self.old.presentation self.old.table.weight d count →
+            steps.new ≤ steps.old + sum_after count self.old.table.weight (d - self.old.table.weight) }
     {
         while self.weight() < d {
             match self.next_weight(entries, steps) {

@@ -187,7 +187,8 @@ pub fn complete_weight<F: Field, L: Ledger>(
     requires holds { Holds p.now table.now }
     requires few { length (symbols_in table.now) ≤ 2000000 }
     requires weight { table.now.weight < 1000 }
-    ensures value { GivesBy (λ w. weighed_as w.rows w.section) result (map_ok (λ h. weighed_as (rows_of h.pivots) (section_of table.now p.now h)) (close_weight table.now p.now)) }
+    ensures value { GivesBy (λ w. weighed_as w.rows w.section) result (map_ok (λ h. weighed_as (rows_of h.pivots) (section_of table.now p.now h))
+        (close_weight table.now p.now)) }
     ensures closed { IfOk result (λ w. IsClosedList table.now.kind (length (symbols_in table.now)) w.rows) }
     ensures step { OnOk result (steps.new ≡ steps.old + length (origins_of table.now p.now)) }
     ensures most { (steps.old ≤ steps.new) × (steps.new ≤ steps.old + length (origins_of table.now p.now)) }

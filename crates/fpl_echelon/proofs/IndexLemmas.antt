@@ -43,13 +43,15 @@ get-there [] i l = absurd (omega arith)
 get-there (p ∷ ps) zero l = (p, refl)
 get-there (p ∷ ps) (suc i) l = get-there ps i (omega arith)
 
-pub index_same : (places wide : List (Option ℕ)) (rows : List PivotRow) → ((s : ℕ) → place_at wide s ≡ place_at places s) → IsIndex places rows → IsIndex wide rows
+pub index_same : (places wide : List (Option ℕ)) (rows : List PivotRow) → ((s : ℕ) → place_at wide s ≡ place_at places s) → IsIndex places rows →
+    IsIndex wide rows
 index_same places wide rows same h = record {
   within = λ s i e. h.within s i (sym (same s) ∙ e);
   finds = λ s. h.finds s ∙ ap (option_and_then (λ i. slice_get rows i)) (sym (same s));
 }
 
-module _ (places : List (Option ℕ)) (rows : List PivotRow) (p : PivotRow) (s : ℕ) (h : IsIndex places rows) (lead : p.lead ≡ s + 1) (room : s < length places) where
+module _ (places : List (Option ℕ)) (rows : List PivotRow) (p : PivotRow) (s : ℕ) (h : IsIndex places rows) (lead : p.lead ≡ s + 1)
+    (room : s < length places) where
   found_here : find (stands_at (s + 1)) (p ∷ []) ≡ Some p
   found_here = (let k : nat_eq p.lead (s + 1) ≡ true = grind (arith, lead) in rw k refl)
 
@@ -70,7 +72,8 @@ module _ (places : List (Option ℕ)) (rows : List PivotRow) (p : PivotRow) (s :
       find-append (stands_at (t + 1)) rows (p ∷ [])
       ∙ ap (λ o. option_or o (find (stands_at (t + 1)) (p ∷ []))) (h.finds t ∙ ap (option_and_then (λ i. slice_get rows i)) e)
 
-  other : (t : ℕ) → s ≢ t → (o : Option ℕ) → place_at places t ≡ o → find (stands_at (t + 1)) (rows ++ p ∷ []) ≡ option_and_then (λ i. slice_get (rows ++ p ∷ []) i) o
+  other : (t : ℕ) → s ≢ t → (o : Option ℕ) → place_at places t ≡ o → find (stands_at (t + 1)) (rows ++ p ∷ []) ≡
+      option_and_then (λ i. slice_get (rows ++ p ∷ []) i) o
   other t d None e = without t e ∙ found_not t d
   other t d (Some i) e = keeps t i e
 
@@ -80,13 +83,17 @@ module _ (places : List (Option ℕ)) (rows : List PivotRow) (p : PivotRow) (s :
   noted : (o : Option ℕ) → place_at places s ≡ o → IsIndex (noted_by o places s (length rows)) (rows ++ p ∷ [])
   noted None e = record {
     within = λ t i f. elim (ℕ_discrete s t) [
-      | yes d ↦ (let g : Some (length rows) ≡ Some i = sym (place_at-here places s (Some (length rows)) room) ∙ ap (place_at (slice_set places s (Some (length rows)))) d ∙ f in let k = some_same g in let l = longer in omega arith)
+      | yes d ↦ (let g : Some (length rows) ≡ Some i = sym (place_at-here places s (Some (length rows)) room) ∙
+          ap (place_at (slice_set places s (Some (length rows)))) d ∙ f in let k = some_same g in let l = longer in omega arith)
       | no d ↦ (let k = h.within t i (sym (place_at-set places s t (Some (length rows)) d) ∙ f) in let l = longer in omega arith)
     ];
     finds = λ t. elim (ℕ_discrete s t) [
-      | yes d ↦ subst (λ t. find (stands_at (t + 1)) (rows ++ p ∷ []) ≡ option_and_then (λ i. slice_get (rows ++ p ∷ []) i) (place_at (slice_set places s (Some (length rows))) t)) d
-          (without s e ∙ found_here ∙ sym (ap (option_and_then (λ i. slice_get (rows ++ p ∷ []) i)) (place_at-here places s (Some (length rows)) room) ∙ get-last rows p))
-      | no d ↦ other t d (place_at places t) refl ∙ ap (option_and_then (λ i. slice_get (rows ++ p ∷ []) i)) (sym (place_at-set places s t (Some (length rows)) d))
+      | yes d ↦ subst (λ t. find (stands_at (t + 1)) (rows ++ p ∷ []) ≡ option_and_then (λ i. slice_get (rows ++ p ∷ []) i)
+          (place_at (slice_set places s (Some (length rows))) t)) d
+          (without s e ∙ found_here ∙ sym (ap (option_and_then (λ i. slice_get (rows ++ p ∷ []) i)) (place_at-here places s (Some (length rows)) room)
+          ∙ get-last rows p))
+      | no d ↦ other t d (place_at places t) refl ∙ ap (option_and_then (λ i. slice_get (rows ++ p ∷ []) i))
+          (sym (place_at-set places s t (Some (length rows)) d))
     ];
   }
   noted (Some j) e = record {
@@ -101,5 +108,6 @@ module _ (places : List (Option ℕ)) (rows : List PivotRow) (p : PivotRow) (s :
   pub index_more : IsIndex (noted_at places s (length rows)) (rows ++ p ∷ [])
   index_more = noted (place_at places s) refl
 
-pub index_noted : (places : List (Option ℕ)) (rows : List PivotRow) (p : PivotRow) (s count : ℕ) → IsIndex places rows → p.lead ≡ s + 1 → s < length places → length rows ≡ count → IsIndex (noted_at places s count) (rows ++ p ∷ [])
+pub index_noted : (places : List (Option ℕ)) (rows : List PivotRow) (p : PivotRow) (s count : ℕ) → IsIndex places rows → p.lead ≡ s + 1 →
+    s < length places → length rows ≡ count → IsIndex (noted_at places s count) (rows ++ p ∷ [])
 index_noted places rows p s count h lead room e = subst (λ n. IsIndex (noted_at places s n) (rows ++ p ∷ [])) e (index_more places rows p s h lead room)

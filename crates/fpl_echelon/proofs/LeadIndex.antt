@@ -2,7 +2,7 @@
 use Rattle.std.specs.Prelude.{◌≡◌, ◌≢◌, ℕ, zero, suc, ◌+◌, ◌-◌, ◌≤◌, List, [], ◌∷◌, length, replicate, drop, slice_get, slice_set, Option, Some, None, Bool, true, false, cond}
 use Rattle.std.specs.Option.{option_and_then}
 use Rattle.std.specs.List.{find}
-use mathlib.Core.Path.{refl, sym, ap, ◌∙◌, subst}
+use mathlib.Core.Path.{refl, sym, ap, ◌∙◌}
 use native.Mathlib.Omega.{arith}
 use native.Mathlib.Decide.{ℕ_discrete}
 use Rattle.std.proofs.lemmas.Bool.Decides.{nat_tests}
@@ -11,7 +11,7 @@ use Rattle.fpl_numbers.specs.declared.number.Num.{Num}
 use Rattle.fpl_rows.specs.Positions.{lead_of}
 use Rattle.fpl_log.proofs.TermsTaken.{drop_next}
 use Rattle.fpl_echelon.specs.Index.{place_at}
-use Rattle.fpl_echelon.specs.Leads.{is_at, leads_at, IsIndexFrom, IsLeadIndex}
+use Rattle.fpl_echelon.specs.Leads.{is_at, leads_at, IsIndexFrom}
 
 none_at : (n s : ℕ) → place_at (replicate n None) s ≡ None
 none_at zero s = refl
@@ -24,19 +24,12 @@ past_all [] (suc k) l = refl
 past_all (u ∷ us) zero l = absurd (omega (arith, l))
 past_all (u ∷ us) (suc k) l = past_all us k (omega (arith, l))
 
--- with no row there is no place
-pub index_none : (n k : ℕ) (rows : List (List Num)) (places : List (Option ℕ)) → places ≡ replicate n None → length rows ≤ k → IsIndexFrom k rows places
-index_none n k rows places e l s =
-    ap (find (leads_at (s + 1))) (past_all rows k l) ∙ sym (ap (option_and_then (λ i. slice_get rows i)) (ap (λ ps. place_at ps s) e ∙ none_at n s))
-
--- all rows
-pub index_all : (k : ℕ) (rows : List (List Num)) (places : List (Option ℕ)) → k ≡ 0 → IsIndexFrom k rows places → IsLeadIndex rows places
-index_all k rows places e h = record { finds = λ s. subst (λ i. find (leads_at (s + 1)) (drop i rows) ≡ option_and_then (λ i. slice_get rows i) (place_at places s)) e (h s) }
-
-module _ (rows : List (List Num)) (places : List (Option ℕ)) (j k : ℕ) (row : List Num) (next : j ≡ suc k) (got : Some row ≡ slice_get rows k) (h : IsIndexFrom j rows places) where
+module _ (rows : List (List Num)) (places : List (Option ℕ)) (j k : ℕ) (row : List Num) (next : j ≡ suc k) (got : Some row ≡ slice_get rows k)
+    (h : IsIndexFrom j rows places) where
   first_found : (s : ℕ) (b : Bool) → leads_at s row ≡ b → find (leads_at s) (drop k rows) ≡ cond b (Some row) (find (leads_at s) (drop j rows))
   first_found s b e =
-      ap (find (leads_at s)) (drop_next rows k row got ∙ ap (λ i. row ∷ drop i rows) (sym next)) ∙ ap (λ t. cond t (Some row) (find (leads_at s) (drop j rows))) e
+      ap (find (leads_at s)) (drop_next rows k row got ∙ ap (λ i. row ∷ drop i rows) (sym next)) ∙
+      ap (λ t. cond t (Some row) (find (leads_at s) (drop j rows))) e
 
   -- a zero row leads nowhere
   pub index_zero : lead_of row ≡ None → IsIndexFrom k rows places
@@ -46,12 +39,14 @@ module _ (rows : List (List Num)) (places : List (Option ℕ)) (j k : ℕ) (row 
   pub index_row : (lead : ℕ) → lead_of row ≡ Some lead → 1 ≤ lead → lead ≤ length places → IsIndexFrom k rows (slice_set places (lead - 1) (Some k))
   index_row lead e one most s = at (ℕ_discrete (s + 1) lead)
     where
-      at : Dec (s + 1 ≡ lead) → find (leads_at (s + 1)) (drop k rows) ≡ option_and_then (λ i. slice_get rows i) (place_at (slice_set places (lead - 1) (Some k)) s)
+      at : Dec (s + 1 ≡ lead) → find (leads_at (s + 1)) (drop k rows) ≡ option_and_then (λ i. slice_get rows i)
+          (place_at (slice_set places (lead - 1) (Some k)) s)
       at (yes d) =
           let here : lead - 1 ≡ s = omega (arith, d) in
           let true_at : is_at (s + 1) (Some lead) ≡ true = grind (arith, nat_tests) in
           first_found (s + 1) true (ap (is_at (s + 1)) e ∙ true_at) ∙ got
-          ∙ sym (ap (option_and_then (λ i. slice_get rows i)) (ap (λ t. place_at (slice_set places t (Some k)) s) here ∙ get_or-set_same places s (Some k) None (omega (arith, d, most))))
+          ∙ sym (ap (option_and_then (λ i. slice_get rows i)) (ap (λ t. place_at (slice_set places t (Some k)) s) here ∙
+          get_or-set_same places s (Some k) None (omega (arith, d, most))))
       at (no d) =
           let other : s ≢ lead - 1 = omega (arith, d, one) in
           let false_at : is_at (s + 1) (Some lead) ≡ false = grind (arith, nat_tests) in

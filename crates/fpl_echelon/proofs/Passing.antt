@@ -21,7 +21,8 @@ by_nought : (kind : Kind) (o : Option PivotRow) (c : Num) (x : Swept) → is_nou
 by_nought kind None c x z = refl
 by_nought kind (Some p) c x z = rw z refl
 
-passes : (kind : Kind) (pivots : List PivotRow) (s from : ℕ) (x : Swept) → s ≤ from → ((t : ℕ) → s ≤ t → t < from → is_nought (get_or x.row t (residue 0)) ≡ true) →
+passes : (kind : Kind) (pivots : List PivotRow) (s from : ℕ) (x : Swept) → s ≤ from → ((t : ℕ) → s ≤ t → t < from →
+    is_nought (get_or x.row t (residue 0)) ≡ true) →
     sweep_of kind pivots from x ≡ sweep_of kind pivots s x
 passes kind pivots zero zero x l h = refl
 passes kind pivots (suc s) zero x l h = absurd (omega arith)
@@ -30,10 +31,12 @@ passes kind pivots s (suc from) x l h = go (ℕ_discrete s (suc from)) (λ m. pa
     go : Dec (s ≡ suc from) → (s ≤ from → sweep_of kind pivots from x ≡ sweep_of kind pivots s x) → sweep_of kind pivots (suc from) x ≡ sweep_of kind pivots s x
     go (yes e) k = ap (λ n. sweep_of kind pivots n x) (sym e)
     go (no d) k =
-        ap (and_then (λ y. sweep_of kind pivots from y)) (by_nought kind (find (stands_at (from + 1)) pivots) (get_or x.row from (residue 0)) x (h from (omega arith) (omega arith)))
+        ap (and_then (λ y. sweep_of kind pivots from y)) (by_nought kind (find (stands_at (from + 1)) pivots) (get_or x.row from (residue 0)) x
+        (h from (omega arith) (omega arith)))
         ∙ k (omega arith)
 
-one_place : (kind : Kind) (pivots : List PivotRow) (s : ℕ) (x : Swept) → 1 ≤ s → sweep_of kind pivots s x ≡ and_then (λ y. sweep_of kind pivots (s - 1) y) (sweep_at kind pivots (s - 1) x)
+one_place : (kind : Kind) (pivots : List PivotRow) (s : ℕ) (x : Swept) → 1 ≤ s → sweep_of kind pivots s x ≡
+    and_then (λ y. sweep_of kind pivots (s - 1) y) (sweep_at kind pivots (s - 1) x)
 one_place kind pivots zero x l = absurd (omega arith)
 one_place kind pivots (suc s) x l = rw sub-one refl
 
@@ -43,7 +46,8 @@ pub to_lead : (kind : Kind) (pivots : List PivotRow) (from s : ℕ) (x : Swept) 
 to_lead kind pivots from s x e = let h = lead_is x.row from s (sym e) in passes kind pivots s from x h.to_end h.above ∙ one_place kind pivots s x h.from_one
 
 -- a fault at the lead is one of the whole sweep
-pub fault_on : {T U : Type 0} (f : T → Result U Unfit) (fault : Fault) (r : Result T Unfit) (e : Result U Unfit) → e ≡ and_then f r → IsFault fault r → IsFault fault e
+pub fault_on : {T U : Type 0} (f : T → Result U Unfit) (fault : Fault) (r : Result T Unfit) (e : Result U Unfit) → e ≡ and_then f r →
+    IsFault fault r → IsFault fault e
 fault_on f (Unfits u) r e is h = is ∙ ap (and_then f) h
 fault_on f NoMemory r e is h = tt
 

@@ -66,7 +66,8 @@ passed_over kind u v none = go (lead_of u) refl
     go None e = refl
     go (Some t) e = let z = none t e in rw z refl
 
-taken_off : (kind : Kind) (u v : List Num) (s : ℕ) → lead_of u ≡ Some s → is_nought (get_or v (s - 1) (residue 0)) ≡ false → take_row kind u v ≡ axpy_of kind v (negative_of kind (get_or v (s - 1) (residue 0))) u
+taken_off : (kind : Kind) (u v : List Num) (s : ℕ) → lead_of u ≡ Some s → is_nought (get_or v (s - 1) (residue 0)) ≡ false →
+    take_row kind u v ≡ axpy_of kind v (negative_of kind (get_or v (s - 1) (residue 0))) u
 taken_off kind u v s e z = ap (λ o. take_at kind u o v) e ∙ (rw z refl)
 
 -- what is left of a row when the closed rows whose leads are above `most`, those from place `count` on, are taken off
@@ -86,7 +87,8 @@ module _ (kind : Kind) (n : ℕ) (rows : List (List Num)) (closed : IsClosedList
       omega (arith, a, p, one)
 
   lead_order : (i k s t : ℕ) → i < k → k < length rows → lead_of (get_or rows i []) ≡ Some s → lead_of (get_or rows k []) ≡ Some t → s < t
-  lead_order i k s t l m e f = let a = ascends i k s l m e in let p : unwrap_or (lead_of (get_or rows k [])) 1 ≡ t = ap (λ o. unwrap_or o 1) f in omega (arith, a, p)
+  lead_order i k s t l m e f = let a = ascends i k s l m e in let p : unwrap_or (lead_of (get_or rows k [])) 1 ≡ t = ap (λ o. unwrap_or o 1) f in
+      omega (arith, a, p)
 
   no_rows : (us : List (List Num)) (row : List Num) → sweep_rows kind (drop (length us) us) row ≡ Ok row
   no_rows [] row = refl
@@ -101,14 +103,16 @@ module _ (kind : Kind) (n : ℕ) (rows : List (List Num)) (closed : IsClosedList
     done = no_rows rows row;
   }
 
-  next_row : (row left next : List Num) (i : ℕ) → i < length rows → sweep_rows kind (drop (suc i) rows) row ≡ Ok left → take_row kind (get_or rows i []) left ≡ Ok next → sweep_rows kind (drop i rows) row ≡ Ok next
+  next_row : (row left next : List Num) (i : ℕ) → i < length rows → sweep_rows kind (drop (suc i) rows) row ≡ Ok left →
+      take_row kind (get_or rows i []) left ≡ Ok next → sweep_rows kind (drop i rows) row ≡ Ok next
   next_row row left next i l e f = sweep_next kind rows row left next (get_or rows i []) (suc i) i refl (got_at rows i [] l) e f
 
   -- where the row is 0 from position s on, the leads above s are passed over
   module _ (row left : List Num) (most s : ℕ) (zeros : (t : ℕ) → s ≤ t → t < most → is_nought (get_or left t (residue 0)) ≡ true) where
     abbrev Passes : ℕ → Type 0
     Passes count =
-        count ≤ length rows → ((i t : ℕ) → i < count → lead_of (get_or rows i []) ≡ Some t → t ≤ most) → ((i t : ℕ) → count ≤ i → i < length rows → lead_of (get_or rows i []) ≡ Some t → s < t) →
+        count ≤ length rows → ((i t : ℕ) → i < count → lead_of (get_or rows i []) ≡ Some t → t ≤ most) →
+        ((i t : ℕ) → count ≤ i → i < length rows → lead_of (get_or rows i []) ≡ Some t → s < t) →
         sweep_rows kind (drop count rows) row ≡ Ok left → Walked kind rows row left s
 
     pass : (count : ℕ) → Passes count
@@ -118,9 +122,14 @@ module _ (kind : Kind) (n : ℕ) (rows : List (List Num)) (closed : IsClosedList
         on : Passes c → ((t : ℕ) → lead_of (get_or rows c []) ≡ Some t → s < t) → Walked kind rows row left s
         on earlier more =
             earlier (omega (arith, within)) (λ i t l e. below i t (omega (arith, l)) e)
-            (λ i t l m e. elim (ℕ_discrete i c) [ yes d ↦ more t (subst (λ j. lead_of (get_or rows j []) ≡ Some t) d e) | no d ↦ above i t (omega (arith, l, d)) m e ])
+            (λ i t l m e. elim (ℕ_discrete i c) [
+              | yes d ↦ more t (subst (λ j. lead_of (get_or rows j []) ≡ Some t) d e)
+              | no d ↦ above i t
+                  (omega (arith, l, d)) m e
+            ])
             (next_row row left left c (omega (arith, within)) done
-            (passed_over kind (get_or rows c []) left (λ t e. let a = more t e in let b = below c t (omega arith) e in zeros (t - 1) (omega (arith, a)) (omega (arith, a, b)))))
+            (passed_over kind (get_or rows c []) left (λ t e. let a = more t e in let b = below c t (omega arith) e in
+            zeros (t - 1) (omega (arith, a)) (omega (arith, a, b)))))
 
         stop : (t : ℕ) → lead_of (get_or rows c []) ≡ Some t → t ≤ s → Walked kind rows row left s
         stop t e l = record {
@@ -152,12 +161,15 @@ module _ (kind : Kind) (n : ℕ) (rows : List (List Num)) (closed : IsClosedList
   pub swept_whole : (row left : List Num) (most : ℕ) → lead_below left most ≡ None → Walked kind rows row left most → sweep_rows kind rows row ≡ Ok left
   swept_whole row left most e h = ends h.count h.within h.below h.done
     where
-      ends : (count : ℕ) → count ≤ length rows → ((i t : ℕ) → i < count → lead_of (get_or rows i []) ≡ Some t → t ≤ most) → sweep_rows kind (drop count rows) row ≡ Ok left → sweep_rows kind rows row ≡ Ok left
+      ends : (count : ℕ) → count ≤ length rows → ((i t : ℕ) → i < count → lead_of (get_or rows i []) ≡ Some t → t ≤ most) →
+          sweep_rows kind (drop count rows) row ≡ Ok left → sweep_rows kind rows row ≡ Ok left
       ends zero within below done = done
       ends (suc c) within below done =
           ends c (omega (arith, within)) (λ i t l f. below i t (omega (arith, l)) f)
           (next_row row left left c (omega (arith, within)) done
-          (passed_over kind (get_or rows c []) left (λ t f. let a = below c t (omega arith) f in let b = (lead_place (get_or rows c []) t (sym f)).0 in lead_none left most e (t - 1) (omega (arith, a, b)))))
+          (passed_over kind (get_or rows c []) left (λ t f. let a = below c t (omega arith) f in let b =
+          (lead_place (get_or rows c []) t (sym f)).0 in
+          lead_none left most e (t - 1) (omega (arith, a, b)))))
 
   -- the closed row that leads at s is the next one
   module _ (row left : List Num) (s : ℕ) (h : Walked kind rows row left s) where
@@ -185,7 +197,8 @@ module _ (kind : Kind) (n : ℕ) (rows : List (List Num)) (closed : IsClosedList
             apart c l None f a one = omega (arith, a, one)
             apart c l (Some t) f a one = let b = h.below c t l f in omega (arith, a, b)
 
-    by_row : (u next : List Num) → 1 ≤ s → is_nought (get_or left (s - 1) (residue 0)) ≡ false → Found s rows u → axpy_of kind left (negative_of kind (get_or left (s - 1) (residue 0))) u ≡ Ok next → Walked kind rows row next (s - 1)
+    by_row : (u next : List Num) → 1 ≤ s → is_nought (get_or left (s - 1) (residue 0)) ≡ false → Found s rows u →
+        axpy_of kind left (negative_of kind (get_or left (s - 1) (residue 0))) u ≡ Ok next → Walked kind rows row next (s - 1)
     by_row u next one z k e =
         let i = last_is u k in
         let w = h.within in
@@ -215,14 +228,16 @@ module _ (kind : Kind) (n : ℕ) (rows : List (List Num)) (closed : IsClosedList
       done = h.done;
     }
 
-    pub swept_next : (o : Option (List Num)) (next : List Num) → o ≡ find (leads_at s) rows → 1 ≤ s → is_nought (get_or left (s - 1) (residue 0)) ≡ false → take_if kind o s left ≡ Ok next → Walked kind rows row next (s - 1)
+    pub swept_next : (o : Option (List Num)) (next : List Num) → o ≡ find (leads_at s) rows → 1 ≤ s →
+        is_nought (get_or left (s - 1) (residue 0)) ≡ false → take_if kind o s left ≡ Ok next → Walked kind rows row next (s - 1)
     swept_next None next e one z f = subst (λ v. Walked kind rows row v (s - 1)) (same f) (by_none (sym e))
       where
         same : ◌≡◌ {A = Result (List Num) Unfit} (Ok left) (Ok next) → left ≡ next
         same g = cc
     swept_next (Some u) next e one z f = by_row u next one z (found s rows u (sym e)) f
 
-    pub swept_stops : (o : Option (List Num)) (fault : Fault) → o ≡ find (leads_at s) rows → is_nought (get_or left (s - 1) (residue 0)) ≡ false → IsFault fault (take_if kind o s left) → IsFault fault (sweep_rows kind rows row)
+    pub swept_stops : (o : Option (List Num)) (fault : Fault) → o ≡ find (leads_at s) rows → is_nought (get_or left (s - 1) (residue 0)) ≡ false →
+        IsFault fault (take_if kind o s left) → IsFault fault (sweep_rows kind rows row)
     swept_stops None fault e z f = no_fault fault f
       where
         no_fault : (fault : Fault) → IsFault fault (take_if kind None s left) → IsFault fault (sweep_rows kind rows row)
@@ -235,6 +250,7 @@ module _ (kind : Kind) (n : ℕ) (rows : List (List Num)) (closed : IsClosedList
         (subst (λ r. IsFault fault r) (sym (taken_off kind u left s k.leads z)) f)
 
 -- the row that is found is one of the rows
-pub found_is : (kind : Kind) (n s : ℕ) (rows : List (List Num)) (o : Option (List Num)) → AreRows kind n rows → o ≡ find (leads_at s) rows → IfSome o (IsRowOf kind n)
+pub found_is : (kind : Kind) (n s : ℕ) (rows : List (List Num)) (o : Option (List Num)) → AreRows kind n rows → o ≡ find (leads_at s) rows →
+    IfSome o (IsRowOf kind n)
 found_is kind n s rows None all e = tt
 found_is kind n s rows (Some u) all e = let k = found s rows u (sym e) in got_is kind n k.at rows u all k.got

@@ -34,7 +34,8 @@ pub fn close_place<F: Field>(
     requires fits { s + 1 < 2 ^ 32 }
     requires pivots { All (IsPivotRow (F.kind_of field.now) (length work.old.row)) pivots.now }
     requires closed { All (IsPivotRow (F.kind_of field.now) (length work.old.row)) closed.old }
-    ensures value { Gives result (record { pivots = closed.new; steps = steps.new }) (close_at (F.kind_of field.now) pivots.now s (record { pivots = closed.old; steps = steps.old })) }
+    ensures value { Gives result (record { pivots = closed.new; steps = steps.new }) (close_at (F.kind_of field.now) pivots.now s
+        (record { pivots = closed.old; steps = steps.old })) }
     ensures emptied { OnOk result (work.new ≡ work.old) }
 {
     match pivots.find(s + 1) {
@@ -63,7 +64,8 @@ pub fn close_all<F: Field>(
     steps: &mut StepList,
 ) -> Result<Pivots<F>, Fault>
     requires pivots { All (IsPivotRow (F.kind_of field.now) size) pivots.now }
-    ensures value { GivesBy (λ closed. record { pivots = closed; steps = steps.new }) result (close_to (F.kind_of field.now) pivots.now size (record { pivots = []; steps = steps.old })) }
+    ensures value { GivesBy (λ closed. record { pivots = closed; steps = steps.new }) result (close_to (F.kind_of field.now) pivots.now size
+        (record { pivots = []; steps = steps.old })) }
 {
     let mut closed = Pivots::new(alloc);
     let mut work = Work::new(alloc, *field, size)?;

@@ -27,7 +27,8 @@ pub fn keep<F: Field>(
     requires lead { lead_of row ≡ Some lead }
     requires elements { AreElements (F.kind_of field.now) row }
     requires pivots { All (IsPivotRow (F.kind_of field.now) (length row)) pivots.old }
-    ensures value { Gives result (record { pivots = pivots.new; steps = steps.new }) (keep_of (F.kind_of field.now) (record { pivots = pivots.old; steps = steps.old }) origin (record { row = row; terms = terms }) (Some lead)) }
+    ensures value { Gives result (record { pivots = pivots.new; steps = steps.new }) (keep_of (F.kind_of field.now)
+        (record { pivots = pivots.old; steps = steps.old }) origin (record { row = row; terms = terms }) (Some lead)) }
     ensures unchanged { OnErr result ((pivots.new ≡ pivots.old) × (steps.new ≡ steps.old)) }
 {
     let factor = field.inverse(row.at(lead));
@@ -61,7 +62,8 @@ pub fn put_in<F: Field>(
     requires size { length row ≡ size }
     requires elements { AreElements (F.kind_of field.now) row }
     requires pivots { All (IsPivotRow (F.kind_of field.now) size) pivots.old }
-    ensures value { GivesBy (λ outcome. inserted_as (lead_in outcome) (record { pivots = pivots.new; steps = steps.new })) result (insert_of (record { kind = F.kind_of field.now; size = size; held = record { pivots = pivots.old; steps = steps.old } }) row origin) }
+    ensures value { GivesBy (λ outcome. inserted_as (lead_in outcome) (record { pivots = pivots.new; steps = steps.new })) result
+        (insert_of (record { kind = F.kind_of field.now; size = size; held = record { pivots = pivots.old; steps = steps.old } }) row origin) }
     ensures unchanged { OnErr result ((pivots.new ≡ pivots.old) × (steps.new ≡ steps.old)) }
 {
     let mut terms = Terms::new(alloc);

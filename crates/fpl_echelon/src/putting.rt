@@ -21,7 +21,8 @@ fn record<F: Field>(
     terms: Terms,
 ) -> Result<(), AllocError>
     requires { 1 ≤ lead }
-    ensures ok { OnOk result (record { pivots = pivots.new; steps = steps.new } ≡ kept (record { pivots = pivots.old; steps = steps.old }) origin terms lead pivot.scale pivot.row) }
+    ensures ok { OnOk result (record { pivots = pivots.new; steps = steps.new } ≡ kept (record { pivots = pivots.old; steps = steps.old }) origin terms lead
+        pivot.scale pivot.row) }
     ensures err { OnErr result ((pivots.new ≡ pivots.old) × (steps.new ≡ steps.old)) }
 {
     let Monic { row, scale } = pivot;
@@ -51,7 +52,9 @@ pub fn put_work<F: Field>(
 ) -> Result<Outcome, Fault>
     requires kind { work.old.kind ≡ F.kind_of field.now }
     requires pivots { All (IsPivotRow (F.kind_of field.now) (length work.old.row)) pivots.old }
-    ensures value { GivesBy (λ outcome. inserted_as (lead_in outcome) (record { pivots = pivots.new; steps = steps.new })) result (insert_of (record { kind = F.kind_of field.now; size = length work.old.row; held = record { pivots = pivots.old; steps = steps.old } }) work.old.row origin) }
+    ensures value { GivesBy (λ outcome. inserted_as (lead_in outcome) (record { pivots = pivots.new; steps = steps.new })) result
+        (insert_of (record { kind = F.kind_of field.now; size = length work.old.row; held = record { pivots = pivots.old; steps = steps.old } })
+        work.old.row origin) }
     ensures unchanged { OnErr result ((pivots.new ≡ pivots.old) × (steps.new ≡ steps.old)) }
     ensures kind { work.new.kind ≡ F.kind_of field.now }
     ensures length { length work.new.row ≡ length work.old.row }

@@ -51,7 +51,8 @@ pub fn sweep_below<F: Field>(
     requires place { from ≤ length row.old }
     requires elements { AreElements (F.kind_of field.now) row.old }
     requires pivots { All (IsPivotRow (F.kind_of field.now) (length row.old)) pivots.now }
-    ensures value { Gives result (record { row = row.new; terms = terms.new }) (sweep_of (F.kind_of field.now) pivots.now from (record { row = row.old; terms = terms.old })) }
+    ensures value { Gives result (record { row = row.new; terms = terms.new }) (sweep_of (F.kind_of field.now) pivots.now from
+        (record { row = row.old; terms = terms.old })) }
     ensures elements { OnOk result (AreElements (F.kind_of field.now) row.new) }
     ensures length { length row.new ≡ length row.old }
 {

@@ -16,7 +16,8 @@ fn take_off<F: Field>(field: &F, row: &mut Work<F>, s: u32, other: &Row<F>) -> R
     requires place { (1 ≤ s) × (s ≤ length row.old.row) }
     requires at_most { length other.now ≤ length row.old.row }
     requires other { AreElements (F.kind_of field.now) other.now }
-    ensures value { Answers (λ _. row.new.row) result (axpy_of (F.kind_of field.now) row.old.row (negative_of (F.kind_of field.now) (slice_index_or row.old.row (s - 1) (residue 0))) other.now) }
+    ensures value { Answers (λ _. row.new.row) result (axpy_of (F.kind_of field.now) row.old.row
+        (negative_of (F.kind_of field.now) (slice_index_or row.old.row (s - 1) (residue 0))) other.now) }
     ensures factor { IfOk result (λ factor. factor ≡ slice_index_or row.old.row (s - 1) (residue 0)) }
     ensures kind { row.new.kind ≡ F.kind_of field.now }
     ensures length { length row.new.row ≡ length row.old.row }
@@ -41,7 +42,8 @@ fn sweep_work_place<F: Field>(
     requires fits { s + 1 < 2 ^ 32 }
     requires nonzero { is_nought (slice_index_or row.old.row s (residue 0)) ≡ false }
     requires pivots { All (IsPivotRow (F.kind_of field.now) (length row.old.row)) pivots.now }
-    ensures value { Gives result (record { row = row.new.row; terms = terms.new }) (sweep_at (F.kind_of field.now) pivots.now s (record { row = row.old.row; terms = terms.old })) }
+    ensures value { Gives result (record { row = row.new.row; terms = terms.new }) (sweep_at (F.kind_of field.now) pivots.now s
+        (record { row = row.old.row; terms = terms.old })) }
     ensures kind { row.new.kind ≡ F.kind_of field.now }
     ensures length { length row.new.row ≡ length row.old.row }
 {
@@ -71,7 +73,8 @@ pub fn sweep_work<F: Field>(
     requires kind { row.old.kind ≡ F.kind_of field.now }
     requires place { from ≤ length row.old.row }
     requires pivots { All (IsPivotRow (F.kind_of field.now) (length row.old.row)) pivots.now }
-    ensures value { Gives result (record { row = row.new.row; terms = terms.new }) (sweep_of (F.kind_of field.now) pivots.now from (record { row = row.old.row; terms = terms.old })) }
+    ensures value { Gives result (record { row = row.new.row; terms = terms.new }) (sweep_of (F.kind_of field.now) pivots.now from
+        (record { row = row.old.row; terms = terms.old })) }
     ensures kind { row.new.kind ≡ F.kind_of field.now }
     ensures length { length row.new.row ≡ length row.old.row }
 {
@@ -104,7 +107,8 @@ pub fn normalized<F: Field>(
     requires kind { row.now.kind ≡ F.kind_of field.now }
     requires place { (1 ≤ s) × (s ≤ length row.now.row) }
     requires nonzero { is_nought (slice_index_or row.now.row (s - 1) (residue 0)) ≡ false }
-    ensures value { GivesBy (λ m. m.row) result (scale_of (F.kind_of field.now) (inverse_of (F.kind_of field.now) (slice_index_or row.now.row (s - 1) (residue 0))) row.now.row) }
+    ensures value { GivesBy (λ m. m.row) result (scale_of (F.kind_of field.now) (inverse_of (F.kind_of field.now)
+        (slice_index_or row.now.row (s - 1) (residue 0))) row.now.row) }
     ensures scale { IfOk result (λ m. m.scale ≡ inverse_of (F.kind_of field.now) (slice_index_or row.now.row (s - 1) (residue 0))) }
 {
     let factor = field.inverse(row.at(s));

@@ -27,7 +27,8 @@ first_past (x ∷ xs) (suc n) h =
     ∙ one_added n (first_of (drop n xs))
 
 -- a search that has come to one place goes on to another, past numbers that are 0
-pub passed : (xs : List ℕ) (from to : ℕ) → from ≤ to → first_of xs ≡ option_map (λ k. from + k) (first_of (drop from xs)) → All (λ x. x ≡ 0) (take (to - from) (drop from xs)) → first_of xs ≡ option_map (λ k. to + k) (first_of (drop to xs))
+pub passed : (xs : List ℕ) (from to : ℕ) → from ≤ to → first_of xs ≡ option_map (λ k. from + k) (first_of (drop from xs)) →
+    All (λ x. x ≡ 0) (take (to - from) (drop from xs)) → first_of xs ≡ option_map (λ k. to + k) (first_of (drop to xs))
 passed xs from to l e h =
     let sum : from + (to - from) ≡ to = omega arith in
     e ∙ ap (option_map (λ k. from + k)) (first_past (drop from xs) (to - from) h)

@@ -66,9 +66,3 @@ lesser_is b p x room below = go (nat_lt x p) refl
         let wraps : (x + (b - p)) % b ≡ x - p = sym (ap (λ w. w % b) sum) ∙ mod-mul-add 1 b (x - p) (omega (arith, below, room, high)) in
         let is : x % p ≡ x - p = sym (ap (λ w. w % p) rest) ∙ mod-mul-add 1 p (x - p) (omega (arith, below, high)) in
         omega (arith, wraps, is, high)
-
--- a remainder by a multiple has the same remainder
-pub mod_of_multiple : (p k x : ℕ) → x % (k * p) % p ≡ x % p
-mod_of_multiple p k x =
-    let e : x / (k * p) * k * p + x % (k * p) ≡ x = (let d = div-add-mod x (k * p) in omega (arith, d)) in
-    sym (mul-add-mod_self_right (x / (k * p) * k) p (x % (k * p))) ∙ ap (λ w. w % p) e

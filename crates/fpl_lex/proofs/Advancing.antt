@@ -43,9 +43,11 @@ module _ (text : List ℕ) (from at : ℕ) (inside : at < length text) where
   past : (mode : Mode) (class : Class) → class_of byte ≡ class → step_of mode at byte class ≡ after (finished mode at) (begun at byte class)
       → lex mode at (drop at text) ≡ joined (finished mode at) (lex Between at (drop at text))
   past mode class e h =
-      ap (lex mode at) front ∙ ends mode at byte bytes (subst (λ c. step_of mode at byte c ≡ after (finished mode at) (begun at byte c)) (sym e) h) ∙ ap (λ bs. joined (finished mode at) (lex Between at bs)) (sym front)
+      ap (lex mode at) front ∙ ends mode at byte bytes (subst (λ c. step_of mode at byte c ≡ after (finished mode at) (begun at byte c)) (sym e) h) ∙
+      ap (λ bs. joined (finished mode at) (lex Between at bs)) (sym front)
 
-  word_ends : (start : ℕ) → IsWithin from (InWord start) at → lex (InWord start) at (drop at text) ≡ joined (finished (InWord start) at) (lex Between at (drop at text))
+  word_ends : (start : ℕ) → IsWithin from (InWord start) at → lex (InWord start) at (drop at text) ≡
+      joined (finished (InWord start) at) (lex Between at (drop at text))
       → Advanced (InWord start) (ends_before (InWord start) at)
   word_ends start within e = by_length (nat_lt most_name (at - start)) refl
     where
@@ -53,7 +55,8 @@ module _ (text : List ℕ) (from at : ℕ) (inside : at < length text) where
       by_length true h = rw h (e ∙ rw h refl)
       by_length false h = rw h (e ∙ rw h refl, omega arith, omega arith)
 
-  number_ends : (start n : ℕ) → IsWithin from (InNumber start n) at → lex (InNumber start n) at (drop at text) ≡ joined (finished (InNumber start n) at) (lex Between at (drop at text))
+  number_ends : (start n : ℕ) → IsWithin from (InNumber start n) at → lex (InNumber start n) at (drop at text) ≡
+      joined (finished (InNumber start n) at) (lex Between at (drop at text))
       → Advanced (InNumber start n) (ends_before (InNumber start n) at)
   number_ends start n within e = (e, omega arith, omega arith)
 
@@ -71,7 +74,8 @@ module _ (text : List ℕ) (from at : ℕ) (inside : at < length text) where
       mark_ends : lex Between at (drop at text) ≡ joined (Ok (record { start = at; end = at + 1; kind = kinds.Mark byte } ∷ [])) (lex Between (at + 1) bytes)
       mark_ends = ap (lex Between at) front ∙ lex_step Between at byte bytes ∙ rw e refl
 
-  digits : (start n d : ℕ) → class_of byte ≡ Digit d → IsWithin from (InNumber start n) at → (more : Option ℕ) → with_digit n d ≡ more → Advanced (InNumber start n) (lengthened start more)
+  digits : (start n d : ℕ) → class_of byte ≡ Digit d → IsWithin from (InNumber start n) at → (more : Option ℕ) → with_digit n d ≡ more →
+      Advanced (InNumber start n) (lengthened start more)
   digits start n d e within None h = fails (InNumber start n) (NumberTooLarge start) (rw (e, h) refl)
   digits start n d e within (Some m) h = (into (InNumber start n) (InNumber start m) (rw (e, h) refl), (within.0, omega arith))
 

@@ -37,7 +37,8 @@ blank_class b =
 mark_class : (b : ℕ) → is_mark b ≡ true → class_of b ≡ Mark
 mark_class b =
     either _ _ (either _ _ (either _ _ (either _ _ (either _ _ (either _ _ (either _ _ (either _ _ (either _ _ (either _ _ (either _ _
-    (is_at 59 b Mark refl) (is_at 44 b Mark refl)) (is_at 58 b Mark refl)) (is_at 61 b Mark refl)) (is_at 43 b Mark refl)) (is_at 45 b Mark refl)) (is_at 42 b Mark refl)) (is_at 47 b Mark refl)) (is_at 91 b Mark refl)) (is_at 93 b Mark refl)) (is_at 40 b Mark refl)) (is_at 41 b Mark refl)
+    (is_at 59 b Mark refl) (is_at 44 b Mark refl)) (is_at 58 b Mark refl)) (is_at 61 b Mark refl)) (is_at 43 b Mark refl)) (is_at 45 b Mark refl))
+    (is_at 42 b Mark refl)) (is_at 47 b Mark refl)) (is_at 91 b Mark refl)) (is_at 93 b Mark refl)) (is_at 40 b Mark refl)) (is_at 41 b Mark refl)
 
 other_class : (b : ℕ) → begins b ≡ false → (class_of b ≡ Other) ⊎ (class_of b ≡ Underscore)
 other_class b e = grind arith
@@ -48,7 +49,8 @@ comment_goes : (at b : ℕ) → is_in_comment b ≡ true → step_of InComment a
 comment_goes at b e = stays (is_letter b) (is_digit b) (b == 95) (b == 10) (is_blank b) (b == 35) (is_mark b) e
   where
     stays : (p q r s t u v : Bool) → (if s then false else true) ≡ true
-        → step_of InComment at b (if p then Letter else if q then Digit (b - 48) else if r then Underscore else if s then LineEnd else if t then Blank else if u then Hash else if v then Mark else Other) ≡ Ok ([], InComment)
+        → step_of InComment at b (if p then Letter else if q then Digit (b - 48) else if r then Underscore else if s then LineEnd else if t then Blank
+        else if u then Hash else if v then Mark else Other) ≡ Ok ([], InComment)
     stays true q r s t u v e = refl
     stays false true r s t u v e = refl
     stays false false true s t u v e = refl
@@ -67,7 +69,8 @@ comment_ends b e = elim (b == 10) as (λ t. (b == 10) ≡ t → (if t then false
 word_goes : (start at b : ℕ) → is_word_byte b ≡ true → step_of (InWord start) at b (class_of b) ≡ Ok ([], InWord start)
 word_goes start at b e = stays (is_letter b) (is_digit b) (b == 95) _ e
   where
-    stays : (p q r : Bool) (rest : Class) → ((p || q) || r) ≡ true → step_of (InWord start) at b (if p then Letter else if q then Digit (b - 48) else if r then Underscore else rest) ≡ Ok ([], InWord start)
+    stays : (p q r : Bool) (rest : Class) → ((p || q) || r) ≡ true → step_of (InWord start) at b
+        (if p then Letter else if q then Digit (b - 48) else if r then Underscore else rest) ≡ Ok ([], InWord start)
     stays true q r rest e = refl
     stays false true r rest e = refl
     stays false false true rest e = refl
@@ -77,7 +80,8 @@ word_ends : (start at b : ℕ) → is_word_byte b ≡ false → step_of (InWord 
 word_ends start at b e = stops (is_letter b) (is_digit b) (b == 95) (b == 10) (is_blank b) (b == 35) (is_mark b) e
   where
     stops : (p q r s t u v : Bool) → ((p || q) || r) ≡ false →
-        let class = if p then Letter else if q then Digit (b - 48) else if r then Underscore else if s then LineEnd else if t then Blank else if u then Hash else if v then Mark else Other in
+        let class = if p then Letter else if q then Digit (b - 48) else if r then Underscore else if s then LineEnd else if t then Blank else if u
+        then Hash else if v then Mark else Other in
         step_of (InWord start) at b class ≡ after (finished (InWord start) at) (begun at b class)
     stops true q r s t u v e = absurd (true≢false e)
     stops false true r s t u v e = absurd (true≢false e)
@@ -90,11 +94,13 @@ word_ends start at b e = stops (is_letter b) (is_digit b) (b == 95) (b == 10) (i
 
 -- a digit in a number, and a byte after it
 
-number_ends : (start n at b : ℕ) → is_digit b ≡ false → step_of (InNumber start n) at b (class_of b) ≡ after (finished (InNumber start n) at) (begun at b (class_of b))
+number_ends : (start n at b : ℕ) → is_digit b ≡ false → step_of (InNumber start n) at b (class_of b) ≡
+    after (finished (InNumber start n) at) (begun at b (class_of b))
 number_ends start n at b e = stops (is_letter b) (is_digit b) (b == 95) (b == 10) (is_blank b) (b == 35) (is_mark b) e
   where
     stops : (p q r s t u v : Bool) → q ≡ false →
-        let class = if p then Letter else if q then Digit (b - 48) else if r then Underscore else if s then LineEnd else if t then Blank else if u then Hash else if v then Mark else Other in
+        let class = if p then Letter else if q then Digit (b - 48) else if r then Underscore else if s then LineEnd else if t then Blank else if u
+        then Hash else if v then Mark else Other in
         step_of (InNumber start n) at b class ≡ after (finished (InNumber start n) at) (begun at b class)
     stops p true r s t u v e = absurd (true≢false e)
     stops true false r s t u v e = refl
@@ -139,7 +145,8 @@ lex_step mode at b bs = refl
 pub ends : (mode : Mode) (at b : ℕ) (bs : List ℕ) → step_of mode at b (class_of b) ≡ after (finished mode at) (begun at b (class_of b))
     → lex mode at (b ∷ bs) ≡ joined (finished mode at) (lex Between at (b ∷ bs))
 ends mode at b bs e =
-    lex_step mode at b bs ∙ ap (λ s. chained s (rest_of at bs)) e ∙ chained_after at bs (finished mode at) (begun at b (class_of b)) ∙ ap (joined (finished mode at)) (sym (lex_step Between at b bs))
+    lex_step mode at b bs ∙ ap (λ s. chained s (rest_of at bs)) e ∙ chained_after at bs (finished mode at) (begun at b (class_of b)) ∙
+    ap (joined (finished mode at)) (sym (lex_step Between at b bs))
 
 -- a step that only changes the mode
 pub goes : (mode next : Mode) (at b : ℕ) (bs : List ℕ) → step_of mode at b (class_of b) ≡ Ok ([], next) → lex mode at (b ∷ bs) ≡ lex next (at + 1) bs
@@ -153,20 +160,24 @@ at_suc : (at n : ℕ) (mode : Mode) (bs : List ℕ) → lex mode (at + 1 + n) bs
 at_suc at n mode bs = ap (λ n. lex mode n bs) (omega arith)
 
 -- the rest of a comment
-in_comment : (at : ℕ) (bs after : List ℕ) → list_all is_in_comment bs ≡ true → Stops is_in_comment after → lex InComment at (bs ++ after) ≡ lex Between (at + length bs) after
+in_comment : (at : ℕ) (bs after : List ℕ) → list_all is_in_comment bs ≡ true → Stops is_in_comment after →
+    lex InComment at (bs ++ after) ≡ lex Between (at + length bs) after
 in_comment at [] [] all stops = refl
 in_comment at [] (b ∷ after) all stops =
     let e : step_of InComment at b (class_of b) ≡ Ok ([], Between) = rw (comment_ends b stops) refl in
     let f : step_of Between at b (class_of b) ≡ Ok ([], Between) = rw (comment_ends b stops) refl in
     goes InComment Between at b after e ∙ sym (goes Between Between at b after f) ∙ at_zero at Between (b ∷ after)
 in_comment at (b ∷ bs) after all stops =
-    goes InComment InComment at b (bs ++ after) (comment_goes at b (and_parts _ _ all).0) ∙ in_comment (at + 1) bs after (and_parts _ _ all).1 stops ∙ at_suc at (length bs) Between after
+    goes InComment InComment at b (bs ++ after) (comment_goes at b (and_parts _ _ all).0) ∙ in_comment (at + 1) bs after (and_parts _ _ all).1 stops ∙
+    at_suc at (length bs) Between after
 
 -- the end of a word, or of a number, at the end of the text or before a byte that ends it
-at_end : (mode : Mode) (at : ℕ) (after : List ℕ) → lex mode at after ≡ joined (finished mode at) (lex Between at after) → lex mode at after ≡ joined (finished mode (at + 0)) (lex Between (at + 0) after)
+at_end : (mode : Mode) (at : ℕ) (after : List ℕ) → lex mode at after ≡ joined (finished mode at) (lex Between at after) →
+    lex mode at after ≡ joined (finished mode (at + 0)) (lex Between (at + 0) after)
 at_end mode at after e = subst (λ n. lex mode at after ≡ joined (finished mode n) (lex Between n after)) (omega arith) e
 
-later : (mode : Mode) (at n : ℕ) (after : List ℕ) → joined (finished mode (at + 1 + n)) (lex Between (at + 1 + n) after) ≡ joined (finished mode (at + suc n)) (lex Between (at + suc n) after)
+later : (mode : Mode) (at n : ℕ) (after : List ℕ) → joined (finished mode (at + 1 + n)) (lex Between (at + 1 + n) after) ≡
+    joined (finished mode (at + suc n)) (lex Between (at + suc n) after)
 later mode at n after = ap (λ n. joined (finished mode n) (lex Between n after)) (omega arith)
 
 in_word : (start at : ℕ) (bs after : List ℕ) → list_all is_word_byte bs ≡ true → Stops is_word_byte after
@@ -193,10 +204,12 @@ value_from-least : (n : ℕ) (bs : List ℕ) → n ≤ value_from n bs
 value_from-least n [] = omega arith
 value_from-least n (b ∷ bs) = let h = value_from-least (10 * n + (b - 48)) bs in omega arith
 
-number_goes : (start n at b : ℕ) → is_digit b ≡ true → 10 * n + (b - 48) ≤ most_value → step_of (InNumber start n) at b (class_of b) ≡ Ok ([], InNumber start (10 * n + (b - 48)))
+number_goes : (start n at b : ℕ) → is_digit b ≡ true → 10 * n + (b - 48) ≤ most_value → step_of (InNumber start n) at b (class_of b) ≡
+    Ok ([], InNumber start (10 * n + (b - 48)))
 number_goes start n at b e fits = rw (digit_class b e, le-ltb most_value (10 * n + (b - 48)) fits) refl
 
-number_fails : (start n at b : ℕ) → is_digit b ≡ true → most_value < 10 * n + (b - 48) → step_of (InNumber start n) at b (class_of b) ≡ Err (NumberTooLarge start)
+number_fails : (start n at b : ℕ) → is_digit b ≡ true → most_value < 10 * n + (b - 48) → step_of (InNumber start n) at b (class_of b) ≡
+    Err (NumberTooLarge start)
 number_fails start n at b e large = rw (digit_class b e, lt-ltb most_value (10 * n + (b - 48)) large) refl
 
 either_side : {P : Type 0} (m n : ℕ) → (m < n → P) → (n ≤ m → P) → P
@@ -205,16 +218,19 @@ either_side {P} m n f g = elim (nat_lt m n) as (λ t. nat_lt m n ≡ t → P) [ 
 in_number : (start at n : ℕ) (bs after : List ℕ) → n ≤ most_value → list_all is_digit bs ≡ true → Stops is_digit after
     → lex (InNumber start n) at (bs ++ after) ≡ joined (number_end start (value_from n bs) (at + length bs)) (lex Between (at + length bs) after)
 in_number start at n [] [] fits all stops =
-    at_end (InNumber start n) at [] (sym (joined_last (finished (InNumber start n) at))) ∙ ap (λ e. joined e (lex Between (at + 0) [])) (sym (number_end-fits start n (at + 0) fits))
+    at_end (InNumber start n) at [] (sym (joined_last (finished (InNumber start n) at))) ∙ ap (λ e. joined e (lex Between (at + 0) []))
+    (sym (number_end-fits start n (at + 0) fits))
 in_number start at n [] (b ∷ after) fits all stops =
-    at_end (InNumber start n) at (b ∷ after) (ends (InNumber start n) at b after (number_ends start n at b stops)) ∙ ap (λ e. joined e (lex Between (at + 0) (b ∷ after))) (sym (number_end-fits start n (at + 0) fits))
+    at_end (InNumber start n) at (b ∷ after) (ends (InNumber start n) at b after (number_ends start n at b stops)) ∙
+    ap (λ e. joined e (lex Between (at + 0) (b ∷ after))) (sym (number_end-fits start n (at + 0) fits))
 in_number start at n (b ∷ bs) after fits all stops =
     let m : ℕ = 10 * n + (b - 48) in
     let digit : is_digit b ≡ true = (and_parts _ _ all).0 in
     either_side most_value m
     (λ large.
     lex_step (InNumber start n) at b (bs ++ after) ∙ ap (λ s. chained s (rest_of at (bs ++ after))) (number_fails start n at b digit large)
-    ∙ ap (λ e. joined e (lex Between (at + suc (length bs)) after)) (sym (number_end-large start (value_from m bs) (at + suc (length bs)) (let h = value_from-least m bs in omega arith))))
+    ∙ ap (λ e. joined e (lex Between (at + suc (length bs)) after))
+    (sym (number_end-large start (value_from m bs) (at + suc (length bs)) (let h = value_from-least m bs in omega arith))))
     (λ small.
     goes (InNumber start n) (InNumber start m) at b (bs ++ after) (number_goes start n at b digit small)
     ∙ in_number start (at + 1) m bs after small (and_parts _ _ all).1 stops
@@ -266,7 +282,8 @@ front_number at b bs after e all stops =
     ∙ ap (λ t. joined t (lex Between (at + suc (length bs)) after)) (number_token at b bs)
 
 -- the machine goes over a piece
-front : (at : ℕ) (form : Form) (bytes after : List ℕ) → IsPiece form bytes after → lex Between at (bytes ++ after) ≡ joined (piece_tokens at form bytes) (lex Between (at + length bytes) after)
+front : (at : ℕ) (form : Form) (bytes after : List ℕ) → IsPiece form bytes after → lex Between at (bytes ++ after) ≡
+    joined (piece_tokens at form bytes) (lex Between (at + length bytes) after)
 front at blank (b ∷ []) after e = front_blank at b after e
 front at comment (b ∷ bs) after (h, all, stops) = rw h (front_comment at bs after all stops ∙ sym (joined_none (lex Between (at + suc (length bs)) after)))
 front at word (b ∷ bs) after (e, all, stops) = front_word at b bs after e all stops
@@ -304,12 +321,20 @@ Runs-none p = record { front = []; after = []; whole = refl; all = refl; stops =
 Runs-more : (p : ℕ → Bool) (b : ℕ) (bs : List ℕ) → Runs p bs → (ps : List Piece) × IsCut (b ∷ bs) ps → Runs p (b ∷ bs)
 Runs-more p b bs r cut =
     elim (p b) as (λ t. p b ≡ t → Runs p (b ∷ bs)) [
-      | true ↦ λ t. record { front = b ∷ r.front; after = r.after; whole = ap (λ xs. b ∷ xs) r.whole; all = and_from _ _ t r.all; stops = r.stops; rest = r.rest }
+      | true ↦ λ t. record {
+        front = b ∷ r.front;
+        after = r.after;
+        whole = ap (λ xs. b ∷ xs) r.whole;
+        all = and_from _ _ t r.all;
+        stops = r.stops;
+        rest = r.rest;
+      }
       | false ↦ λ t. record { front = []; after = b ∷ bs; whole = refl; all = refl; stops = t; rest = cut }
     ] refl
 
 -- a piece before a cut
-before : (form : Form) (bytes text after : List ℕ) → text ≡ bytes ++ after → IsPiece form bytes after → (ps : List Piece) × IsCut after ps → (ps : List Piece) × IsCut text ps
+before : (form : Form) (bytes text after : List ℕ) → text ≡ bytes ++ after → IsPiece form bytes after → (ps : List Piece) × IsCut after ps →
+    (ps : List Piece) × IsCut text ps
 before form bytes text after e piece (ps, cut) = (record { form = form; bytes = bytes } ∷ ps, (after, e, piece, cut))
 
 test : {P : Type 0} → (b : Bool) → ((b ≡ true) → P) → ((b ≡ false) → P) → P
@@ -318,9 +343,12 @@ test false f g = g refl
 
 cut_more : (b : ℕ) (bs : List ℕ) → Cuts bs → (ps : List Piece) × IsCut (b ∷ bs) ps
 cut_more b bs c =
-    test (is_letter b) (λ letter. before word (b ∷ c.words.front) (b ∷ bs) c.words.after (ap (λ xs. b ∷ xs) c.words.whole) (letter, c.words.all, c.words.stops) c.words.rest) (λ n1.
-    test (is_digit b) (λ digit. before number (b ∷ c.digits.front) (b ∷ bs) c.digits.after (ap (λ xs. b ∷ xs) c.digits.whole) (digit, c.digits.all, c.digits.stops) c.digits.rest) (λ n2.
-    test (b == 35) (λ hash. before comment (b ∷ c.comments.front) (b ∷ bs) c.comments.after (ap (λ xs. b ∷ xs) c.comments.whole) (eqb-true b 35 hash, c.comments.all, c.comments.stops) c.comments.rest) (λ n3.
+    test (is_letter b) (λ letter. before word (b ∷ c.words.front) (b ∷ bs) c.words.after (ap (λ xs. b ∷ xs) c.words.whole)
+    (letter, c.words.all, c.words.stops) c.words.rest) (λ n1.
+    test (is_digit b) (λ digit. before number (b ∷ c.digits.front) (b ∷ bs) c.digits.after (ap (λ xs. b ∷ xs) c.digits.whole)
+    (digit, c.digits.all, c.digits.stops) c.digits.rest) (λ n2.
+    test (b == 35) (λ hash. before comment (b ∷ c.comments.front) (b ∷ bs) c.comments.after (ap (λ xs. b ∷ xs) c.comments.whole)
+    (eqb-true b 35 hash, c.comments.all, c.comments.stops) c.comments.rest) (λ n3.
     test (is_blank b) (λ gap. before blank (b ∷ []) (b ∷ bs) bs refl gap c.whole) (λ n4.
     test (is_mark b) (λ sign. before mark (b ∷ []) (b ∷ bs) bs refl sign c.whole) (λ n5.
     before other (b ∷ []) (b ∷ bs) bs refl (rw (n4, n3, n1, n2, n5) refl) c.whole)))))
@@ -330,7 +358,13 @@ cuts [] = record { whole = ([], refl); words = Runs-none is_word_byte; digits = 
 cuts (b ∷ bs) =
     let c = cuts bs in
     let whole = cut_more b bs c in
-    record { whole = whole; words = Runs-more is_word_byte b bs c.words whole; digits = Runs-more is_digit b bs c.digits whole; comments = Runs-more is_in_comment b bs c.comments whole }
+    record {
+      whole = whole;
+      words = Runs-more is_word_byte b bs c.words whole;
+      digits = Runs-more is_digit b bs c.digits whole;
+      comments =
+          Runs-more is_in_comment b bs c.comments whole;
+    }
 
 -- the machine reads
 pub lex_reads : (text : List ℕ) → Reads text (lex_of text)

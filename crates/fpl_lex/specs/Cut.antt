@@ -79,7 +79,8 @@ abbrev pub piece_tokens : ℕ → Form → List ℕ → Result (List Token) LexE
 piece_tokens at blank bytes = Ok []
 piece_tokens at comment bytes = Ok []
 piece_tokens at word bytes = if nat_lt most_name (length bytes) then Err (NameTooLong at) else Ok (token_at at bytes kinds.Word ∷ [])
-piece_tokens at number bytes = if nat_lt most_value (value_of bytes) then Err (NumberTooLarge at) else Ok (token_at at bytes (kinds.Number (value_of bytes)) ∷ [])
+piece_tokens at number bytes = if nat_lt most_value (value_of bytes) then Err (NumberTooLarge at) else
+    Ok (token_at at bytes (kinds.Number (value_of bytes)) ∷ [])
 piece_tokens at mark bytes = Ok (mark_tokens at bytes)
 piece_tokens at other bytes = Err (BadByte at)
 

@@ -151,7 +151,8 @@ IsFinished mode at (Err e) = finished mode at ≡ Err e
 -- the tokens from this place on are this one and those after it
 abbrev pub IsNext : List ℕ → ℕ → Result (Option Token) LexError → Type 0
 IsNext text from (Ok None) = lex_from from (drop from text) ≡ Ok []
-IsNext text from (Ok (Some t)) = (lex_from from (drop from text) ≡ joined (Ok (t ∷ [])) (lex_from t.end (drop t.end text))) × (from < t.end) × (t.end ≤ length text)
+IsNext text from (Ok (Some t)) = (lex_from from (drop from text) ≡ joined (Ok (t ∷ [])) (lex_from t.end (drop t.end text))) × (from < t.end) ×
+    (t.end ≤ length text)
 IsNext text from (Err e) = lex_from from (drop from text) ≡ Err e
 
 -- a mode that begins no later than this place

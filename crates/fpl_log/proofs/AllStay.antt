@@ -28,7 +28,8 @@ own_more numbers own i h = go (length numbers + 1 - i) refl
     go zero e =
         let last : i - 1 ≡ length numbers = omega (arith, e, most) in
         let is : length numbers + 1 ≡ i = omega (arith, e, most) in
-        ap (λ k. slice_index_or (numbers ++ (Some (length numbers + 1)) ∷ []) k None) last ∙ get_or-append_seam numbers (Some (length numbers + 1)) [] None ∙ ap Some is
+        ap (λ k. slice_index_or (numbers ++ (Some (length numbers + 1)) ∷ []) k None) last ∙
+        get_or-append_seam numbers (Some (length numbers + 1)) [] None ∙ ap Some is
     go (suc d) e =
         get_or_append_left numbers ((Some (length numbers + 1)) ∷ []) None (i - 1) (omega (arith, e, from))
         ∙ own i (record { from_one = from; to_end = omega (arith, e) })
@@ -47,7 +48,8 @@ stay : (b c : Bool) → (not b && c) ≡ true → (b ≡ false) × (c ≡ true)
 stay true c e = absurd (let k : ⊥ = cc in k)
 stay false c e = (refl, e)
 
-all_own : (numbers : List (Option ℕ)) → AreOwn numbers → (ss : List Step) → AllNameEarlier (length numbers) ss → all_stay ss ≡ true → slim_steps numbers (length numbers) ss ≡ ss
+all_own : (numbers : List (Option ℕ)) → AreOwn numbers → (ss : List Step) → AllNameEarlier (length numbers) ss → all_stay ss ≡ true →
+    slim_steps numbers (length numbers) ss ≡ ss
 all_own numbers own [] h e = refl
 all_own numbers own (s ∷ ss) h e =
     let both = stay (is_left_out s) (all_stay ss) e in
@@ -61,8 +63,10 @@ pub slim_already : (steps : List Step) → AllNameEarlier 0 steps → all_stay s
 slim_already steps h e = all_own [] (λ i k. absurd (let a = k.from_one in let b = k.to_end in omega (arith, a, b))) steps h e
 
 -- the steps that are left to look at
-pub stay_next : (steps : List Step) (j i : ℕ) (s : Step) → j ≡ suc i → Some s ≡ slice_get steps i → is_left_out s ≡ false → all_stay (drop i steps) ≡ all_stay (drop j steps)
-stay_next steps j i s is e f = ap all_stay (drop_next steps i s e) ∙ ap (λ b. not b && all_stay (drop (suc i) steps)) f ∙ ap (λ k. all_stay (drop k steps)) (sym is)
+pub stay_next : (steps : List Step) (j i : ℕ) (s : Step) → j ≡ suc i → Some s ≡ slice_get steps i → is_left_out s ≡ false →
+    all_stay (drop i steps) ≡ all_stay (drop j steps)
+stay_next steps j i s is e f = ap all_stay (drop_next steps i s e) ∙ ap (λ b. not b && all_stay (drop (suc i) steps)) f ∙
+    ap (λ k. all_stay (drop k steps)) (sym is)
 
 pub stay_stop : (steps : List Step) (i : ℕ) (s : Step) → Some s ≡ slice_get steps i → is_left_out s ≡ true → all_stay (drop i steps) ≡ false
 stay_stop steps i s e f = ap all_stay (drop_next steps i s e) ∙ ap (λ b. not b && all_stay (drop (suc i) steps)) f

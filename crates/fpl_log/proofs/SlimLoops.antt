@@ -14,10 +14,12 @@ term-first : (o : Option ℕ) (t : Term) (ts : List Term) → slim_term o t ts �
 term-first None t ts = refl
 term-first (Some n) t ts = refl
 
-pub terms_next : (numbers : List (Option ℕ)) (ts kept after all : List Term) (j i : ℕ) (t : Term) → j ≡ suc i → Some t ≡ slice_get ts i → all ≡ kept ++ slim_terms numbers (drop i ts) →
+pub terms_next : (numbers : List (Option ℕ)) (ts kept after all : List Term) (j i : ℕ) (t : Term) → j ≡ suc i → Some t ≡ slice_get ts i →
+    all ≡ kept ++ slim_terms numbers (drop i ts) →
     after ≡ kept ++ slim_term (new_number numbers t.step) t [] → all ≡ after ++ slim_terms numbers (drop j ts)
 terms_next numbers ts kept after all j i t is e f g =
-    f ∙ ap (λ w. kept ++ slim_terms numbers w) (drop_next ts i t e) ∙ ap (λ w. kept ++ w) (term-first (new_number numbers t.step) t (slim_terms numbers (drop (suc i) ts)))
+    f ∙ ap (λ w. kept ++ slim_terms numbers w) (drop_next ts i t e) ∙
+    ap (λ w. kept ++ w) (term-first (new_number numbers t.step) t (slim_terms numbers (drop (suc i) ts)))
     ∙ sym (append_assoc kept _ _) ∙ ap₂ (λ v w. v ++ slim_terms numbers (drop w ts)) (sym g) (sym is)
 
 kept-first : (b : Bool) (s : Step) (ss : List Step) → kept_if b s ss ≡ kept_if b s [] ++ ss
@@ -33,19 +35,25 @@ pub record Left (steps : List Step) (i : ℕ) (numbers : List (Option ℕ)) (kep
   pub order : AllNameEarlier (length numbers) (drop i steps)
   pub left : slim_steps [] 0 steps ≡ kept ++ slim_steps numbers (length kept) (drop i steps)
 
-pub cites_here : (steps : List Step) (i : ℕ) (numbers : List (Option ℕ)) (kept : List Step) (s : Step) → Left steps i numbers kept → Some s ≡ slice_get steps i → NamesEarlier (length numbers) s
+pub cites_here : (steps : List Step) (i : ℕ) (numbers : List (Option ℕ)) (kept : List Step) (s : Step) → Left steps i numbers kept →
+    Some s ≡ slice_get steps i → NamesEarlier (length numbers) s
 cites_here steps i numbers kept s h e = (subst (AllNameEarlier (length numbers)) (drop_next steps i s e) h.order).0
 
-pub steps_next : (steps : List Step) (j i : ℕ) (numbers after : List (Option ℕ)) (kept more : List Step) (s : Step) → j ≡ suc i → Some s ≡ slice_get steps i → Left steps i numbers kept →
-    after ≡ numbers ++ (next_number (is_left_out s) (length kept)) ∷ [] → more ≡ kept ++ kept_if (is_left_out s) (slim_step numbers s) [] → Left steps j after more
+pub steps_next : (steps : List Step) (j i : ℕ) (numbers after : List (Option ℕ)) (kept more : List Step) (s : Step) → j ≡ suc i →
+    Some s ≡ slice_get steps i → Left steps i numbers kept →
+    after ≡ numbers ++ (next_number (is_left_out s) (length kept)) ∷ [] → more ≡ kept ++ kept_if (is_left_out s) (slim_step numbers s) [] →
+    Left steps j after more
 steps_next steps j i numbers after kept more s is e h f g =
     subst (λ j. Left steps j after more) (sym is) (subst (λ n. Left steps (suc i) n more) (sym f) (subst (Left steps (suc i) numbers') (sym g)
     (record {
-      order = subst (λ n. AllNameEarlier n (drop (suc i) steps)) (sym (length-append numbers _)) (subst (AllNameEarlier (length numbers)) (drop_next steps i s e) h.order).1;
+      order = subst (λ n. AllNameEarlier n (drop (suc i) steps)) (sym (length-append numbers _))
+          (subst (AllNameEarlier (length numbers)) (drop_next steps i s e) h.order).1;
       left =
           h.left ∙ ap (λ w. kept ++ slim_steps numbers (length kept) w) (drop_next steps i s e)
-          ∙ ap (λ w. kept ++ w) (kept-first (is_left_out s) (slim_step numbers s) (slim_steps numbers' (next_count (is_left_out s) (length kept)) (drop (suc i) steps)))
-          ∙ sym (append_assoc kept _ _) ∙ ap (λ c. (kept ++ kept_if (is_left_out s) (slim_step numbers s) []) ++ slim_steps numbers' c (drop (suc i) steps)) (sym count);
+          ∙ ap (λ w. kept ++ w) (kept-first (is_left_out s) (slim_step numbers s) (slim_steps numbers' (next_count (is_left_out s) (length kept))
+          (drop (suc i) steps)))
+          ∙ sym (append_assoc kept _ _) ∙ ap (λ c. (kept ++ kept_if (is_left_out s) (slim_step numbers s) []) ++
+          slim_steps numbers' c (drop (suc i) steps)) (sym count);
     })))
   where
     numbers' : List (Option ℕ)
@@ -60,12 +68,6 @@ drop-all [] (suc i) l = refl
 drop-all (x ∷ xs) zero l = absurd (omega arith)
 drop-all (x ∷ xs) (suc i) l = drop-all xs i (omega arith)
 
-pub steps_end : (steps : List Step) (i : ℕ) (numbers : List (Option ℕ)) (kept : List Step) → length steps ≤ i → Left steps i numbers kept → kept ≡ slim_steps [] 0 steps
-steps_end steps i numbers kept l h = sym (h.left ∙ ap (λ w. kept ++ slim_steps numbers (length kept) w) (drop-all steps i l) ∙ append-nil kept)
-
-pub terms_end : (numbers : List (Option ℕ)) (ts kept : List Term) (i : ℕ) → length ts ≤ i → slim_terms numbers ts ≡ kept ++ slim_terms numbers (drop i ts) → kept ≡ slim_terms numbers ts
-terms_end numbers ts kept i l e = sym (e ∙ ap (λ w. kept ++ slim_terms numbers w) (drop-all ts i l) ∙ append-nil kept)
-
 -- steps in order name earlier steps
 names_of : (numbers : List (Option ℕ)) (s : Step) → CitesEarlier numbers s → NamesEarlier (length numbers) s
 names_of numbers (Insert origin terms scale) h = h
@@ -75,5 +77,6 @@ pub order_names : (numbers : List (Option ℕ)) (count : ℕ) (ss : List Step) �
 order_names numbers count [] h = tt
 order_names numbers count (s ∷ ss) h = (
   names_of numbers s h.0,
-  subst (λ n. AllNameEarlier n ss) (length-append numbers _) (order_names (numbers ++ (next_number (is_left_out s) count) ∷ []) (next_count (is_left_out s) count) ss h.1),
+  subst (λ n. AllNameEarlier n ss) (length-append numbers _) (order_names (numbers ++ (next_number (is_left_out s) count) ∷ [])
+      (next_count (is_left_out s) count) ss h.1),
 )

@@ -20,7 +20,8 @@ conclusion_of k source steps i = cited (field_of k) (number_of k) (concluded (fi
 abbrev pub ConclusionsUnfold : Kind → Type 0
 ConclusionsUnfold k =
     (source : Origin → Vector (field_of k)) (steps : List Step) (i : ℕ) →
-    conclusion_of k source steps i ≡ unfolding_value (field_of k) (number_of k) source (unfolding_cited (field_of k) (number_of k) (unfolded (field_of k) (number_of k) [] steps) i)
+    conclusion_of k source steps i ≡ unfolding_value (field_of k) (number_of k) source (unfolding_cited (field_of k) (number_of k)
+    (unfolded (field_of k) (number_of k) [] steps) i)
 
 abbrev pub HaveElements : Kind → List Step → Type 0
 HaveElements k [] = Unit {0}
@@ -30,4 +31,5 @@ HaveElements k ((Close of terms) ∷ ss) = HaveElements k ss
 abbrev pub ConclusionsStay : Kind → Type 0
 ConclusionsStay k =
     IsField k → (source : Origin → Vector (field_of k)) (steps : List Step) → AreInOrder [] 0 steps → HaveElements k steps →
-    (i n : ℕ) → 1 ≤ i → i ≤ length steps → new_number (numbers_after [] 0 steps) i ≡ Some n → conclusion_of k source (slim_steps [] 0 steps) n ≡ conclusion_of k source steps i
+    (i n : ℕ) → 1 ≤ i → i ≤ length steps → new_number (numbers_after [] 0 steps) i ≡ Some n →
+    conclusion_of k source (slim_steps [] 0 steps) n ≡ conclusion_of k source steps i

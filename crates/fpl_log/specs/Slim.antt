@@ -73,7 +73,8 @@ CitesEarlier numbers (Close of terms) = IsEarlier (length numbers) of × (new_nu
 
 abbrev pub AreInOrder : List (Option ℕ) → ℕ → List Step → Type 0
 AreInOrder numbers count [] = Unit {0}
-AreInOrder numbers count (s ∷ ss) = CitesEarlier numbers s × AreInOrder (numbers ++ (next_number (is_left_out s) count) ∷ []) (next_count (is_left_out s) count) ss
+AreInOrder numbers count (s ∷ ss) = CitesEarlier numbers s × AreInOrder (numbers ++ (next_number (is_left_out s) count) ∷ [])
+    (next_count (is_left_out s) count) ss
 
 abbrev pub NamesEarlier : ℕ → Step → Type 0
 NamesEarlier count (Insert origin terms scale) = All (λ t. IsEarlier count t.step) terms

@@ -12,7 +12,8 @@ use Rattle.fpl_model.specs.Meaning.{in_field, all_in_field, generator_in}
 use Rattle.fpl_model.specs.Sound.{HaveWeights, count_tree, count_trees}
 
 -- the generators of a presentation, by number
-pub shape_at : (gs : List declared.Generator) (i : ℕ) (x : declared.Generator) → i < length gs → x ≡ get_or gs i x → get_or (map generator_in gs) i no_generator ≡ generator_in x
+pub shape_at : (gs : List declared.Generator) (i : ℕ) (x : declared.Generator) → i < length gs → x ≡ get_or gs i x →
+    get_or (map generator_in gs) i no_generator ≡ generator_in x
 shape_at [] i x lt is = absurd (omega (arith, lt))
 shape_at (g ∷ gs) zero x lt is = ap generator_in (sym is)
 shape_at (g ∷ gs) (suc i) x lt is = shape_at gs i x (omega (arith, lt)) is
@@ -24,14 +25,16 @@ light_generator (g ∷ gs) zero h = (h zero g (omega arith)).1
 light_generator (g ∷ gs) (suc i) h = light_generator gs i (λ k d lt. h (suc k) d (omega (arith, lt)))
 
 -- the members of a sum and of a bracket are of one weight each
-exact_both : (a b : Degree ℕ) (w m n : ℕ) → of_both nat_eq a b ≡ exact w → ((u : ℕ) → a ≡ exact u → u ≤ 1000 * m) → ((u : ℕ) → b ≡ exact u → u ≤ 1000 * n) → w ≤ 1000 * (m + n)
+exact_both : (a b : Degree ℕ) (w m n : ℕ) → of_both nat_eq a b ≡ exact w → ((u : ℕ) → a ≡ exact u → u ≤ 1000 * m) →
+    ((u : ℕ) → b ≡ exact u → u ≤ 1000 * n) → w ≤ 1000 * (m + n)
 exact_both any b w m n e f g = let h : w ≤ 1000 * n = g w e in omega arith
 exact_both (exact a) any w m n e f g = let h : w ≤ 1000 * m = f w e in omega arith
 exact_both (exact a) (exact b) w m n e f g = let h : a ≤ 1000 * m = f a refl in grind arith
 exact_both (exact a) mixed w m n e f g = cc
 exact_both mixed b w m n e f g = cc
 
-exact_bracket : (a b : Degree ℕ) (w m n : ℕ) → of_bracket (λ a b. a + b) a b ≡ exact w → ((u : ℕ) → a ≡ exact u → u ≤ 1000 * m) → ((u : ℕ) → b ≡ exact u → u ≤ 1000 * n) → w ≤ 1000 * (m + n)
+exact_bracket : (a b : Degree ℕ) (w m n : ℕ) → of_bracket (λ a b. a + b) a b ≡ exact w → ((u : ℕ) → a ≡ exact u → u ≤ 1000 * m) →
+    ((u : ℕ) → b ≡ exact u → u ≤ 1000 * n) → w ≤ 1000 * (m + n)
 exact_bracket any any w m n e f g = cc
 exact_bracket any (exact b) w m n e f g = cc
 exact_bracket any mixed w m n e f g = cc

@@ -78,17 +78,22 @@ small_product m n e h k l = mul-le-mul (let r : m ≤ 2 ^ 63 - 1 = omega arith i
 
 small_sum_fits : (a b : Num) → IsSmall a → IsSmall b → IsSmall (fraction_sum a b) → fraction_fits Add a b ≡ true
 small_sum_fits a b h k s =
-    let u : unsigned_abs (left_part a b) ≤ (2 ^ 63 - 1) * (2 ^ 63 - 1) = subst (λ w. w ≤ (2 ^ 63 - 1) * (2 ^ 63 - 1)) (sym (abs-mul a.numerator (pos (unsigned_abs b.denominator / common a b)))) (small_product _ _ _ h.0 k.1 (div-le_self _ _)) in
-    let v : unsigned_abs (right_part a b) ≤ (2 ^ 63 - 1) * (2 ^ 63 - 1) = subst (λ w. w ≤ (2 ^ 63 - 1) * (2 ^ 63 - 1)) (sym (abs-mul b.numerator (pos (unsigned_abs a.denominator / common a b)))) (small_product _ _ _ k.0 h.1 (div-le_self _ _)) in
-    all_within (unsigned_abs (left_part a b)) (unsigned_abs (right_part a b)) (unsigned_abs (both_parts a b)) (sum_below a b) u v (abs-sum-le (left_part a b) (right_part a b)) s.1
+    let u : unsigned_abs (left_part a b) ≤ (2 ^ 63 - 1) * (2 ^ 63 - 1) = subst (λ w. w ≤ (2 ^ 63 - 1) * (2 ^ 63 - 1))
+    (sym (abs-mul a.numerator (pos (unsigned_abs b.denominator / common a b)))) (small_product _ _ _ h.0 k.1 (div-le_self _ _)) in
+    let v : unsigned_abs (right_part a b) ≤ (2 ^ 63 - 1) * (2 ^ 63 - 1) = subst (λ w. w ≤ (2 ^ 63 - 1) * (2 ^ 63 - 1))
+    (sym (abs-mul b.numerator (pos (unsigned_abs a.denominator / common a b)))) (small_product _ _ _ k.0 h.1 (div-le_self _ _)) in
+    all_within (unsigned_abs (left_part a b)) (unsigned_abs (right_part a b)) (unsigned_abs (both_parts a b)) (sum_below a b) u v
+    (abs-sum-le (left_part a b) (right_part a b)) s.1
   where
     all_within : (u v t d : ℕ) → u ≤ (2 ^ 63 - 1) * (2 ^ 63 - 1) → v ≤ (2 ^ 63 - 1) * (2 ^ 63 - 1) → t ≤ u + v → d < 2 ^ 63 →
         (nat_le u most_number && nat_le v most_number && nat_le t most_number && nat_le d most_number) ≡ true
     all_within u v t d p q r s =
-        all_true (is_within_is u most_number (omega arith)) (is_within_is v most_number (omega arith)) (is_within_is t most_number (omega arith)) (is_within_is d most_number (omega arith))
+        all_true (is_within_is u most_number (omega arith)) (is_within_is v most_number (omega arith)) (is_within_is t most_number (omega arith))
+        (is_within_is d most_number (omega arith))
 
 small_product_fits : (a b : Num) → IsSmall (fraction_product a b) → fraction_fits Mul a b ≡ true
-small_product_fits a b s = two_true (small_within (unsigned_abs (fraction_product a b).numerator) s.0) (small_within (unsigned_abs (fraction_product a b).denominator) s.1)
+small_product_fits a b s = two_true (small_within (unsigned_abs (fraction_product a b).numerator) s.0)
+    (small_within (unsigned_abs (fraction_product a b).denominator) s.1)
   where
     small_within : (n : ℕ) → n < 2 ^ 63 → nat_le n most_number ≡ true
     small_within n l = is_within_is n most_number (omega arith)

@@ -47,16 +47,20 @@ module _ (a b : Num) (is_a : IsLowest a) (is_b : IsLowest b) where
 
   -- a part of a numerator and a part of its own denominator
   own_apart : (n d g h : ℕ) → IsGcd n d 1 → g ∣ n → h ∣ d → IsGcd (n / g) (d / h) 1
-  own_apart n d g h is p q = divisor_apart (n / g) n (d / h) (part_dvd n g p) (IsGcd-swap _ _ 1 (divisor_apart (d / h) d n (part_dvd d h q) (IsGcd-swap n d 1 is)))
+  own_apart n d g h is p q = divisor_apart (n / g) n (d / h) (part_dvd n g p) (IsGcd-swap _ _ 1
+      (divisor_apart (d / h) d n (part_dvd d h q) (IsGcd-swap n d 1 is)))
 
   above_is : unsigned_abs cancelled_above ≡ (size a / left_gcd) * (size b / right_gcd)
-  above_is = abs-mul (divided a.numerator left_gcd) (divided b.numerator right_gcd) ∙ ap₂ (λ x y. x * y) (abs-divided a.numerator left_gcd) (abs-divided b.numerator right_gcd)
+  above_is = abs-mul (divided a.numerator left_gcd) (divided b.numerator right_gcd) ∙ ap₂ (λ x y. x * y) (abs-divided a.numerator left_gcd)
+      (abs-divided b.numerator right_gcd)
 
   parts_apart : IsGcd ((size a / left_gcd) * (size b / right_gcd)) cancelled_below 1
   parts_apart =
       apart-mul _ (below a / right_gcd) (below b / left_gcd)
-      (IsGcd-swap _ _ 1 (apart-mul _ _ _ (IsGcd-swap _ _ 1 (own_apart _ _ _ _ is_a.lowest is_left.0 is_right.1)) (IsGcd-swap _ _ 1 (quotients_apart _ _ right_gcd some_right is_right))))
-      (IsGcd-swap _ _ 1 (apart-mul _ _ _ (IsGcd-swap _ _ 1 (quotients_apart _ _ left_gcd some_left is_left)) (IsGcd-swap _ _ 1 (own_apart _ _ _ _ is_b.lowest is_right.0 is_left.1))))
+      (IsGcd-swap _ _ 1 (apart-mul _ _ _ (IsGcd-swap _ _ 1 (own_apart _ _ _ _ is_a.lowest is_left.0 is_right.1))
+      (IsGcd-swap _ _ 1 (quotients_apart _ _ right_gcd some_right is_right))))
+      (IsGcd-swap _ _ 1 (apart-mul _ _ _ (IsGcd-swap _ _ 1 (quotients_apart _ _ left_gcd some_left is_left))
+      (IsGcd-swap _ _ 1 (own_apart _ _ _ _ is_b.lowest is_right.0 is_left.1))))
 
   -- the greatest common divisor of the whole products
   whole : ℕ
@@ -75,20 +79,24 @@ module _ (a b : Num) (is_a : IsLowest a) (is_b : IsLowest b) where
       turn p g q h = omega arith
 
   above_split : unsigned_abs (a.numerator *ℤ b.numerator) ≡ (size a / left_gcd) * (size b / right_gcd) * (left_gcd * right_gcd)
-  above_split = abs-mul a.numerator b.numerator ∙ ap₂ (λ x y. x * y) (sym (div-mul_cancel left_gcd is_left.0)) (sym (div-mul_cancel right_gcd is_right.0)) ∙ turn _ _ _ _
+  above_split = abs-mul a.numerator b.numerator ∙ ap₂ (λ x y. x * y) (sym (div-mul_cancel left_gcd is_left.0))
+      (sym (div-mul_cancel right_gcd is_right.0)) ∙ turn _ _ _ _
     where
       turn : (p g q h : ℕ) → p * g * (q * h) ≡ p * q * (g * h)
       turn p g q h = omega arith
 
   cancelled_positive : 0 < cancelled_below
-  cancelled_positive = mul-pos (quotient_positive (below a) right_gcd (below_positive a is_a) is_right.1) (quotient_positive (below b) left_gcd (below_positive b is_b) is_left.1)
+  cancelled_positive = mul-pos (quotient_positive (below a) right_gcd (below_positive a is_a) is_right.1)
+      (quotient_positive (below b) left_gcd (below_positive b is_b) is_left.1)
 
   -- both are the product in lowest terms
-  equal : (unsigned_abs (a.numerator *ℤ b.numerator) / gcd (unsigned_abs (a.numerator *ℤ b.numerator)) (below a * below b) ≡ (size a / left_gcd) * (size b / right_gcd))
+  equal : (unsigned_abs (a.numerator *ℤ b.numerator) / gcd (unsigned_abs (a.numerator *ℤ b.numerator)) (below a * below b)
+      ≡ (size a / left_gcd) * (size b / right_gcd))
       × ((below a * below b) / gcd (unsigned_abs (a.numerator *ℤ b.numerator)) (below a * below b) ≡ cancelled_below)
   equal =
       lowest_equal _ _ _ cancelled_below cancelled_positive (quotients_apart _ _ _ (pos_of_dvd_of_pos is_whole.1 some_below) is_whole) parts_apart
-      (crossed _ _ _ _ (gcd (unsigned_abs (a.numerator *ℤ b.numerator)) (below a * below b)) (left_gcd * right_gcd) (pos_of_dvd_of_pos is_whole.1 some_below) (mul-pos some_left some_right)
+      (crossed _ _ _ _ (gcd (unsigned_abs (a.numerator *ℤ b.numerator)) (below a * below b)) (left_gcd * right_gcd)
+      (pos_of_dvd_of_pos is_whole.1 some_below) (mul-pos some_left some_right)
       (div-mul_cancel _ is_whole.0 ∙ above_split) (div-mul_cancel _ is_whole.1 ∙ below_split))
     where
       crossed : (n d m e g h : ℕ) → 0 < g → 0 < h → n * g ≡ m * h → d * g ≡ e * h → n * e ≡ m * d
@@ -100,7 +108,8 @@ module _ (a b : Num) (is_a : IsLowest a) (is_b : IsLowest b) where
           turned n d m e g h k = omega arith
 
   gcd_split : gcd (unsigned_abs (a.numerator *ℤ b.numerator)) (below a * below b) ≡ left_gcd * right_gcd
-  gcd_split = eq_of_mul-eq-mul_left cancelled_below cancelled_positive _ _ (ap (λ w. w * gcd (unsigned_abs (a.numerator *ℤ b.numerator)) (below a * below b)) (sym equal.1) ∙ div-mul_cancel _ is_whole.1 ∙ below_split)
+  gcd_split = eq_of_mul-eq-mul_left cancelled_below cancelled_positive _ _
+      (ap (λ w. w * gcd (unsigned_abs (a.numerator *ℤ b.numerator)) (below a * below b)) (sym equal.1) ∙ div-mul_cancel _ is_whole.1 ∙ below_split)
 
   numerators : divided (a.numerator *ℤ b.numerator) (gcd (unsigned_abs (a.numerator *ℤ b.numerator)) (below a * below b)) ≡ cancelled_above
   numerators = int_same _ _ (ap₂ (λ x y. x + y) ups (sym downs))
@@ -113,7 +122,9 @@ module _ (a b : Num) (is_a : IsLowest a) (is_b : IsLowest b) where
           eq_of_mul-eq-mul_right (left_gcd * right_gcd) some _ _
           (ap (λ w. up_part (divided (a.numerator *ℤ b.numerator) (gcd (unsigned_abs (a.numerator *ℤ b.numerator)) (below a * below b))) * w) (sym gcd_split)
           ∙ sym (up_times (a.numerator *ℤ b.numerator) _ is_whole.0) ∙ up-mul a.numerator b.numerator
-          ∙ spread (up_part a.numerator) (down_part a.numerator) (up_part b.numerator) (down_part b.numerator) _ _ _ _ left_gcd right_gcd (up_times a.numerator left_gcd is_left.0) (down_times a.numerator left_gcd is_left.0) (up_times b.numerator right_gcd is_right.0) (down_times b.numerator right_gcd is_right.0)
+          ∙ spread (up_part a.numerator) (down_part a.numerator) (up_part b.numerator) (down_part b.numerator) _ _ _ _ left_gcd right_gcd
+          (up_times a.numerator left_gcd is_left.0) (down_times a.numerator left_gcd is_left.0) (up_times b.numerator right_gcd is_right.0)
+          (down_times b.numerator right_gcd is_right.0)
           ∙ ap (λ w. w * (left_gcd * right_gcd)) (sym (up-mul (divided a.numerator left_gcd) (divided b.numerator right_gcd))))
         where
           spread : (u v w x u' v' w' x' g h : ℕ) → u ≡ u' * g → v ≡ v' * g → w ≡ w' * h → x ≡ x' * h → u * w + v * x ≡ (u' * w' + v' * x') * (g * h)
@@ -124,7 +135,9 @@ module _ (a b : Num) (is_a : IsLowest a) (is_b : IsLowest b) where
           eq_of_mul-eq-mul_right (left_gcd * right_gcd) some _ _
           (ap (λ w. down_part (divided (a.numerator *ℤ b.numerator) (gcd (unsigned_abs (a.numerator *ℤ b.numerator)) (below a * below b))) * w) (sym gcd_split)
           ∙ sym (down_times (a.numerator *ℤ b.numerator) _ is_whole.0) ∙ down-mul a.numerator b.numerator
-          ∙ spread (up_part a.numerator) (down_part a.numerator) (up_part b.numerator) (down_part b.numerator) _ _ _ _ left_gcd right_gcd (up_times a.numerator left_gcd is_left.0) (down_times a.numerator left_gcd is_left.0) (up_times b.numerator right_gcd is_right.0) (down_times b.numerator right_gcd is_right.0)
+          ∙ spread (up_part a.numerator) (down_part a.numerator) (up_part b.numerator) (down_part b.numerator) _ _ _ _ left_gcd right_gcd
+          (up_times a.numerator left_gcd is_left.0) (down_times a.numerator left_gcd is_left.0) (up_times b.numerator right_gcd is_right.0)
+          (down_times b.numerator right_gcd is_right.0)
           ∙ ap (λ w. w * (left_gcd * right_gcd)) (sym (down-mul (divided a.numerator left_gcd) (divided b.numerator right_gcd))))
         where
           spread : (u v w x u' v' w' x' g h : ℕ) → u ≡ u' * g → v ≡ v' * g → w ≡ w' * h → x ≡ x' * h → u * x + v * w ≡ (u' * x' + v' * w') * (g * h)

@@ -46,17 +46,23 @@ sum_cross ua va da ub vb db g b1 e1 tu tv h cu cv e2 pa pb qb s pu pv =
     go cu cv ua va ub vb g b1 e1 h e2 tu tv m1 m2 m3 m4 k1 k2 k3 k4 k5 k6 k7 = omega arith
 
 two_below : (a b : Num) → IsLowest a → IsLowest b → pred (below a) * pred (below b) + pred (below a) + pred (below b) + 1 ≡ below a * below b
-two_below a b is_a is_b = by_product (pred (below a)) (pred (below b)) ∙ ap₂ (λ x y. x * y) (suc_pred (below a) (below_positive a is_a)) (suc_pred (below b) (below_positive b is_b))
+two_below a b is_a is_b = by_product (pred (below a)) (pred (below b)) ∙ ap₂ (λ x y. x * y) (suc_pred (below a) (below_positive a is_a))
+    (suc_pred (below b) (below_positive b is_b))
 
 sum_alike : (a b : Num) → IsLowest a → IsLowest b → Alike (raw (fraction_sum a b)) (ratio_plus (raw a) (raw b))
 sum_alike a b is_a is_b =
-    raw_alike (fraction_sum a b) (ratio_plus (raw a) (raw b)) (below a * below b) (below_positive (fraction_sum a b) (sum_lowest a b is_a is_b)) (two_below a b is_a is_b)
-    (subst₂ (λ x y. up (fraction_sum a b) * (below a * below b) + (down a * y + down b * x) * sum_below a b ≡ (up a * y + up b * x) * sum_below a b + down (fraction_sum a b) * (below a * below b))
+    raw_alike (fraction_sum a b) (ratio_plus (raw a) (raw b)) (below a * below b) (below_positive (fraction_sum a b) (sum_lowest a b is_a is_b))
+    (two_below a b is_a is_b)
+    (subst₂ (λ x y. up (fraction_sum a b) * (below a * below b) + (down a * y + down b * x) * sum_below a b ≡ (up a * y + up b * x) * sum_below a b +
+    down (fraction_sum a b) * (below a * below b))
     (sym (suc_pred (below a) (below_positive a is_a))) (sym (suc_pred (below b) (below_positive b is_b)))
     (sum_cross (up a) (down a) (below a) (up b) (down b) (below b) (common a b) (below a / common a b) (below b / common a b)
     (up_part (both_parts a b)) (down_part (both_parts a b)) (shared a b) (up (fraction_sum a b)) (down (fraction_sum a b)) (below b / shared a b)
-    (sym (div-mul_cancel (common a b) (is_g a b is_a is_b).0)) (sym (div-mul_cancel (common a b) (is_g a b is_a is_b).1)) (sym (div-mul_cancel (shared a b) (h_below a b is_a is_b)))
-    (formed (below a / common a b) (below b / common a b) _ _ _ _ (sum_parts (left_part a b) (right_part a b)) (up-mul a.numerator (pos (below b / common a b))) (down-mul a.numerator (pos (below b / common a b))) (up-mul b.numerator (pos (below a / common a b))) (down-mul b.numerator (pos (below a / common a b))))
+    (sym (div-mul_cancel (common a b) (is_g a b is_a is_b).0)) (sym (div-mul_cancel (common a b) (is_g a b is_a is_b).1))
+    (sym (div-mul_cancel (shared a b) (h_below a b is_a is_b)))
+    (formed (below a / common a b) (below b / common a b) _ _ _ _ (sum_parts (left_part a b) (right_part a b))
+    (up-mul a.numerator (pos (below b / common a b))) (down-mul a.numerator (pos (below b / common a b)))
+    (up-mul b.numerator (pos (below a / common a b))) (down-mul b.numerator (pos (below a / common a b))))
     (up_times (both_parts a b) (shared a b) (is_h a b is_a is_b).0) (down_times (both_parts a b) (shared a b) (is_h a b is_a is_b).0)))
   where
     formed : (b1 e1 ul dl ur dr : ℕ) → up_part (both_parts a b) + (dl + dr) ≡ ul + ur + down_part (both_parts a b) →
@@ -80,12 +86,14 @@ module _ (a b : Num) (is_a : IsLowest a) (is_b : IsLowest b) where
   product_lowest : IsLowest (fraction_product a b)
   product_lowest = record {
     positive = positive_int _ (quotient_positive _ _ some_below product_gcd.1);
-    lowest = subst (λ w. IsGcd w (below (fraction_product a b)) 1) (sym (abs-divided (a.numerator *ℤ b.numerator) _)) (quotients_apart _ _ _ (pos_of_dvd_of_pos product_gcd.1 some_below) product_gcd);
+    lowest = subst (λ w. IsGcd w (below (fraction_product a b)) 1) (sym (abs-divided (a.numerator *ℤ b.numerator) _))
+        (quotients_apart _ _ _ (pos_of_dvd_of_pos product_gcd.1 some_below) product_gcd);
   }
 
   product_alike : Alike (raw (fraction_product a b)) (ratio_times (raw a) (raw b))
   product_alike =
-      raw_alike (fraction_product a b) (ratio_times (raw a) (raw b)) (below a * below b) (below_positive (fraction_product a b) product_lowest) (two_below a b is_a is_b)
+      raw_alike (fraction_product a b) (ratio_times (raw a) (raw b)) (below a * below b) (below_positive (fraction_product a b) product_lowest)
+      (two_below a b is_a is_b)
       (cross _ _ _ _ _ _ _ (sym (div-mul_cancel _ product_gcd.1))
       (sym (up-mul a.numerator b.numerator) ∙ up_times (a.numerator *ℤ b.numerator) _ product_gcd.0)
       (sym (down-mul a.numerator b.numerator) ∙ down_times (a.numerator *ℤ b.numerator) _ product_gcd.0))
@@ -95,7 +103,8 @@ module _ (a b : Num) (is_a : IsLowest a) (is_b : IsLowest b) where
 
   product_reads : lowest (raw (fraction_product a b)) ≡ lowest (ratio_times (lowest (raw a)) (lowest (raw b)))
   unfolding fraction_normal
-  product_reads = lowest_same_of _ _ product_alike ∙ sym (right-times fraction_normal (raw a) (raw b)) ∙ sym (fraction_normal.norm-times (raw a) (lowest (raw b)))
+  product_reads = lowest_same_of _ _ product_alike ∙ sym (right-times fraction_normal (raw a) (raw b)) ∙
+      sym (fraction_normal.norm-times (raw a) (lowest (raw b)))
 
 -- ---- negatives and inverses
 negative_lowest : (a : Num) → IsLowest a → IsLowest (negative_of Rational a)
@@ -110,12 +119,17 @@ negative_reads a = ap₂ (λ u v. lowest (u, (v, pred (below a)))) (up-neg a.num
 
 inverted_lowest : (n d : ℤ) → is_zero_int n ≡ false → pos 0 <ℤ d → IsGcd (unsigned_abs n) (unsigned_abs d) 1 → IsLowest (inverted n d)
 inverted_lowest (pos n) d z p h = record { positive = positive_int n (let k : n ≢ 0 = nonzero_int_is (pos n) z in omega arith); lowest = IsGcd-swap _ _ 1 h }
-inverted_lowest (negsuc n) d z p h = record { positive = positive_int (suc n) (omega arith); lowest = subst (λ w. IsGcd w (suc n) 1) (sym (abs-neg d)) (IsGcd-swap _ _ 1 h) }
+inverted_lowest (negsuc n) d z p h = record {
+  positive = positive_int (suc n) (omega arith);
+  lowest =
+      subst (λ w. IsGcd w (suc n) 1) (sym (abs-neg d)) (IsGcd-swap _ _ 1 h);
+}
 
 -- an inverse times its number, over the product of the denominators
 inverted_parts : (n d : ℤ) → pos 0 <ℤ d →
     up_part (inverted n d).numerator * up_part n + down_part (inverted n d).numerator * down_part n
-    ≡ unsigned_abs (inverted n d).denominator * unsigned_abs d + (up_part (inverted n d).numerator * down_part n + down_part (inverted n d).numerator * up_part n)
+    ≡ unsigned_abs (inverted n d).denominator * unsigned_abs d + (up_part (inverted n d).numerator * down_part n +
+    down_part (inverted n d).numerator * up_part n)
 inverted_parts (pos n) (pos d) p = omega arith
 inverted_parts (pos n) (negsuc d) p = grind arith
 inverted_parts (negsuc n) (pos d) p = omega (arith, ap (λ w. w * suc n) (up-neg (pos d)), ap (λ w. w * suc n) (down-neg (pos d)))
@@ -125,7 +139,8 @@ inverse_reads : (a : Num) → IsLowest a → is_nought a ≡ false → lowest (r
 unfolding fraction_normal
 inverse_reads a is z =
     fraction_normal.norm-times (raw i) (lowest (raw a)) ∙ right-times fraction_normal (raw i) (raw a)
-    ∙ lowest_same_of _ _ (alike_by (ratio_times (raw i) (raw a)) (1, (0, 0)) (below i * below a) 1 (two_below i a (inverted_lowest a.numerator a.denominator z is.positive is.lowest) is) refl
+    ∙ lowest_same_of _ _ (alike_by (ratio_times (raw i) (raw a)) (1, (0, 0)) (below i * below a) 1
+    (two_below i a (inverted_lowest a.numerator a.denominator z is.positive is.lowest) is) refl
     (whole _ _ _ (inverted_parts a.numerator a.denominator is.positive)))
   where
     i : Num
@@ -146,7 +161,8 @@ nought_reads a is z =
     go u v d p q = omega arith
 
 not_nought_reads : (a : Num) → IsLowest a → is_nought a ≡ false → lowest (raw a) ≢ lowest (0, (0, 0))
-not_nought_reads a is z e = nonzero_int_is a.numerator z (abs_is a.numerator ∙ go (up a) (down a) (pred (below a) + 1) (one_part a.numerator) (alike_of_lowest (raw a) (0, (0, 0)) e))
+not_nought_reads a is z e = nonzero_int_is a.numerator z (abs_is a.numerator ∙ go (up a) (down a) (pred (below a) + 1) (one_part a.numerator)
+    (alike_of_lowest (raw a) (0, (0, 0)) e))
   where
     go : (u v d : ℕ) → (u ≡ 0) ⊎ (v ≡ 0) → u * (0 + 1) + 0 * d ≡ 0 * d + v * (0 + 1) → u + v ≡ 0
     go u v d (inl p) h = omega arith
@@ -171,13 +187,15 @@ same_reads a b is_a is_b e = num_same numerators (positive_is a.denominator is_a
         (alike_of_lowest (raw a) (raw b) e)
 
     sizes : size a * below b ≡ size b * below a
-    sizes = ap (λ w. w * below b) (abs_is a.numerator) ∙ sizes_cross (up a) (down a) (below a) (up b) (down b) (below b) (one_part a.numerator) (one_part b.numerator) crossed ∙ ap (λ w. w * below a) (sym (abs_is b.numerator))
+    sizes = ap (λ w. w * below b) (abs_is a.numerator) ∙ sizes_cross (up a) (down a) (below a) (up b) (down b) (below b) (one_part a.numerator)
+        (one_part b.numerator) crossed ∙ ap (λ w. w * below a) (sym (abs_is b.numerator))
 
     equal : (size a ≡ size b) × (below a ≡ below b)
     equal = lowest_equal (size a) (below a) (size b) (below b) (below_positive b is_b) is_a.lowest is_b.lowest sizes
 
     numerators : a.numerator ≡ b.numerator
-    numerators = int_same a.numerator b.numerator (eq_of_mul-eq-mul_right (below a) (below_positive a is_a) _ _ (go (up a) (down a) (below a) (up b) (down b) (below b) (sym equal.1) crossed))
+    numerators = int_same a.numerator b.numerator (eq_of_mul-eq-mul_right (below a) (below_positive a is_a) _ _
+        (go (up a) (down a) (below a) (up b) (down b) (below b) (sym equal.1) crossed))
       where
         go : (u v d u' v' d' : ℕ) → d' ≡ d → u * d' + v' * d ≡ u' * d + v * d' → (u + v') * d ≡ (u' + v) * d
         go u v d u' v' d' p h = omega (arith, h, ap (λ w. u * w) p, ap (λ w. v * w) p)
@@ -194,6 +212,7 @@ fraction_reads = record {
   negative = λ a is. (negative_lowest a is, number_same fraction_normal _ _ (negative_reads a));
   inverse = λ a is z. (
     inverted_lowest a.numerator a.denominator z is.positive is.lowest,
-    inverse_same (field_of_normal fraction_normal) (number_of Rational (inverse_of Rational a)) (number_of Rational a) (λ e. not_nought_reads a is z (ap (λ n. n.0) e)) (number_same fraction_normal _ _ (inverse_reads a is z)),
+    inverse_same (field_of_normal fraction_normal) (number_of Rational (inverse_of Rational a)) (number_of Rational a)
+        (λ e. not_nought_reads a is z (ap (λ n. n.0) e)) (number_same fraction_normal _ _ (inverse_reads a is z)),
   );
 }

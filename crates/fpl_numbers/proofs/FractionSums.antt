@@ -43,8 +43,10 @@ module _ (a b : Num) (is_a : IsLowest a) (is_b : IsLowest b) where
     λ x p q.
         let r : x ∣ unsigned_abs (right_part a b) = subst (λ w. x ∣ w) (sym right_is) (dvd-mul_left_of_dvd x q (size b)) in
         let l : x ∣ size a * (below b / common a b) = subst (λ w. x ∣ w) left_is (dvd_left_part x (left_part a b) (right_part a b) p r) in
-        let n : x ∣ size a = gauss x (below b / common a b) (size a) (divisor_apart x _ _ q parts_apart) (subst (λ w. x ∣ w) (mul_comm (size a) (below b / common a b)) l) in
-        is_a.lowest.2 x n (dvd_trans x q (subst (λ w. (below a / common a b) ∣ w) (div-mul_cancel (common a b) is_g.0) (dvd-mul_right (below a / common a b) (common a b)))),
+        let n : x ∣ size a = gauss x (below b / common a b) (size a) (divisor_apart x _ _ q parts_apart)
+        (subst (λ w. x ∣ w) (mul_comm (size a) (below b / common a b)) l) in
+        is_a.lowest.2 x n (dvd_trans x q (subst (λ w. (below a / common a b) ∣ w) (div-mul_cancel (common a b) is_g.0)
+        (dvd-mul_right (below a / common a b) (common a b)))),
   )
 
   right_apart : IsGcd (unsigned_abs (both_parts a b)) (below b / common a b) 1
@@ -54,8 +56,10 @@ module _ (a b : Num) (is_a : IsLowest a) (is_b : IsLowest b) where
     λ x p q.
         let l : x ∣ unsigned_abs (left_part a b) = subst (λ w. x ∣ w) (sym left_is) (dvd-mul_left_of_dvd x q (size a)) in
         let r : x ∣ size b * (below a / common a b) = subst (λ w. x ∣ w) right_is (dvd_right_part x (left_part a b) (right_part a b) p l) in
-        let n : x ∣ size b = gauss x (below a / common a b) (size b) (divisor_apart x _ _ q (IsGcd-swap _ _ 1 parts_apart)) (subst (λ w. x ∣ w) (mul_comm (size b) (below a / common a b)) r) in
-        is_b.lowest.2 x n (dvd_trans x q (subst (λ w. (below b / common a b) ∣ w) (div-mul_cancel (common a b) is_g.1) (dvd-mul_right (below b / common a b) (common a b)))),
+        let n : x ∣ size b = gauss x (below a / common a b) (size b) (divisor_apart x _ _ q (IsGcd-swap _ _ 1 parts_apart))
+        (subst (λ w. x ∣ w) (mul_comm (size b) (below a / common a b)) r) in
+        is_b.lowest.2 x n (dvd_trans x q (subst (λ w. (below b / common a b) ∣ w) (div-mul_cancel (common a b) is_g.1)
+        (dvd-mul_right (below b / common a b) (common a b)))),
   )
 
   pub h_below : shared a b ∣ below b
@@ -63,7 +67,8 @@ module _ (a b : Num) (is_a : IsLowest a) (is_b : IsLowest b) where
 
   -- the right denominator over h, in two factors
   below_is : below b / shared a b ≡ (below b / common a b) * (common a b / shared a b)
-  below_is = div-eq_of_eq-mul_left some_h (split (below b) (common a b) (shared a b) _ _ (sym (div-mul_cancel (common a b) is_g.1)) (sym (div-mul_cancel (shared a b) is_h.1)))
+  below_is = div-eq_of_eq-mul_left some_h (split (below b) (common a b) (shared a b) _ _ (sym (div-mul_cancel (common a b) is_g.1))
+      (sym (div-mul_cancel (shared a b) is_h.1)))
     where
       split : (d g h p q : ℕ) → d ≡ p * g → g ≡ q * h → d ≡ p * q * h
       split d g h p q e f = omega (arith, e, ap (λ w. p * w) f)
@@ -78,7 +83,8 @@ module _ (a b : Num) (is_a : IsLowest a) (is_b : IsLowest b) where
       (apart-mul _ _ _ (divisor_apart _ _ _ numerator_dvd right_apart) (quotients_apart _ _ (shared a b) some_h is_h)))
 
   positive : 0 < sum_below a b
-  positive = mul-pos (quotient_positive (below a) (common a b) (below_positive a is_a) is_g.0) (quotient_positive (below b) (shared a b) (below_positive b is_b) h_below)
+  positive = mul-pos (quotient_positive (below a) (common a b) (below_positive a is_a) is_g.0)
+      (quotient_positive (below b) (shared a b) (below_positive b is_b) h_below)
 
   pub sum_lowest : IsLowest (fraction_sum a b)
   sum_lowest = record {

@@ -63,8 +63,10 @@ abs-divided (negsuc n) d = abs-neg (pos (suc n / d))
 
 -- the magnitude of a sum is the sum or the difference of the magnitudes
 pub abs_sum : (x y : ℤ) →
-    (unsigned_abs (x +ℤ y) ≡ unsigned_abs x + unsigned_abs y) ⊎ ((unsigned_abs x ≡ unsigned_abs (x +ℤ y) + unsigned_abs y) ⊎ (unsigned_abs y ≡ unsigned_abs (x +ℤ y) + unsigned_abs x))
-abs_sum x y = go (up_part x) (down_part x) (up_part y) (down_part y) (up_part (x +ℤ y)) (down_part (x +ℤ y)) _ _ _ (one_part x) (one_part y) (one_part (x +ℤ y)) (sum_parts x y) (abs_is x) (abs_is y) (abs_is (x +ℤ y))
+    (unsigned_abs (x +ℤ y) ≡ unsigned_abs x + unsigned_abs y) ⊎ ((unsigned_abs x ≡ unsigned_abs (x +ℤ y) + unsigned_abs y) ⊎
+    (unsigned_abs y ≡ unsigned_abs (x +ℤ y) + unsigned_abs x))
+abs_sum x y = go (up_part x) (down_part x) (up_part y) (down_part y) (up_part (x +ℤ y)) (down_part (x +ℤ y)) _ _ _ (one_part x) (one_part y)
+    (one_part (x +ℤ y)) (sum_parts x y) (abs_is x) (abs_is y) (abs_is (x +ℤ y))
   where
     go : (a b c d e f x y s : ℕ) → (a ≡ 0) ⊎ (b ≡ 0) → (c ≡ 0) ⊎ (d ≡ 0) → (e ≡ 0) ⊎ (f ≡ 0) → e + (b + d) ≡ a + c + f → x ≡ a + b → y ≡ c + d → s ≡ e + f →
         (s ≡ x + y) ⊎ ((x ≡ s + y) ⊎ (y ≡ s + x))
@@ -73,7 +75,8 @@ abs_sum x y = go (up_part x) (down_part x) (up_part y) (down_part y) (up_part (x
 pub abs-sum-le : (x y : ℤ) → unsigned_abs (x +ℤ y) ≤ unsigned_abs x + unsigned_abs y
 abs-sum-le x y = by_case (abs_sum x y)
   where
-    by_case : (unsigned_abs (x +ℤ y) ≡ unsigned_abs x + unsigned_abs y) ⊎ ((unsigned_abs x ≡ unsigned_abs (x +ℤ y) + unsigned_abs y) ⊎ (unsigned_abs y ≡ unsigned_abs (x +ℤ y) + unsigned_abs x)) →
+    by_case : (unsigned_abs (x +ℤ y) ≡ unsigned_abs x + unsigned_abs y) ⊎ ((unsigned_abs x ≡ unsigned_abs (x +ℤ y) + unsigned_abs y) ⊎
+        (unsigned_abs y ≡ unsigned_abs (x +ℤ y) + unsigned_abs x)) →
         unsigned_abs (x +ℤ y) ≤ unsigned_abs x + unsigned_abs y
     by_case (inl e) = omega arith
     by_case (inr (inl e)) = omega arith

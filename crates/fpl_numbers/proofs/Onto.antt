@@ -69,8 +69,11 @@ fraction_all : IsReadOnto Rational (field_of Rational) (number_of Rational)
 unfolding field_of number_of field_of_normal fraction_normal
 fraction_all x =
     let z = difference x.0.0 x.0.1.0 in
-    let a = reduced z.0 (x.0.1.1 + 1) in
-    (a, reduced_lowest z.0 (x.0.1.1 + 1) (omega arith), number_same fraction_normal _ _ (lowest_same_of (raw a) x.0 (reduced_alike z.0 (x.0.1.1 + 1) (omega arith) x.0 refl z.1) ∙ x.1))
+    let a = reduced z.0 (x.0.1.1 + 1) in (
+      a,
+      reduced_lowest z.0 (x.0.1.1 + 1) (omega arith),
+      number_same fraction_normal _ _ (lowest_same_of (raw a) x.0 (reduced_alike z.0 (x.0.1.1 + 1) (omega arith) x.0 refl z.1) ∙ x.1),
+    )
 
 pub kind_reads_all : (k : Kind) → IsField k → IsReadOnto k (field_of k) (number_of k)
 unfolding field_of number_of

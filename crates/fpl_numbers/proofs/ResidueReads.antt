@@ -37,7 +37,8 @@ inverse_below_is p a (suc x) y l e = go (nat_eq ((a * x) % p) 1) refl (λ m. inv
         below f = by_case (nat_eq y x) refl
           where
             by_case : (b : Bool) → nat_eq y x ≡ b → y < x
-            by_case true g = absurd (let same : y ≡ x = grind arith in let k : (a * x) % p ≡ 1 = subst (λ w. (a * w) % p ≡ 1) same e in let d : (a * x) % p ≢ 1 = grind arith in d k)
+            by_case true g = absurd (let same : y ≡ x = grind arith in let k : (a * x) % p ≡ 1 = subst (λ w. (a * w) % p ≡ 1) same e in
+                let d : (a * x) % p ≢ 1 = grind arith in d k)
             by_case false g = (let d : y ≢ x = grind arith in omega arith)
 
 module _ (p : ℕ) (h : IsPrime p) (l : 2 < p) where
@@ -56,7 +57,8 @@ module _ (p : ℕ) (h : IsPrime p) (l : 2 < p) where
       let y = inverse_exists p h r (let d = nonzero_int_is a.numerator z in omega arith) is.0 in
       let below : y.0 % p < p = mod-lt y.0 positive in
       let one : (r * (y.0 % p)) % p ≡ 1 = ap (λ w. w % p) (mul_comm r (y.0 % p)) ∙ mul-mod_first y.0 r p ∙ ap (λ w. w % p) (mul_comm y.0 r) ∙ y.1 in
-      sym (mul-mod (inverse_below p r p) r p) ∙ ap (λ w. w % p) (mul_comm (inverse_below p r p) r) ∙ inverse_below_is p r p (y.0 % p) below one ∙ sym (mod-eq_of_lt h.past_one)
+      sym (mul-mod (inverse_below p r p) r p) ∙ ap (λ w. w % p) (mul_comm (inverse_below p r p) r) ∙ inverse_below_is p r p (y.0 % p) below one ∙
+      sym (mod-eq_of_lt h.past_one)
 
   nought_not : (a : Num) → IsNumber (Prime p) a → is_nought a ≡ false → residue_of a % p ≢ 0 % p
   nought_not a is z e = nonzero_int_is a.numerator z (sym (itself a is) ∙ e ∙ zero-mod p)
@@ -67,11 +69,23 @@ module _ (p : ℕ) (h : IsPrime p) (l : 2 < p) where
     zero_is = λ a is z. number_same (residue_normal p h l) _ _ (ap (λ w. w % p) (zero_int_is a.numerator z));
     nonzero = λ a is z e. nought_not a is z (ap (λ n. n.0) e);
     apart = λ a b is_a is_b e. is_a.1 ∙ ap residue (sym (itself a is_a) ∙ ap (λ n. n.0) e ∙ itself b is_b) ∙ sym is_b.1;
-    sum = λ a b is_a is_b. (element (residue_of a + residue_of b), number_same (residue_normal p h l) _ _ (mod-mod (residue_of a + residue_of b) p ∙ add-mod (residue_of a) (residue_of b) p));
-    product = λ a b is_a is_b. (element (residue_of a * residue_of b), number_same (residue_normal p h l) _ _ (mod-mod (residue_of a * residue_of b) p ∙ mul-mod (residue_of a) (residue_of b) p));
-    negative = λ a is. (element (p - residue_of a), number_same (residue_normal p h l) _ _ (mod-mod (p - residue_of a) p ∙ ap (λ w. (p - w) % p) (sym (mod-mod (residue_of a) p ∙ itself a is))));
+    sum = λ a b is_a is_b. (
+      element (residue_of a + residue_of b),
+      number_same (residue_normal p h l) _ _
+          (mod-mod (residue_of a + residue_of b) p ∙ add-mod (residue_of a) (residue_of b) p),
+    );
+    product = λ a b is_a is_b. (
+      element (residue_of a * residue_of b),
+      number_same (residue_normal p h l) _ _
+          (mod-mod (residue_of a * residue_of b) p ∙ mul-mod (residue_of a) (residue_of b) p),
+    );
+    negative = λ a is. (
+      element (p - residue_of a),
+      number_same (residue_normal p h l) _ _ (mod-mod (p - residue_of a) p ∙ ap (λ w. (p - w) % p) (sym (mod-mod (residue_of a) p ∙ itself a is))),
+    );
     inverse = λ a is z. (
       (inverse_below-lt p (residue_of a) p positive (omega arith), refl),
-      inverse_same (field_of_normal (residue_normal p h l)) (residue_in p (accepted h l) (inverse_of (Prime p) a)) (residue_in p (accepted h l) a) (λ e. nought_not a is z (ap (λ n. n.0) e)) (number_same (residue_normal p h l) _ _ (inverse_is a is z)),
+      inverse_same (field_of_normal (residue_normal p h l)) (residue_in p (accepted h l) (inverse_of (Prime p) a)) (residue_in p (accepted h l) a)
+          (λ e. nought_not a is z (ap (λ n. n.0) e)) (number_same (residue_normal p h l) _ _ (inverse_is a is z)),
     );
   }

@@ -53,7 +53,8 @@ module _ (n m : ℤ) where
   pub whole_sum_fits : unsigned_abs n ≤ most_number → unsigned_abs m ≤ most_number → fraction_fits Add (over_one n) (over_one m) ≡ is_within (n +ℤ m)
   whole_sum_fits h k =
       ap₂ (λ x y. x && y)
-      (ap₂ (λ x y. x && y) (ap₂ (λ x y. x && y) (ap is_within left_is ∙ within_true (unsigned_abs n) h) (ap is_within right_is ∙ within_true (unsigned_abs m) k)) (ap is_within both_is))
+      (ap₂ (λ x y. x && y) (ap₂ (λ x y. x && y) (ap is_within left_is ∙ within_true (unsigned_abs n) h)
+      (ap is_within right_is ∙ within_true (unsigned_abs m) k)) (ap is_within both_is))
       (ap (λ w. nat_le w most_number) below_is)
       ∙ and_true (is_within (n +ℤ m))
     where
@@ -62,7 +63,8 @@ module _ (n m : ℤ) where
       and_true false = refl
 
   pub whole_product_is : fraction_product (over_one n) (over_one m) ≡ over_one (n *ℤ m)
-  whole_product_is = num_same (ap (divided (n *ℤ m)) (gcd-one (unsigned_abs (n *ℤ m))) ∙ divided-one (n *ℤ m)) (ap (λ w. pos (1 / w)) (gcd-one (unsigned_abs (n *ℤ m))))
+  whole_product_is = num_same (ap (divided (n *ℤ m)) (gcd-one (unsigned_abs (n *ℤ m))) ∙ divided-one (n *ℤ m))
+      (ap (λ w. pos (1 / w)) (gcd-one (unsigned_abs (n *ℤ m))))
 
   pub whole_product_fits : fraction_fits Mul (over_one n) (over_one m) ≡ is_within (n *ℤ m)
   whole_product_fits = ap (λ w. is_within w.numerator && is_within w.denominator) whole_product_is ∙ and_true (is_within (n *ℤ m))

@@ -38,7 +38,8 @@ module _ (p : ℕ) (some : 0 < p) where
   residue_parts : (a : ℤ) → (residue_below p a + down_part a) % p ≡ up_part a % p
   residue_parts (pos n) = mod-add-mod n p 0 ∙ ap (λ w. w % p) (let e : n + 0 ≡ n = omega arith in e)
   residue_parts (negsuc n) =
-      ap (λ w. w % p) (let e : p - 1 - n % p + suc n ≡ 0 + p * (n / p + 1) = omega (arith, div-add-mod n p, (let l : n % p < p = mod-lt n some in l)) in e) ∙ add-mul-mod_self_left 0 p (n / p + 1)
+      ap (λ w. w % p) (let e : p - 1 - n % p + suc n ≡ 0 + p * (n / p + 1) = omega (arith, div-add-mod n p, (let l : n % p < p = mod-lt n some in l))
+      in e) ∙ add-mul-mod_self_left 0 p (n / p + 1)
 
   -- two sums that are the same modulo p
   both : (x y x' y' : ℕ) → x % p ≡ x' % p → y % p ≡ y' % p → (x + y) % p ≡ (x' + y') % p
@@ -48,7 +49,8 @@ module _ (p : ℕ) (some : 0 < p) where
   residue_sum a b =
       cancel (residue_below p (a +ℤ b)) (residue_below p a + residue_below p b) (down_part (a +ℤ b) + (down_part a + down_part b))
       (ap (λ w. w % p) (turn (residue_below p (a +ℤ b)) (down_part (a +ℤ b)) (down_part a) (down_part b))
-      ∙ both (residue_below p (a +ℤ b) + down_part (a +ℤ b)) (down_part a + down_part b) (up_part (a +ℤ b)) (down_part a + down_part b) (residue_parts (a +ℤ b)) refl
+      ∙ both (residue_below p (a +ℤ b) + down_part (a +ℤ b)) (down_part a + down_part b) (up_part (a +ℤ b)) (down_part a + down_part b)
+      (residue_parts (a +ℤ b)) refl
       ∙ ap (λ w. w % p) (sum_parts a b)
       ∙ both (up_part a + up_part b) (down_part (a +ℤ b)) (residue_below p a + down_part a + (residue_below p b + down_part b)) (down_part (a +ℤ b))
       (sym (both (residue_below p a + down_part a) (residue_below p b + down_part b) (up_part a) (up_part b) (residue_parts a) (residue_parts b))) refl
@@ -68,13 +70,15 @@ pub whole_is_number : (k : Kind) (a : ℤ) → IsField k → IsNumber k (whole k
 whole_is_number Rational a h = whole_lowest a
 whole_is_number (Prime p) a h = (residue_below-lt p (let l = (listed_prime p h).1 in omega arith) a, refl)
 
-fraction_sum_reads : (a b : ℤ) → lowest (raw (whole Rational (a +ℤ b))) ≡ lowest (ratio_plus (lowest (raw (whole Rational a))) (lowest (raw (whole Rational b))))
+fraction_sum_reads : (a b : ℤ) → lowest (raw (whole Rational (a +ℤ b))) ≡
+    lowest (ratio_plus (lowest (raw (whole Rational a))) (lowest (raw (whole Rational b))))
 unfolding fraction_normal
 fraction_sum_reads a b =
     lowest_same_of _ _
     (raw_alike (whole Rational (a +ℤ b)) (ratio_plus (raw (whole Rational a)) (raw (whole Rational b))) 1 (omega arith) refl
     (go (up_part a) (down_part a) (up_part b) (down_part b) (up_part (a +ℤ b)) (down_part (a +ℤ b)) (sum_parts a b)))
-    ∙ sym (right-plus fraction_normal (raw (whole Rational a)) (raw (whole Rational b))) ∙ sym (fraction_normal.norm-plus (raw (whole Rational a)) (lowest (raw (whole Rational b))))
+    ∙ sym (right-plus fraction_normal (raw (whole Rational a)) (raw (whole Rational b))) ∙ sym
+    (fraction_normal.norm-plus (raw (whole Rational a)) (lowest (raw (whole Rational b))))
   where
     go : (ua va ub vb us vs : ℕ) → us + (va + vb) ≡ ua + ub + vs → us * 1 + (va * (0 + 1) + vb * (0 + 1)) * 1 ≡ (ua * (0 + 1) + ub * (0 + 1)) * 1 + vs * 1
     go ua va ub vb us vs e = omega arith
@@ -121,7 +125,8 @@ module _ (k : Kind) (h : IsField k) (a b : ℤ) where
       )
 
   quotient_if : (t : Bool) → is_nought (whole k b) ≡ t →
-      IfSome (if t then None else Some (product_of k (whole k a) (inverse_of k (whole k b)))) (λ q. IsNumber k q × ((field_of k).times (number_of k q) (number_of k (whole k b)) ≡ number_of k (whole k a)))
+      IfSome (if t then None else Some (product_of k (whole k a) (inverse_of k (whole k b))))
+      (λ q. IsNumber k q × ((field_of k).times (number_of k q) (number_of k (whole k b)) ≡ number_of k (whole k a)))
   quotient_if true z = tt
   quotient_if false z = made (product_of k (whole k a) (inverse_of k (whole k b))) z refl
 
@@ -130,7 +135,8 @@ module _ (k : Kind) (h : IsField k) (a b : ℤ) where
   quotient_is = quotient_if (is_nought (whole k b)) refl
 
   none_if : (t : Bool) → is_nought (whole k b) ≡ t →
-      (◌≡◌ {A = Option Num} (if t then None else Some (product_of k (whole k a) (inverse_of k (whole k b)))) None) ↔ (number_of k (whole k b) ≡ (field_of k).nought)
+      (◌≡◌ {A = Option Num} (if t then None else Some (product_of k (whole k a) (inverse_of k (whole k b)))) None) ↔
+      (number_of k (whole k b) ≡ (field_of k).nought)
   none_if true z = ((λ e. (kind_reads_exactly k h).zero_is (whole k b) (whole_is_number k b h) z), (λ e. refl))
   none_if false z = ((λ e. absurd (let c : ⊥ = cc in c)), (λ e. absurd ((kind_reads_exactly k h).nonzero (whole k b) (whole_is_number k b h) z e)))
 

@@ -15,7 +15,8 @@ pub record ReadsExactly (kind : Kind) (K : Field) (value : Num → K.Carrier) : 
   pub nonzero : (a : Num) → IsNumber kind a → is_nought a ≡ false → value a ≢ K.nought
   pub apart : (a b : Num) → IsNumber kind a → IsNumber kind b → value a ≡ value b → a ≡ b
   pub sum : (a b : Num) → IsNumber kind a → IsNumber kind b → IsNumber kind (sum_of kind a b) × (value (sum_of kind a b) ≡ K.plus (value a) (value b))
-  pub product : (a b : Num) → IsNumber kind a → IsNumber kind b → IsNumber kind (product_of kind a b) × (value (product_of kind a b) ≡ K.times (value a) (value b))
+  pub product : (a b : Num) → IsNumber kind a → IsNumber kind b → IsNumber kind (product_of kind a b) ×
+      (value (product_of kind a b) ≡ K.times (value a) (value b))
   pub negative : (a : Num) → IsNumber kind a → IsNumber kind (negative_of kind a) × (value (negative_of kind a) ≡ K.minus (value a))
   pub inverse : (a : Num) → IsNumber kind a → is_nought a ≡ false → IsNumber kind (inverse_of kind a) × (value (inverse_of kind a) ≡ K.inverse (value a))
 
@@ -29,4 +30,5 @@ pub record Reads (kind : Kind) (K : Field) (value : Num → K.Carrier) : Type 0 
   pub sum : (a b c : Num) → IsElement kind a → IsElement kind b → operate kind Add a b ≡ Ok c → IsElement kind c × (value c ≡ K.plus (value a) (value b))
   pub product : (a b c : Num) → IsElement kind a → IsElement kind b → operate kind Mul a b ≡ Ok c → IsElement kind c × (value c ≡ K.times (value a) (value b))
   pub negative : (a : Num) → IsElement kind a → IsElement kind (negative_of kind a) × (value (negative_of kind a) ≡ K.minus (value a))
-  pub inverse : (a : Num) → IsElement kind a → is_nought a ≡ false → IsElement kind (inverse_of kind a) × (K.times (value (inverse_of kind a)) (value a) ≡ K.unit)
+  pub inverse : (a : Num) → IsElement kind a → is_nought a ≡ false → IsElement kind (inverse_of kind a) ×
+      (K.times (value (inverse_of kind a)) (value a) ≡ K.unit)

@@ -18,13 +18,15 @@ counted_between p q [] zero (suc n) d l k below here above = absurd (omega arith
 counted_between p q [] (suc m) n d l k below here above = absurd (omega arith)
 counted_between p q (x ∷ xs) zero zero d l k below here above =
     let no : q x ≡ false = above 0 (omega arith) (omega arith) in
-    let rest : count_by p (take 0 xs) ≡ count_by p (take 0 xs) + count_by q xs = counted_between p q xs 0 0 d (omega arith) (omega arith) (λ i h. absurd (omega arith)) (λ i h j. absurd (omega arith)) (λ i h j. above (suc i) (omega arith) (omega arith)) in
+    let rest : count_by p (take 0 xs) ≡ count_by p (take 0 xs) + count_by q xs = counted_between p q xs 0 0 d (omega arith) (omega arith)
+    (λ i h. absurd (omega arith)) (λ i h j. absurd (omega arith)) (λ i h j. above (suc i) (omega arith) (omega arith)) in
     let one : count_by q (x ∷ xs) ≡ cond {A = ℕ} (q x) 1 0 + count_by q xs = sum_by-cons (λ y. cond {A = ℕ} (q y) 1 0) x xs in
     let none : cond {A = ℕ} (q x) 1 0 ≡ 0 = ap (λ b. cond {A = ℕ} b 1 0) no in
     omega (arith, one, none, rest)
 counted_between p q (x ∷ xs) zero (suc n) d l k below here above =
     let same : q x ≡ p x = here 0 (omega arith) (omega arith) in
-    let rest : count_by p (take n xs) ≡ count_by p (take 0 xs) + count_by q xs = counted_between p q xs 0 n d (omega arith) (omega arith) (λ i h. absurd (omega arith)) (λ i h j. here (suc i) (omega arith) (omega arith)) (λ i h j. above (suc i) (omega arith) (omega arith)) in
+    let rest : count_by p (take n xs) ≡ count_by p (take 0 xs) + count_by q xs = counted_between p q xs 0 n d (omega arith) (omega arith)
+    (λ i h. absurd (omega arith)) (λ i h j. here (suc i) (omega arith) (omega arith)) (λ i h j. above (suc i) (omega arith) (omega arith)) in
     let empty : count_by p (take 0 xs) ≡ 0 = refl in
     let nothing : count_by p (take 0 (x ∷ xs)) ≡ 0 = refl in
     let left : count_by p (take (suc n) (x ∷ xs)) ≡ cond {A = ℕ} (p x) 1 0 + count_by p (take n xs) = sum_by-cons (λ y. cond {A = ℕ} (p y) 1 0) x (take n xs) in
@@ -34,9 +36,11 @@ counted_between p q (x ∷ xs) zero (suc n) d l k below here above =
 counted_between p q (x ∷ xs) (suc m) zero d l k below here above = absurd (omega arith)
 counted_between p q (x ∷ xs) (suc m) (suc n) d l k below here above =
     let no : q x ≡ false = below 0 (omega arith) in
-    let rest : count_by p (take n xs) ≡ count_by p (take m xs) + count_by q xs = counted_between p q xs m n d (omega arith) (omega arith) (λ i h. below (suc i) (omega arith)) (λ i h j. here (suc i) (omega arith) (omega arith)) (λ i h j. above (suc i) (omega arith) (omega arith)) in
+    let rest : count_by p (take n xs) ≡ count_by p (take m xs) + count_by q xs = counted_between p q xs m n d (omega arith) (omega arith)
+    (λ i h. below (suc i) (omega arith)) (λ i h j. here (suc i) (omega arith) (omega arith)) (λ i h j. above (suc i) (omega arith) (omega arith)) in
     let left : count_by p (take (suc n) (x ∷ xs)) ≡ cond {A = ℕ} (p x) 1 0 + count_by p (take n xs) = sum_by-cons (λ y. cond {A = ℕ} (p y) 1 0) x (take n xs) in
-    let right : count_by p (take (suc m) (x ∷ xs)) ≡ cond {A = ℕ} (p x) 1 0 + count_by p (take m xs) = sum_by-cons (λ y. cond {A = ℕ} (p y) 1 0) x (take m xs) in
+    let right : count_by p (take (suc m) (x ∷ xs)) ≡ cond {A = ℕ} (p x) 1 0 + count_by p (take m xs) =
+    sum_by-cons (λ y. cond {A = ℕ} (p y) 1 0) x (take m xs) in
     let one : count_by q (x ∷ xs) ≡ cond {A = ℕ} (q x) 1 0 + count_by q xs = sum_by-cons (λ y. cond {A = ℕ} (q y) 1 0) x xs in
     let none : cond {A = ℕ} (q x) 1 0 ≡ 0 = ap (λ b. cond {A = ℕ} b 1 0) no in
     omega (arith, left, right, one, none, rest)
@@ -69,12 +73,15 @@ module _ (T : PlainTable) (shape : HasShape T) (s : Bool → Bool) where
   pub through_up : (v : ℕ) → through T v ≤ through T (suc v)
   through_up v =
       let within : through T v ≤ length T.basis = through_within T shape v in
-      let more : (i : ℕ) → i < through T v → i < through T (suc v) = λ i lt. let few : (plain_basis T i).weight ≤ v = through_below T shape v i lt in through_above T shape (suc v) i (omega arith) (omega arith) in
+      let more : (i : ℕ) → i < through T v → i < through T (suc v) = λ i lt. let few : (plain_basis T i).weight ≤ v = through_below T shape v i lt in
+      through_above T shape (suc v) i (omega arith) (omega arith) in
       le_from_below (through T v) (through T (suc v)) more
     where
       le_from_below : (m n : ℕ) → ((i : ℕ) → i < m → i < n) → m ≤ n
       le_from_below zero n h = omega arith
       le_from_below (suc m) n h = let l : m < n = h m (omega arith) in omega arith
 
-  pub counted_of : (v : ℕ) → count_by (λ b. s (is_odd b.parity)) (take (through T (suc v)) T.basis) ≡ count_by (λ b. s (is_odd b.parity)) (take (through T v) T.basis) + count_by (weighs (suc v)) T.basis
-  counted_of v = counted_between (λ b. s (is_odd b.parity)) (weighs (suc v)) T.basis (through T v) (through T (suc v)) no_basis (through_up v) (through_within T shape (suc v)) (lighter v) (between v) (heavier v)
+  pub counted_of : (v : ℕ) → count_by (λ b. s (is_odd b.parity)) (take (through T (suc v)) T.basis) ≡
+      count_by (λ b. s (is_odd b.parity)) (take (through T v) T.basis) + count_by (weighs (suc v)) T.basis
+  counted_of v = counted_between (λ b. s (is_odd b.parity)) (weighs (suc v)) T.basis (through T v) (through T (suc v)) no_basis (through_up v)
+      (through_within T shape (suc v)) (lighter v) (between v) (heavier v)

@@ -29,11 +29,13 @@ pub entry_elements : (T : PlainTable) → HasElements T → (i j : ℕ) → AreE
 entry_elements T h i j =
     all_default (AreElements T.kind) _ _ [] (All-nil _)
     (all_default (λ rows. All (AreElements T.kind) rows) _ i [] (All-nil _)
-    (all_default (λ level. All (λ rows. All (AreElements T.kind) rows) level) T.entries ((plain_basis T i).weight + (plain_basis T j).weight - 1) [] (All-nil _) h.1))
+    (all_default (λ level. All (λ rows. All (AreElements T.kind) rows) level) T.entries ((plain_basis T i).weight + (plain_basis T j).weight - 1) []
+    (All-nil _) h.1))
 
 abbrev pub IsWithin : PlainTable → Symbol → Type 0
 IsWithin T (of_generator g) = Unit {0}
-IsWithin T (of_pair i j) = (i < length T.basis) × (j < length T.basis) × (first_partner T i ≤ j) × ((plain_basis T i).weight + (plain_basis T j).weight ≤ T.weight)
+IsWithin T (of_pair i j) = (i < length T.basis) × (j < length T.basis) × (first_partner T i ≤ j) ×
+    ((plain_basis T i).weight + (plain_basis T j).weight ≤ T.weight)
 
 all_joined : (P : Symbol → Type 0) (n : ℕ) (f : ℕ → List Symbol) → ((i : ℕ) → i < n → All P (f i)) → All P (joined n f)
 unfolding joined
@@ -44,7 +46,8 @@ all_if : (P : Symbol → Type 0) (b : Bool) (x : Symbol) → (b ≡ true → P x
 all_if P true x h = λ k d l. let first : k ≡ 0 = omega (arith, l) in rw first (h refl)
 all_if P false x h = All-nil P
 
-regular_is : (T : PlainTable) (w i j : ℕ) → cond (nat_eq ((plain_basis T i).weight + (plain_basis T j).weight) w) (cond (nat_lt i j) true (cond (nat_eq i j) (is_odd (plain_basis T i).parity) false)) false ≡ true →
+regular_is : (T : PlainTable) (w i j : ℕ) → cond (nat_eq ((plain_basis T i).weight + (plain_basis T j).weight) w)
+    (cond (nat_lt i j) true (cond (nat_eq i j) (is_odd (plain_basis T i).parity) false)) false ≡ true →
     ((plain_basis T i).weight + (plain_basis T j).weight ≡ w) × (first_partner T i ≤ j)
 regular_is T w i j e = go (ℕ_discrete ((plain_basis T i).weight + (plain_basis T j).weight) w) (dec_lt i j) (ℕ_discrete i j) (plain_basis T i).parity refl
   where
@@ -71,7 +74,8 @@ entry_of : (T : PlainTable) (x : code.Symbol) → IsNumbered x → IsWithin T (s
 entry_of T (Gen g) n h = tt
 entry_of T (Pair i j) n h = (n.0, omega (arith, h.0, n.0), n.1, omega (arith, h.1, n.1), h.2, h.3)
 
-pub listed_entries : (T : PlainTable) (w : ℕ) (xs : List code.Symbol) → w ≤ T.weight → map symbol_in xs ≡ symbols_of (shell_in T.kind T) (table_in T.kind T) w → All IsNumbered xs → All (IsEntry T) xs
+pub listed_entries : (T : PlainTable) (w : ℕ) (xs : List code.Symbol) → w ≤ T.weight → map symbol_in xs ≡
+    symbols_of (shell_in T.kind T) (table_in T.kind T) w → All IsNumbered xs → All (IsEntry T) xs
 listed_entries T w xs h e n =
     let all : All (IsWithin T) (map symbol_in xs) = rw e (symbols_within T w h) in
     λ k d l.

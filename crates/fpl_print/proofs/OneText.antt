@@ -43,7 +43,8 @@ lead_past : (xs : List Num) (k : ℕ) → lead_below xs (length xs + k) ≡ lead
 lead_past xs zero = let e : length xs + zero ≡ length xs = omega arith in ap (lead_below xs) e
 lead_past xs (suc k) =
     let e : length xs + suc k ≡ suc (length xs + k) = omega arith in
-    ap (lead_below xs) e ∙ ap (λ c. if is_nought c then lead_below xs (length xs + k) else Some (suc (length xs + k))) (get_or_past xs (length xs + k) (residue 0) (omega arith)) ∙ lead_past xs k
+    ap (lead_below xs) e ∙ ap (λ c. if is_nought c then lead_below xs (length xs + k) else Some (suc (length xs + k)))
+    (get_or_past xs (length xs + k) (residue 0) (omega arith)) ∙ lead_past xs k
 
 lead_same : (xs ys : List Num) → AreSame xs ys → lead_of xs ≡ lead_of ys
 lead_same xs ys h =
@@ -61,7 +62,10 @@ filter_same p q (x ∷ xs) h =
     let here : p x ≡ q x = h 0 x (omega arith) in
     ap₂ (λ b ys. cond b (x ∷ ys) ys) here rest
 
-module _ (names : List (List ℕ)) (T S : PlainTable) (kind : T.kind ≡ S.kind) (weight : T.weight ≡ S.weight) (generators : T.generators ≡ S.generators) (basis : T.basis ≡ S.basis) (images : (g : ℕ) → g < length T.generators → AreSame (image_row T g) (image_row S g)) (entries : (i j : ℕ) → i < length T.basis → j < length T.basis → first_partner T i ≤ j → (plain_basis T i).weight + (plain_basis T j).weight ≤ T.weight → AreSame (entry_row T i j) (entry_row S i j)) where
+module _ (names : List (List ℕ)) (T S : PlainTable) (kind : T.kind ≡ S.kind) (weight : T.weight ≡ S.weight) (generators : T.generators ≡ S.generators)
+    (basis : T.basis ≡ S.basis) (images : (g : ℕ) → g < length T.generators → AreSame (image_row T g) (image_row S g))
+    (entries : (i j : ℕ) → i < length T.basis → j < length T.basis → first_partner T i ≤ j →
+    (plain_basis T i).weight + (plain_basis T j).weight ≤ T.weight → AreSame (entry_row T i j) (entry_row S i j)) where
   abbrev Symbols : ℕ → List Symbol
   Symbols w = symbols_of (shell_in T.kind T) (table_in T.kind T) w
 
@@ -116,7 +120,8 @@ module _ (names : List (List ℕ)) (T S : PlainTable) (kind : T.kind ≡ S.kind)
   images_same = text_same (length T.generators) _ _ image_line_same ∙ ap (λ n. text_of n (image_line names S)) (ap length generators)
 
   bracket_lines_same : bracket_lines T (brackets_of T) ≡ bracket_lines S (brackets_of S)
-  bracket_lines_same = lines_same (brackets_of T) (All-filter (has_value T) (IsWithin T) (symbols_through T T.weight) within) ∙ ap (bracket_lines S) brackets_same
+  bracket_lines_same = lines_same (brackets_of T) (All-filter (has_value T) (IsWithin T) (symbols_through T T.weight) within) ∙
+      ap (bracket_lines S) brackets_same
 
   pub one_text : table_text names T ≡ table_text names S
   one_text =

@@ -3,7 +3,8 @@ use Rattle.std.proofs.Common.{◌≡◌, ℕ, suc, ◌+◌, ◌-◌, List, ◌++
 use Rattle.fpl_print.specs.TableText.{text_of}
 
 -- one more line of a text
-pub text_step : (start out next : List ℕ) (n : ℕ) (f : ℕ → List ℕ) → out ≡ start ++ text_of n f → next ≡ out ++ f (n + 1 - 1) → next ≡ start ++ text_of (n + 1) f
+pub text_step : (start out next : List ℕ) (n : ℕ) (f : ℕ → List ℕ) → out ≡ start ++ text_of n f → next ≡ out ++ f (n + 1 - 1) →
+    next ≡ start ++ text_of (n + 1) f
 text_step start out next n f so_far is =
     let here : n + 1 - 1 ≡ n = omega arith in
     let more : n + 1 ≡ suc n = omega arith in

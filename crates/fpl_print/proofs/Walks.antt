@@ -10,7 +10,8 @@ use Rattle.fpl_print.specs.Combinations.{term_text, terms_text}
 
 module _ (name : ℕ → List ℕ) (first : Bool) where
   -- numbers that are 0 have no terms
-  pass : (xs : List Num) (t k : ℕ) → k ≤ length xs → ((i : ℕ) → i < k → is_nought (get_or xs i (residue 0)) ≡ true) → terms_text name first t xs ≡ terms_text name first (t + k) (drop k xs)
+  pass : (xs : List Num) (t k : ℕ) → k ≤ length xs → ((i : ℕ) → i < k → is_nought (get_or xs i (residue 0)) ≡ true) →
+      terms_text name first t xs ≡ terms_text name first (t + k) (drop k xs)
   pass xs t zero l h = ap (λ n. terms_text name first n xs) (let q : t ≡ t + 0 = omega arith in q)
   pass [] t (suc k) l h = absurd (omega arith)
   pass (c ∷ cs) t (suc k) l h =
@@ -27,7 +28,8 @@ module _ (name : ℕ → List ℕ) (first : Bool) where
       ∙ ap (λ xs. terms_text name first (after + k) xs) (drop-drop k after row)
 
   -- the terms begin at the next number that is not 0
-  pub to_next : (row : List Num) (after s : ℕ) → Some s ≡ next_of row after → terms_text name first after (drop after row) ≡ terms_text name first (s - 1) (drop (s - 1) row)
+  pub to_next : (row : List Num) (after s : ℕ) → Some s ≡ next_of row after → terms_text name first after (drop after row) ≡
+      terms_text name first (s - 1) (drop (s - 1) row)
   to_next row after s e =
       let h = next_is_at row after s e in
       let from = h.from_one in
@@ -37,7 +39,8 @@ module _ (name : ℕ → List ℕ) (first : Bool) where
       past row after (s - 1 - after) (omega arith) (λ t l m. h.before t l (omega arith)) ∙ ap (λ n. terms_text name first n (drop n row)) sum
 
   -- past the last there are none
-  pub to_end : (row : List Num) (after : ℕ) → after ≤ length row → None ≡ next_of row after → terms_text name first after (drop after row) ≡ terms_text name first (length row) []
+  pub to_end : (row : List Num) (after : ℕ) → after ≤ length row → None ≡ next_of row after →
+      terms_text name first after (drop after row) ≡ terms_text name first (length row) []
   to_end row after l e =
       let sum : after + (length row - after) ≡ length row = omega arith in
       past row after (length row - after) (omega arith) (λ t m n. next_is_none row after e t m (omega arith))

@@ -61,7 +61,8 @@ fn push_term<F: Field>(
 ) -> Result<bool, AllocError>
     requires number { 1 ≤ i }
     requires element { IsElement (F.kind_of field.now) (F.number c) }
-    ensures { IfOk result (λ none_yet. (none_yet ≡ none_after first (F.number c)) × (out.new.items ≡ out.old.items ++ term_or_nothing basis_name first (i - 1) (F.number c))) }
+    ensures { IfOk result (λ none_yet. (none_yet ≡ none_after first (F.number c)) × (out.new.items ≡ out.old.items
+        ++ term_or_nothing basis_name first (i - 1) (F.number c))) }
 {
     if field.is_zero(c) {
         return Ok(first);

@@ -163,7 +163,8 @@ fn push_valued<F: Field>(
     valued: &mut Vec<Symbol>,
 ) -> Result<(), AllocError>
     requires { w ≤ table.now.weight }
-    ensures value { OnOk result (map symbol_in valued.new.items ≡ map symbol_in valued.old.items ++ filter (has_value table.now) (symbols_of (shell_in table.now.kind table.now) (table_in table.now.kind table.now) w)) }
+    ensures value { OnOk result (map symbol_in valued.new.items ≡ map symbol_in valued.old.items
+        ++ filter (has_value table.now) (symbols_of (shell_in table.now.kind table.now) (table_in table.now.kind table.now) w)) }
     ensures entries { OnOk result (All (IsEntry table.now) valued.old.items → All (IsEntry table.now) valued.new.items) }
 {
     let symbols = symbols_of(alloc, table, w)?;
@@ -245,7 +246,8 @@ fn push_bracket_part<F: Field>(
     table: &Table<F>,
 ) -> Result<(), AllocError>
     requires { HasElements table.now }
-    ensures { OnOk result (out.new.items ≡ out.old.items ++ (count_line (codes "brackets ") (length (brackets_of table.now)) ++ bracket_lines table.now (brackets_of table.now))) }
+    ensures { OnOk result (out.new.items ≡ out.old.items ++ (count_line (codes "brackets ") (length (brackets_of table.now))
+        ++ bracket_lines table.now (brackets_of table.now))) }
 {
     let valued = brackets_of(alloc, table)?;
     push_count(out, b"brackets ", valued.len())?;

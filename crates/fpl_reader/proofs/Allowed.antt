@@ -80,4 +80,5 @@ ascii_word (b ∷ bs) e (suc i) = ascii_all bs (and_parts _ _ e).1 i
 
 pub names_utf8 : (text : List ℕ) (ds : List DeclaredName) → AreNames text ds → All (λ d. IsUtf8 (name_of text d)) ds
 names_utf8 text [] h = All-nil (λ d. IsUtf8 (name_of text d))
-names_utf8 text (d ∷ ds) (h, hs) = All-cons (λ d. IsUtf8 (name_of text d)) d ds (IsUtf8-from_ascii (name_of text d) (ascii_word (name_of text d) h.spelled)) (names_utf8 text ds hs)
+names_utf8 text (d ∷ ds) (h, hs) = All-cons (λ d. IsUtf8 (name_of text d)) d ds (IsUtf8-from_ascii (name_of text d)
+    (ascii_word (name_of text d) h.spelled)) (names_utf8 text ds hs)

@@ -51,7 +51,8 @@ module _ (text : List ℕ) (kind : Kind) (gs : List Generator) (known : IsTrue (
   side : (s : Sum) → AllKnown (events_sum s) → IsSide s
   side s h = within_term kind (length gs) (plain (expression_of scope s)) (within s h)
 
-  one_side : (s : Sum) (c : Claim) → c.equation.left ≡ expression_of scope s → c.equation.right ≡ expr.Zero → AllKnown (events_sum s) → length (events_sum s) < 2 ^ 40 → AreSidesTerms kind (length gs) c
+  one_side : (s : Sum) (c : Claim) → c.equation.left ≡ expression_of scope s → c.equation.right ≡ expr.Zero → AllKnown (events_sum s) →
+      length (events_sum s) < 2 ^ 40 → AreSidesTerms kind (length gs) c
   one_side s c l r h few =
       let places = places_sum scope s in
       record {
@@ -60,7 +61,8 @@ module _ (text : List ℕ) (kind : Kind) (gs : List Generator) (known : IsTrue (
         few = rw (l, r, plain-Zero) (omega arith);
       }
 
-  two_sides : (a b : Sum) (c : Claim) → c.equation.left ≡ expression_of scope a → c.equation.right ≡ expression_of scope b → AllKnown (events_sum a ++ events_sum b) → length (events_sum a ++ events_sum b) < 2 ^ 40
+  two_sides : (a b : Sum) (c : Claim) → c.equation.left ≡ expression_of scope a → c.equation.right ≡ expression_of scope b →
+      AllKnown (events_sum a ++ events_sum b) → length (events_sum a ++ events_sum b) < 2 ^ 40
       → AreSidesTerms kind (length gs) c
   two_sides a b c l r h few =
       let k = first_place-append (unknown_in scope) (events_sum a) (events_sum b) h in
@@ -87,9 +89,11 @@ module _ (text : List ℕ) (kind : Kind) (gs : List Generator) (known : IsTrue (
   statement_terms (field place naming) h few = All-nil Sides
   statement_terms (declare parity d ds) h few = All-nil Sides
   statement_terms (relation place a) h few = let c = equate Relation place (expression_of scope a) expr.Zero in alone c (one_side a c refl refl h few)
-  statement_terms (equation place a b) h few = let c = equate Relation place (expression_of scope a) (expression_of scope b) in alone c (two_sides a b c refl refl h few)
+  statement_terms (equation place a b) h few = let c = equate Relation place (expression_of scope a) (expression_of scope b) in
+      alone c (two_sides a b c refl refl h few)
   statement_terms (ideal place a) h few = let c = equate Ideal place (expression_of scope a) expr.Zero in alone c (one_side a c refl refl h few)
-  statement_terms (equal place a b) h few = let c = equate Equal place (expression_of scope a) (expression_of scope b) in alone c (two_sides a b c refl refl h few)
+  statement_terms (equal place a b) h few = let c = equate Equal place (expression_of scope a) (expression_of scope b) in
+      alone c (two_sides a b c refl refl h few)
 
   pub claims_terms : (ss : List Statement) → AllKnown (events_of ss) → length (events_of ss) < 2 ^ 40 → All Sides (claims_of scope ss)
   claims_terms [] h few = All-nil Sides

@@ -58,7 +58,8 @@ cut_short (p ∷ ps) at text (after, whole, piece, cut) =
     let l = length-append p.bytes after in
     let m = piece_long p.form p.bytes after piece in
     let n : length text ≡ length (p.bytes ++ after) = ap length whole in
-    longer (1 + length after) (length text) _ (omega arith) (join_short 1 (length after) _ _ (piece_short at p.form p.bytes) (cut_short ps (at + length p.bytes) after cut))
+    longer (1 + length after) (length text) _ (omega arith) (join_short 1 (length after) _ _ (piece_short at p.form p.bytes)
+    (cut_short ps (at + length p.bytes) after cut))
 
 -- a text has no more tokens than bytes
 pub few_tokens : (text : List ℕ) (ts : List Token) → Reads text (Ok ts) → length ts ≤ length text

@@ -26,7 +26,8 @@ use Rattle.fpl_reader.proofs.Words.{IsWordAt, AreWords}
 unequal : (word other : List ℕ) → bytes_eq word other ≡ false → other ≡ word → ⊥
 unequal word other e same = let t = (bytes_eq-Decides word other).1 (sym same) in cc
 
-free_of : (word : List ℕ) → bytes_eq word (codes "field") ≡ false → bytes_eq word (codes "even") ≡ false → bytes_eq word (codes "odd") ≡ false → bytes_eq word (codes "relation") ≡ false
+free_of : (word : List ℕ) → bytes_eq word (codes "field") ≡ false → bytes_eq word (codes "even") ≡ false → bytes_eq word (codes "odd") ≡ false →
+    bytes_eq word (codes "relation") ≡ false
     → bytes_eq word (codes "ideal") ≡ false → bytes_eq word (codes "equal") ≡ false → Contains reserved word → ⊥
 free_of word a b c d e f (zero, inside, same) = unequal word (codes "field") a same
 free_of word a b c d e f (suc zero, inside, same) = unequal word (codes "even") b same
@@ -56,7 +57,8 @@ module _ (text : List ℕ) where
   choose true a b h k = h
   choose false a b h k = k refl
 
-  word_fine : (word : List ℕ) (start end : ℕ) → IsTrue (is_word word) → length word ≤ most_name → word_of text start end ≡ word → IsFine (word_terminal word start end)
+  word_fine : (word : List ℕ) (start end : ℕ) → IsTrue (is_word word) → length word ≤ most_name → word_of text start end ≡ word →
+      IsFine (word_terminal word start end)
   word_fine word start end spelled short same =
       choose (bytes_eq word (codes "field")) _ _ tt (λ a.
       choose (bytes_eq word (codes "even")) _ _ tt (λ b.
@@ -68,8 +70,10 @@ module _ (text : List ℕ) where
 
   mark_fine : (b : ℕ) → IsFine (mark_terminal b)
   mark_fine b =
-      choose (b == 59) _ _ tt (λ _. choose (b == 44) _ _ tt (λ _. choose (b == 58) _ _ tt (λ _. choose (b == 61) _ _ tt (λ _. choose (b == 43) _ _ tt (λ _. choose (b == 45) _ _ tt (λ _.
-      choose (b == 42) _ _ tt (λ _. choose (b == 47) _ _ tt (λ _. choose (b == 91) _ _ tt (λ _. choose (b == 93) _ _ tt (λ _. choose (b == 40) _ _ tt (λ _. tt)))))))))))
+      choose (b == 59) _ _ tt (λ _. choose (b == 44) _ _ tt
+      (λ _. choose (b == 58) _ _ tt (λ _. choose (b == 61) _ _ tt (λ _. choose (b == 43) _ _ tt (λ _. choose (b == 45) _ _ tt (λ _.
+      choose (b == 42) _ _ tt (λ _. choose (b == 47) _ _ tt
+      (λ _. choose (b == 91) _ _ tt (λ _. choose (b == 93) _ _ tt (λ _. choose (b == 40) _ _ tt (λ _. tt)))))))))))
 
   kind_fine : (start end : ℕ) (kind : TokenKind) → IsWordAt text start end kind → IsFine (kind_terminal text start end kind)
   kind_fine start end kinds.Word h = word_fine (word_of text start end) start end h.0 h.1 refl
@@ -116,4 +120,5 @@ module _ (text : List ℕ) where
   scan_fine t (terminal ∷ terminals) h (k, ks) =
       let s = note_fine t terminal h k in
       subst AreNames (sym (declared_in-append (event_list (note t terminal).0) (scan (note t terminal).1 terminals)))
-      (AreNames-append (declared_in (event_list (note t terminal).0)) (declared_in (scan (note t terminal).1 terminals)) s.0 (scan_fine (note t terminal).1 terminals s.1 ks))
+      (AreNames-append (declared_in (event_list (note t terminal).0)) (declared_in (scan (note t terminal).1 terminals)) s.0
+      (scan_fine (note t terminal).1 terminals s.1 ks))

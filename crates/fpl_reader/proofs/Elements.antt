@@ -22,10 +22,12 @@ reduced_element : (a : ℤ) (m : ℕ) → unsigned_abs a ≤ most_number → m �
 reduced_element a m h k some = (
   record {
     positive = positive_int _ (quotient_positive m _ some is.1);
-    lowest = subst (λ w. IsGcd w (m / gcd (unsigned_abs a) m) 1) (sym (abs-divided a (gcd (unsigned_abs a) m))) (quotients_apart _ m _ (pos_of_dvd_of_pos is.1 some) is);
+    lowest = subst (λ w. IsGcd w (m / gcd (unsigned_abs a) m) 1) (sym (abs-divided a (gcd (unsigned_abs a) m)))
+        (quotients_apart _ m _ (pos_of_dvd_of_pos is.1 some) is);
   },
   (
-    subst (λ w. w ≤ most_number) (sym (abs-divided a (gcd (unsigned_abs a) m))) (let q : unsigned_abs a / gcd (unsigned_abs a) m ≤ unsigned_abs a = div-le_self _ _ in omega arith),
+    subst (λ w. w ≤ most_number) (sym (abs-divided a (gcd (unsigned_abs a) m))) (let q : unsigned_abs a / gcd (unsigned_abs a) m ≤ unsigned_abs a =
+        div-le_self _ _ in omega arith),
     (let q : m / gcd (unsigned_abs a) m ≤ m = div-le_self _ _ in omega arith),
   ),
 )
@@ -47,7 +49,8 @@ nonzero (suc d) e = omega arith
 within_bound : (n : ℕ) → nat_le n most_number ≡ true → n ≤ most_number
 within_bound n e = leb-true n most_number e
 
-rational_element : (a : ℤ) (d : ℕ) → unsigned_abs a ≤ most_number → d ≤ most_number → nat_eq d 0 ≡ false → IsElement Rational (product_of Rational (whole Rational a) (inverse_of Rational (whole Rational (pos d))))
+rational_element : (a : ℤ) (d : ℕ) → unsigned_abs a ≤ most_number → d ≤ most_number → nat_eq d 0 ≡ false →
+    IsElement Rational (product_of Rational (whole Rational a) (inverse_of Rational (whole Rational (pos d))))
 rational_element a d h k some =
     let positive : 0 < d = omega (arith, nonzero d some) in
     let one : 1 * d ≡ d = omega arith in
@@ -64,7 +67,8 @@ nought_in : (kind : Kind) → IsTrue (is_field kind) → IsElement kind (residue
 nought_in Rational e = nought_element
 nought_in (Prime p) e = residue_element p 0 (listed_positive p e)
 
-quotient_in : (kind : Kind) → IsTrue (is_field kind) → (a : ℤ) (d : ℕ) → unsigned_abs a ≤ most_number → d ≤ most_number → (t : Bool) → is_nought (whole kind (pos d)) ≡ t
+quotient_in : (kind : Kind) → IsTrue (is_field kind) → (a : ℤ) (d : ℕ) → unsigned_abs a ≤ most_number → d ≤ most_number → (t : Bool) →
+    is_nought (whole kind (pos d)) ≡ t
     → IsElement kind (or_nought (if t then None else Some (product_of kind (whole kind a) (inverse_of kind (whole kind (pos d))))))
 quotient_in kind e a d h k true test = nought_in kind e
 quotient_in Rational e a d h k false test = rational_element a d h k test
@@ -74,7 +78,8 @@ pub coefficient_element : (kind : Kind) → IsTrue (is_field kind) → (negative
 unfolding coefficient_of
 coefficient_element kind e negative a b = by_size (nat_le a most_number && nat_le b most_number) refl
   where
-    by_size : (t : Bool) → (nat_le a most_number && nat_le b most_number) ≡ t → IsElement kind (if t then or_nought (quotient_of kind (signed negative a) (pos b)) else residue 0)
+    by_size : (t : Bool) → (nat_le a most_number && nat_le b most_number) ≡ t → IsElement kind
+        (if t then or_nought (quotient_of kind (signed negative a) (pos b)) else residue 0)
     by_size false test = nought_in kind e
     by_size true test =
         let s = and_parts _ _ test in

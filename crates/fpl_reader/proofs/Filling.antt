@@ -17,7 +17,8 @@ claimed_as-append : (is : ClaimKind → Bool) (cs : List Claim) (c : Claim) → 
 claimed_as-append is [] c = refl
 claimed_as-append is (d ∷ cs) c = joined_if (is d.kind) d.equation _ _ _ (claimed_as-append is cs c)
 
-pub with_one_more : (kind : Kind) (gs : List Generator) (cs : List Claim) (c : Claim) (p q : Presentation) → p ≡ with_claims kind gs cs → q ≡ with_claim p c → q ≡ with_claims kind gs (cs ++ c ∷ [])
+pub with_one_more : (kind : Kind) (gs : List Generator) (cs : List Claim) (c : Claim) (p q : Presentation) → p ≡ with_claims kind gs cs →
+    q ≡ with_claim p c → q ≡ with_claims kind gs (cs ++ c ∷ [])
 with_one_more kind gs cs c p q e h =
     h ∙ ap (λ p. with_claim p c) e
     ∙ ap (λ rs. record (with_claim (with_claims kind gs cs) c) { relations = rs }) (sym (claimed_as-append is_relation cs c))

@@ -113,7 +113,8 @@ IsShallow opened closed (s ∷ ss) = (up s opened ≤ down s closed + 64) × IsS
 
 -- after a part the marks are as before it, and the part nests no deeper than 64
 abbrev Passes : ℕ → ℕ → ℕ → List Terminal → Type 0
-Passes deepest opened closed after = (deepest + opened ≤ closed + 64) × (opened' : ℕ) × (closed' : ℕ) × (opened' + closed ≡ opened + closed') × IsShallow opened' closed' after
+Passes deepest opened closed after = (deepest + opened ≤ closed + 64) × (opened' : ℕ) × (closed' : ℕ) × (opened' + closed ≡ opened + closed') ×
+    IsShallow opened' closed' after
 
 scale_passes : (scale : Scale) (o c : ℕ) (after : List Terminal) → IsShallow o c (spell_scale scale after) → IsShallow o c after
 scale_passes One o c after h = h
@@ -129,7 +130,8 @@ sign_passes : (negative : Bool) (o c : ℕ) (after : List Terminal) → IsShallo
 sign_passes true o c after h = h.1
 sign_passes false o c after h = h.1
 
-joins : (m n o c : ℕ) (middle after : List Terminal) → Passes m o c middle → ((o' c' : ℕ) → o' ≤ c' + 64 → IsShallow o' c' middle → Passes n o' c' after) → o ≤ c + 64 → Passes (max m n) o c after
+joins : (m n o c : ℕ) (middle after : List Terminal) → Passes m o c middle → ((o' c' : ℕ) → o' ≤ c' + 64 → IsShallow o' c' middle →
+    Passes n o' c' after) → o ≤ c + 64 → Passes (max m n) o c after
 joins m n o c middle after (l, o', c', e, h) next start =
     let k = next o' c' (omega arith) h in
     (omega (arith, k.0), k.1, k.2, omega (arith, k.3), k.4)
@@ -138,14 +140,16 @@ mutual
   pub sum_passes : (s : Sum) (o c : ℕ) (after : List Terminal) → o ≤ c + 64 → IsShallow o c (spell_sum s after) → Passes (nest_sum s) o c after
   sum_passes (sum plus (term negative scale f) ts) o c after start h =
       joins (nest_factor f) (nest_terms ts) o c (spell_terms ts after) after
-      (factor_passes f o c (spell_terms ts after) start (scale_passes scale o c (spell_factor f (spell_terms ts after)) (lead_passes plus negative o c (spell_scale scale (spell_factor f (spell_terms ts after))) h)))
+      (factor_passes f o c (spell_terms ts after) start (scale_passes scale o c (spell_factor f (spell_terms ts after))
+      (lead_passes plus negative o c (spell_scale scale (spell_factor f (spell_terms ts after))) h)))
       (λ o' c' start' h'. terms_pass ts o' c' after start' h') start
 
   terms_pass : (ts : Terms) (o c : ℕ) (after : List Terminal) → o ≤ c + 64 → IsShallow o c (spell_terms ts after) → Passes (nest_terms ts) o c after
   terms_pass end o c after start h = (omega arith, o, c, omega arith, h)
   terms_pass (further (term negative scale f) ts) o c after start h =
       joins (nest_factor f) (nest_terms ts) o c (spell_terms ts after) after
-      (factor_passes f o c (spell_terms ts after) start (scale_passes scale o c (spell_factor f (spell_terms ts after)) (sign_passes negative o c (spell_scale scale (spell_factor f (spell_terms ts after))) h)))
+      (factor_passes f o c (spell_terms ts after) start (scale_passes scale o c (spell_factor f (spell_terms ts after))
+      (sign_passes negative o c (spell_scale scale (spell_factor f (spell_terms ts after))) h)))
       (λ o' c' start' h'. terms_pass ts o' c' after start' h') start
 
   factor_passes : (f : Factor) (o c : ℕ) (after : List Terminal) → o ≤ c + 64 → IsShallow o c (spell_factor f after) → Passes (nest_factor f) o c after
@@ -169,14 +173,16 @@ test false f g = g refl
 abbrev Agrees : Terminal → TokenKind → Type 0
 Agrees s k = (n : ℕ) → (up s n ≤ n + opens k) × (n + closes k ≤ down s n)
 
-chosen : (b at : ℕ) (s t : Terminal) → (b ≡ at → Agrees s (kinds.Mark b)) → ((b == at) ≡ false → Agrees t (kinds.Mark b)) → Agrees (if b == at then s else t) (kinds.Mark b)
+chosen : (b at : ℕ) (s t : Terminal) → (b ≡ at → Agrees s (kinds.Mark b)) → ((b == at) ≡ false → Agrees t (kinds.Mark b)) →
+    Agrees (if b == at then s else t) (kinds.Mark b)
 chosen b at s t h k = by_test (b == at) refl
   where
     by_test : (v : Bool) → (b == at) ≡ v → Agrees (if v then s else t) (kinds.Mark b)
     by_test true e = h (eqb-true b at e)
     by_test false e = k e
 
-plain_mark : (b at : ℕ) (s : Terminal) → ((n : ℕ) → (up s n ≤ n + opens (kinds.Mark at)) × (n + closes (kinds.Mark at) ≤ down s n)) → b ≡ at → Agrees s (kinds.Mark b)
+plain_mark : (b at : ℕ) (s : Terminal) → ((n : ℕ) → (up s n ≤ n + opens (kinds.Mark at)) × (n + closes (kinds.Mark at) ≤ down s n)) → b ≡ at →
+    Agrees s (kinds.Mark b)
 plain_mark b at s h e = λ n. rw e (h n)
 
 close_least : (b n : ℕ) → n + closes (kinds.Mark b) ≤ n + 1

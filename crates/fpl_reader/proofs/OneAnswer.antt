@@ -52,7 +52,8 @@ join_memory (Err e) b h k = h
 
 pieces_memory : (ps : List Piece) (at : ℕ) → NotMemory (reading_from at ps)
 pieces_memory [] at = tt
-pieces_memory (p ∷ ps) at = join_memory (piece_tokens at p.form p.bytes) (reading_from (at + length p.bytes) ps) (piece_memory at p.form p.bytes) (pieces_memory ps (at + length p.bytes))
+pieces_memory (p ∷ ps) at = join_memory (piece_tokens at p.form p.bytes) (reading_from (at + length p.bytes) ps) (piece_memory at p.form p.bytes)
+    (pieces_memory ps (at + length p.bytes))
 
 reading_memory : (ps : List Piece) (at : ℕ) (a : Result (List Token) LexError) → reading_from at ps ≡ a → NotMemory a
 reading_memory ps at a e = subst NotMemory e (pieces_memory ps at)
@@ -84,7 +85,8 @@ module _ (text : List ℕ) where
   abbrev by_claims : List Token → List Event → Result (List Claim) ℕ → Answer
   by_claims ts es (Err k) = Err (place_of text k ts, reason.Syntax k)
   by_claims ts es (Ok claims) =
-      by_refusal (early_refusal text (fields_in es) (declared_in es) (late_refusal (scope_by es) es (with_claims (kind_of (fields_in es)) (map (generator_of text) (declared_in es)) []) claims))
+      by_refusal (early_refusal text (fields_in es) (declared_in es) (late_refusal (scope_by es) es
+      (with_claims (kind_of (fields_in es)) (map (generator_of text) (declared_in es)) []) claims))
       (with_claims (kind_of (fields_in es)) (map (generator_of text) (declared_in es)) claims)
 
   abbrev by_terminals : List Token → List Terminal → Answer
@@ -108,19 +110,23 @@ module _ (text : List ℕ) where
   from_tokens : (ts : List Token) → Reads text (Ok ts) → answer ≡ by_depth ts (too_deep 0 0 ts)
   from_tokens ts r = ap by_tokens (reads_lexed r)
 
-  from_sentence : (ts : List Token) (ss : List Statement) → Reads text (Ok ts) → too_deep 0 0 ts ≡ None → spelling ss ≡ terminals_of text ts → answer ≡ by_refusal (refusal_of text ss) (presentation_of text ss)
+  from_sentence : (ts : List Token) (ss : List Statement) → Reads text (Ok ts) → too_deep 0 0 ts ≡ None → spelling ss ≡ terminals_of text ts →
+      answer ≡ by_refusal (refusal_of text ss) (presentation_of text ss)
   from_sentence ts ss r d e =
-      from_tokens ts r ∙ ap (by_depth ts) d ∙ ap (by_claims ts (scan_of (terminals_of text ts))) (parse_sentence (scope_by (scan_of (terminals_of text ts))) (terminals_of text ts) ss e)
+      from_tokens ts r ∙ ap (by_depth ts) d ∙ ap (by_claims ts (scan_of (terminals_of text ts)))
+      (parse_sentence (scope_by (scan_of (terminals_of text ts))) (terminals_of text ts) ss e)
       ∙ ap (λ es. by_claims ts es (Ok (claims_of (scope_by es) ss))) (ap scan_of (sym e) ∙ sentence_scans ss)
 
   presentation_answer : (p : Presentation) → HasPresentation text p → answer ≡ Ok p
-  presentation_answer p h = from_sentence h.tokens h.sentence h.lexed h.shallow h.spelled ∙ ap (λ o. by_refusal o (presentation_of text h.sentence)) h.allowed ∙ ap Ok (sym h.same)
+  presentation_answer p h = from_sentence h.tokens h.sentence h.lexed h.shallow h.spelled ∙
+      ap (λ o. by_refusal o (presentation_of text h.sentence)) h.allowed ∙ ap Ok (sym h.same)
 
   refusal_answer : (place : ℕ) (why : Reason) → IsRefused text place why → answer ≡ Err (place, why)
   refusal_answer place why (lexically e r h) = ap by_tokens (reads_lexed r) ∙ ap (by_fault e) h
   refusal_answer place why (for_depth ts r d w) = from_tokens ts r ∙ ap (by_depth ts) d ∙ ap (λ w. Err (place, w)) (sym w)
   refusal_answer place why (for_syntax ts k r d f p w) =
-      from_tokens ts r ∙ ap (by_depth ts) d ∙ ap (by_claims ts (scan_of (terminals_of text ts))) (parse_fault (scope_by (scan_of (terminals_of text ts))) (terminals_of text ts) k f)
+      from_tokens ts r ∙ ap (by_depth ts) d ∙ ap (by_claims ts (scan_of (terminals_of text ts)))
+      (parse_fault (scope_by (scan_of (terminals_of text ts))) (terminals_of text ts) k f)
       ∙ ap₂ (λ p w. Err (p, w)) (sym p) (sym w)
   refusal_answer place why (for_sense ts ss r d e h) = from_sentence ts ss r d e ∙ ap (λ o. by_refusal o (presentation_of text ss)) h
 
@@ -135,15 +141,35 @@ module _ (text : List ℕ) where
 
 -- each text has an answer
 
-refuse_or : (text : List ℕ) (ts : List Token) (ss : List Statement) (o : Option (ℕ × Reason)) → Reads text (Ok ts) → too_deep 0 0 ts ≡ None → spelling ss ≡ terminals_of text ts → refusal_of text ss ≡ o
+refuse_or : (text : List ℕ) (ts : List Token) (ss : List Statement) (o : Option (ℕ × Reason)) → Reads text (Ok ts) → too_deep 0 0 ts ≡ None →
+    spelling ss ≡ terminals_of text ts → refusal_of text ss ≡ o
     → ((p : Presentation) × HasPresentation text p) ⊎ ((place : ℕ) × (why : Reason) × IsRefused text place why)
-refuse_or text ts ss None r d e h = inl (presentation_of text ss, record { tokens = ts; lexed = r; shallow = d; sentence = ss; spelled = e; allowed = h; same = refl })
+refuse_or text ts ss None r d e h = inl (
+  presentation_of text ss,
+  record {
+    tokens = ts;
+    lexed = r;
+    shallow = d;
+    sentence = ss;
+    spelled = e;
+    allowed =
+        h;
+    same = refl;
+  },
+)
 refuse_or text ts ss (Some (place, why)) r d e h = inr (place, why, for_sense ts ss r d e h)
 
-parse_or : (text : List ℕ) (ts : List Token) (scope : Scope) (a : Result (List Claim) ℕ) → Reads text (Ok ts) → too_deep 0 0 ts ≡ None → parse_of scope (terminals_of text ts) ≡ a
+parse_or : (text : List ℕ) (ts : List Token) (scope : Scope) (a : Result (List Claim) ℕ) → Reads text (Ok ts) → too_deep 0 0 ts ≡ None →
+    parse_of scope (terminals_of text ts) ≡ a
     → ((p : Presentation) × HasPresentation text p) ⊎ ((place : ℕ) × (why : Reason) × IsRefused text place why)
-parse_or text ts scope (Ok claims) r d e = let s = says_from_parse scope (terminals_of text ts) claims e in refuse_or text ts s.sentence (refusal_of text s.sentence) r d s.spelled refl
-parse_or text ts scope (Err k) r d e = inr (place_of text k ts, reason.Syntax k, for_syntax ts k r d (fault_from_parse scope (terminals_of text ts) k e) refl refl)
+parse_or text ts scope (Ok claims) r d e = let s = says_from_parse scope (terminals_of text ts) claims e in
+    refuse_or text ts s.sentence (refusal_of text s.sentence) r d s.spelled refl
+parse_or text ts scope (Err k) r d e = inr (
+  place_of text k ts,
+  reason.Syntax k,
+  for_syntax ts k r d
+      (fault_from_parse scope (terminals_of text ts) k e) refl refl,
+)
 
 depth_or : (text : List ℕ) (ts : List Token) (o : Option ℕ) → Reads text (Ok ts) → too_deep 0 0 ts ≡ o
     → ((p : Presentation) × HasPresentation text p) ⊎ ((place : ℕ) × (why : Reason) × IsRefused text place why)

@@ -16,7 +16,8 @@ use Rattle.fpl_reader.specs.Texts.{text_tokens}
 use Rattle.fpl_reader.specs.Sentence.{FailsAt}
 use Rattle.fpl_reader.specs.Reading.{place_of}
 
-pub parse_on : (scope : Scope) (claims more : List Claim) (state next : State) (k : ℕ) (terminal : Terminal) (terminals : List Terminal) → step_state scope claims state terminal ≡ Some (more, next)
+pub parse_on : (scope : Scope) (claims more : List Claim) (state next : State) (k : ℕ) (terminal : Terminal) (terminals : List Terminal) →
+    step_state scope claims state terminal ≡ Some (more, next)
     → parse_from scope claims state k (terminal ∷ terminals) ≡ parse_from scope more next (k + 1) terminals
 parse_on scope claims more state next k terminal terminals e = ap (or_fault k (λ (s : List Claim × State). parse_from scope s.0 s.1 (k + 1) terminals)) e
 
@@ -26,7 +27,8 @@ place_on text j t ts =
     let less : j + 1 + 1 - 1 ≡ j + 1 = omega arith in
     rw (apart, less) refl
 
-pub parse_more : (text : List ℕ) (scope : Scope) (claims more : List Claim) (state next : State) (k : ℕ) (token : Token) (old new : List Token) (terminal : Terminal) {answer : Result (List Claim) ℕ}
+pub parse_more : (text : List ℕ) (scope : Scope) (claims more : List Claim) (state next : State) (k : ℕ) (token : Token) (old new : List Token)
+    (terminal : Terminal) {answer : Result (List Claim) ℕ}
     → old ≡ token ∷ new → terminal ≡ terminal_of text token → step_state scope claims state terminal ≡ Some (more, next)
     → answer ≡ parse_from scope claims state k (terminals_of text old) → answer ≡ parse_from scope more next (k + 1) (terminals_of text new)
 parse_more text scope claims more state next k token old new terminal front same step e =
@@ -43,20 +45,23 @@ pub count_more : (k n : ℕ) (token : Token) (old new : List Token) → old ≡ 
 count_more k n token old new front e = let l : length old ≡ suc (length new) = ap length front in omega arith
 
 -- a terminal that doesn't fit
-pub fault_here : (text : List ℕ) (scope : Scope) (claims : List Claim) (state : State) (k : ℕ) (token : Token) (old new : List Token) (terminal : Terminal) (answer : Result (List Claim) ℕ) (e : ReaderError)
+pub fault_here : (text : List ℕ) (scope : Scope) (claims : List Claim) (state : State) (k : ℕ) (token : Token) (old new : List Token)
+    (terminal : Terminal) (answer : Result (List Claim) ℕ) (e : ReaderError)
     → old ≡ token ∷ new → terminal ≡ terminal_of text token → step_state scope claims state terminal ≡ None
     → answer ≡ parse_from scope claims state k (terminals_of text old) → ((j : ℕ) → place_of text (k + j) (text_tokens text) ≡ place_of text (j + 1) old)
     → e ≡ Refused token.start (Syntax k) → FailsAt text e answer
 fault_here text scope claims state k token old new terminal answer e front same step h places refusal =
     let stops : answer ≡ Err k =
     h ∙ ap (λ ts. parse_from scope claims state k (terminals_of text ts)) front
-    ∙ ap (or_fault k (λ (s : List Claim × State). parse_from scope s.0 s.1 (k + 1) (terminals_of text new))) (ap (step_state scope claims state) (sym same) ∙ step) in
+    ∙ ap (or_fault k (λ (s : List Claim × State). parse_from scope s.0 s.1 (k + 1) (terminals_of text new)))
+    (ap (step_state scope claims state) (sym same) ∙ step) in
     let here : token.start ≡ place_of text k (text_tokens text) =
     sym (ap (λ n. place_of text n (text_tokens text)) (sym (add-zero k)) ∙ places 0 ∙ ap (place_of text (0 + 1)) front) in
     rw refusal (k, stops, here, refl)
 
 -- the end, where no sentence ends
-pub fault_end : (text : List ℕ) (scope : Scope) (claims : List Claim) (state : State) (k : ℕ) (left : List Token) (answer : Result (List Claim) ℕ) (e : ReaderError)
+pub fault_end : (text : List ℕ) (scope : Scope) (claims : List Claim) (state : State) (k : ℕ) (left : List Token) (answer : Result (List Claim) ℕ)
+    (e : ReaderError)
     → left ≡ [] → ended claims state k ≡ Err k
     → answer ≡ parse_from scope claims state k (terminals_of text left) → ((j : ℕ) → place_of text (k + j) (text_tokens text) ≡ place_of text (j + 1) left)
     → e ≡ Refused (length text) (Syntax k) → FailsAt text e answer

@@ -40,31 +40,37 @@ mutual
   sum_scans : (s : Sum) (after : List Terminal) → inside (spell_sum s after) ≡ events_sum s ++ inside after
   sum_scans (sum plus (term negative scale f) ts) after =
       lead_scans plus negative (spell_scale scale (spell_factor f (spell_terms ts after)))
-      ∙ joins (events_scale scale) (events_factor f ++ events_terms ts) _ (inside (spell_factor f (spell_terms ts after))) (inside after) (scale_scans scale (spell_factor f (spell_terms ts after)))
+      ∙ joins (events_scale scale) (events_factor f ++ events_terms ts) _ (inside (spell_factor f (spell_terms ts after))) (inside after)
+      (scale_scans scale (spell_factor f (spell_terms ts after)))
       (joins (events_factor f) (events_terms ts) _ (inside (spell_terms ts after)) (inside after) (factor_scans f (spell_terms ts after)) (terms_scan ts after))
 
   terms_scan : (ts : Terms) (after : List Terminal) → inside (spell_terms ts after) ≡ events_terms ts ++ inside after
   terms_scan end after = refl
   terms_scan (further (term negative scale f) ts) after =
       sign_scans negative (spell_scale scale (spell_factor f (spell_terms ts after)))
-      ∙ joins (events_scale scale) (events_factor f ++ events_terms ts) _ (inside (spell_factor f (spell_terms ts after))) (inside after) (scale_scans scale (spell_factor f (spell_terms ts after)))
+      ∙ joins (events_scale scale) (events_factor f ++ events_terms ts) _ (inside (spell_factor f (spell_terms ts after))) (inside after)
+      (scale_scans scale (spell_factor f (spell_terms ts after)))
       (joins (events_factor f) (events_terms ts) _ (inside (spell_terms ts after)) (inside after) (factor_scans f (spell_terms ts after)) (terms_scan ts after))
 
   factor_scans : (f : Factor) (after : List Terminal) → inside (spell_factor f after) ≡ events_factor f ++ inside after
   factor_scans (name w) after = refl
   factor_scans (zero place) after = refl
   factor_scans (bracket a b) after =
-      joins (events_sum a) (events_sum b) _ (inside (spell_sum b (mark.CloseBracket ∷ after))) (inside after) (sum_scans a (mark.Comma ∷ spell_sum b (mark.CloseBracket ∷ after))) (sum_scans b (mark.CloseBracket ∷ after))
+      joins (events_sum a) (events_sum b) _ (inside (spell_sum b (mark.CloseBracket ∷ after))) (inside after)
+      (sum_scans a (mark.Comma ∷ spell_sum b (mark.CloseBracket ∷ after))) (sum_scans b (mark.CloseBracket ∷ after))
   factor_scans (group a) after = sum_scans a (mark.CloseGroup ∷ after)
 
 abbrev outside : List Terminal → List Event
 outside terminals = scan track.Outside terminals
 
 declarations_scan : (parity : Parity) (w : Word) (weight : Option Numeral) (ds : List Declaration) (after : List Terminal)
-    → scan (track.Named parity w weight) (spell_declarations ds (mark.Semicolon ∷ after)) ≡ event_list (some_declared w parity weight) ++ (events_declared parity ds ++ outside after)
+    → scan (track.Named parity w weight) (spell_declarations ds (mark.Semicolon ∷ after)) ≡ event_list (some_declared w parity weight)
+    ++ (events_declared parity ds ++ outside after)
 declarations_scan parity w weight [] after = refl
-declarations_scan parity w weight (plainly v ∷ ds) after = ap (λ es. event_list (some_declared w parity weight) ++ es) (declarations_scan parity v None ds after)
-declarations_scan parity w weight (weighted v n ∷ ds) after = ap (λ es. event_list (some_declared w parity weight) ++ es) (declarations_scan parity v (Some n) ds after)
+declarations_scan parity w weight (plainly v ∷ ds) after = ap (λ es. event_list (some_declared w parity weight) ++ es)
+    (declarations_scan parity v None ds after)
+declarations_scan parity w weight (weighted v n ∷ ds) after = ap (λ es. event_list (some_declared w parity weight) ++ es)
+    (declarations_scan parity v (Some n) ds after)
 
 statement_scans : (s : Statement) (after : List Terminal) → outside (spell_statement s after) ≡ events_statement s ++ outside after
 statement_scans (field place (rationals a b)) after = refl
@@ -73,10 +79,12 @@ statement_scans (declare parity (plainly w) ds) after = declarations_scan parity
 statement_scans (declare parity (weighted w n) ds) after = declarations_scan parity w (Some n) ds after
 statement_scans (relation place a) after = sum_scans a (mark.Semicolon ∷ after)
 statement_scans (equation place a b) after =
-    joins (events_sum a) (events_sum b) _ (inside (spell_sum b (mark.Semicolon ∷ after))) (outside after) (sum_scans a (mark.Equals ∷ spell_sum b (mark.Semicolon ∷ after))) (sum_scans b (mark.Semicolon ∷ after))
+    joins (events_sum a) (events_sum b) _ (inside (spell_sum b (mark.Semicolon ∷ after))) (outside after)
+    (sum_scans a (mark.Equals ∷ spell_sum b (mark.Semicolon ∷ after))) (sum_scans b (mark.Semicolon ∷ after))
 statement_scans (ideal place a) after = sum_scans a (mark.Semicolon ∷ after)
 statement_scans (equal place a b) after =
-    joins (events_sum a) (events_sum b) _ (inside (spell_sum b (mark.Semicolon ∷ after))) (outside after) (sum_scans a (mark.Equals ∷ spell_sum b (mark.Semicolon ∷ after))) (sum_scans b (mark.Semicolon ∷ after))
+    joins (events_sum a) (events_sum b) _ (inside (spell_sum b (mark.Semicolon ∷ after))) (outside after)
+    (sum_scans a (mark.Equals ∷ spell_sum b (mark.Semicolon ∷ after))) (sum_scans b (mark.Semicolon ∷ after))
 
 pub sentence_scans : (ss : List Statement) → scan_of (spelling ss) ≡ events_of ss
 sentence_scans [] = refl

@@ -61,23 +61,28 @@ module _ (text : List ℕ) where
   abbrev names_of : List DeclaredName → List (List ℕ)
   names_of ds = map (λ g. g.name) (map (generator_of text) ds)
 
-  not_before : (before : List (List ℕ)) (ds : List DeclaredName) → name_twice text before ds ≡ None → (i : ℕ) → i < length ds → list_any (λ b. bytes_eq b (get_or (names_of ds) i [])) before ≡ false
+  not_before : (before : List (List ℕ)) (ds : List DeclaredName) → name_twice text before ds ≡ None → (i : ℕ) → i < length ds →
+      list_any (λ b. bytes_eq b (get_or (names_of ds) i [])) before ≡ false
   not_before before [] e i l = absurd (omega arith)
   not_before before (d ∷ ds) e zero l = (no_place (list_any (λ b. bytes_eq b (name_of text d)) before) d.word.start _ e).0
   not_before before (d ∷ ds) e (suc i) l =
-      (or_parts _ _ (not_before (name_of text d ∷ before) ds (no_place (list_any (λ b. bytes_eq b (name_of text d)) before) d.word.start _ e).1 i (omega arith))).1
+      (or_parts _ _ (not_before (name_of text d ∷ before) ds (no_place (list_any (λ b. bytes_eq b (name_of text d)) before) d.word.start _ e).1 i
+      (omega arith))).1
 
   unequal : (a b : List ℕ) → bytes_eq a b ≡ false → a ≢ b
   unequal a b e same = let t = (bytes_eq-Decides a b).1 same in cc
 
-  names_distinct : (before : List (List ℕ)) (ds : List DeclaredName) → name_twice text before ds ≡ None → (i j : ℕ) → i < j → j < length ds → get_or (names_of ds) i [] ≢ get_or (names_of ds) j []
+  names_distinct : (before : List (List ℕ)) (ds : List DeclaredName) → name_twice text before ds ≡ None → (i j : ℕ) → i < j → j < length ds →
+      get_or (names_of ds) i [] ≢ get_or (names_of ds) j []
   names_distinct before [] e i j l m = absurd (omega arith)
   names_distinct before (d ∷ ds) e i zero l m = absurd (omega arith)
   names_distinct before (d ∷ ds) e zero (suc j) l m =
       unequal (name_of text d) (get_or (names_of ds) j [])
-      (or_parts _ _ (not_before (name_of text d ∷ before) ds (no_place (list_any (λ b. bytes_eq b (name_of text d)) before) d.word.start _ e).1 j (omega arith))).0
+      (or_parts _ _ (not_before (name_of text d ∷ before) ds (no_place (list_any (λ b. bytes_eq b (name_of text d)) before) d.word.start _ e).1 j
+      (omega arith))).0
   names_distinct before (d ∷ ds) e (suc i) (suc j) l m =
-      names_distinct (name_of text d ∷ before) ds (no_place (list_any (λ b. bytes_eq b (name_of text d)) before) d.word.start _ e).1 i j (omega arith) (omega arith)
+      names_distinct (name_of text d ∷ before) ds (no_place (list_any (λ b. bytes_eq b (name_of text d)) before) d.word.start _ e).1 i j (omega arith)
+      (omega arith)
 
 -- degrees rest on the generators alone
 
@@ -207,7 +212,8 @@ places_more kind gs cs Ideal q n h =
     let rs = sum (map count_equation (claimed_as is_relation cs)) in
     let is = map (λ e. count_tree (plain e) + 1) (lefts (claimed_as is_ideal cs)) in
     let ss = sum (map count_equation (claimed_as is_equal cs)) in
-    subst (λ w. rs + w + ss ≤ count_equation q + n) (sym (sum-cons (count_tree (plain q.left) + 1) is)) (second_more (count_tree (plain q.left)) (count_tree (plain q.right)) rs (sum is) ss n h)
+    subst (λ w. rs + w + ss ≤ count_equation q + n) (sym (sum-cons (count_tree (plain q.left) + 1) is))
+    (second_more (count_tree (plain q.left)) (count_tree (plain q.right)) rs (sum is) ss n h)
 places_more kind gs cs Equal q n h =
     let rs = sum (map count_equation (claimed_as is_relation cs)) in
     let is = sum (map (λ e. count_tree (plain e) + 1) (lefts (claimed_as is_ideal cs))) in
@@ -235,7 +241,8 @@ module _ (text : List ℕ) (kind : Kind) (gs : List Generator) (known : IsTrue (
     -- an ideal element has no right side
     alone : IsTrue (is_ideal c.kind) → plain c.equation.right ≡ none
 
-  alone_formed : (claim : ClaimKind) (place : ℕ) (a : Sum) → AllKnown (events_sum a) → nest_sum a ≤ 64 → IsFormed (equate claim place (expression_of scope a) expr.Zero)
+  alone_formed : (claim : ClaimKind) (place : ℕ) (a : Sum) → AllKnown (events_sum a) → nest_sum a ≤ 64 →
+      IsFormed (equate claim place (expression_of scope a) expr.Zero)
   alone_formed claim place a h deep_enough =
       let d = deep_sum scope a in
       record {
@@ -246,7 +253,8 @@ module _ (text : List ℕ) (kind : Kind) (gs : List Generator) (known : IsTrue (
         alone = λ _. plain-Zero;
       }
 
-  pair_formed : (claim : ClaimKind) (place : ℕ) (a b : Sum) → is_ideal claim ≡ false → AllKnown (events_sum a) → AllKnown (events_sum b) → nest_sum a ≤ 64 → nest_sum b ≤ 64
+  pair_formed : (claim : ClaimKind) (place : ℕ) (a b : Sum) → is_ideal claim ≡ false → AllKnown (events_sum a) → AllKnown (events_sum b) →
+      nest_sum a ≤ 64 → nest_sum b ≤ 64
       → IsFormed (equate claim place (expression_of scope a) (expression_of scope b))
   pair_formed claim place a b apart h k l m =
       let d = deep_sum scope a in
@@ -269,7 +277,8 @@ module _ (text : List ℕ) (kind : Kind) (gs : List Generator) (known : IsTrue (
   one : (c : Claim) → IsFormed c → All IsFormed (c ∷ [])
   one c h = All-cons IsFormed c [] h (All-nil IsFormed)
 
-  side_formed : (claim : ClaimKind) (place : ℕ) (a : Sum) (o : ℕ) (after : List Terminal) → AllKnown (events_sum a) → IsShallow o o (mark.Claim claim place ∷ spell_sum a (mark.Semicolon ∷ after))
+  side_formed : (claim : ClaimKind) (place : ℕ) (a : Sum) (o : ℕ) (after : List Terminal) → AllKnown (events_sum a) →
+      IsShallow o o (mark.Claim claim place ∷ spell_sum a (mark.Semicolon ∷ after))
       → Formed (equate claim place (expression_of scope a) expr.Zero ∷ []) after
   side_formed claim place a o after h (start, k) =
       let p = sum_passes a o o (mark.Semicolon ∷ after) (omega arith) k in
@@ -283,15 +292,21 @@ module _ (text : List ℕ) (kind : Kind) (gs : List Generator) (known : IsTrue (
       let f = first_place-append (unknown_in scope) (events_sum a) (events_sum b) h in
       let p = sum_passes a o o (mark.Equals ∷ spell_sum b (mark.Semicolon ∷ after)) (omega arith) k in
       let q = sum_passes b p.1 p.2 (mark.Semicolon ∷ after) (omega (arith, p.3)) p.4.1 in
-      let r = balanced q.1 q.2 after (omega (arith, p.3, q.3)) q.4.1 in
-      (one (equate claim place (expression_of scope a) (expression_of scope b)) (pair_formed claim place a b apart f.0 f.1 (omega (arith, p.0)) (omega (arith, p.3, q.0))), r.0, r.1)
+      let r = balanced q.1 q.2 after (omega (arith, p.3, q.3)) q.4.1 in (
+        one (equate claim place (expression_of scope a) (expression_of scope b)) (pair_formed claim place a b apart f.0 f.1 (omega (arith, p.0))
+            (omega (arith, p.3, q.0))),
+        r.0,
+        r.1,
+      )
 
-  declared_shallow : (ds : List Declaration) (o : ℕ) (after : List Terminal) → IsShallow o o (spell_declarations ds (mark.Semicolon ∷ after)) → IsShallow o o after
+  declared_shallow : (ds : List Declaration) (o : ℕ) (after : List Terminal) → IsShallow o o (spell_declarations ds (mark.Semicolon ∷ after)) →
+      IsShallow o o after
   declared_shallow [] o after h = h.1
   declared_shallow (plainly w ∷ ds) o after h = declared_shallow ds o after h.1.1
   declared_shallow (weighted w n ∷ ds) o after h = declared_shallow ds o after h.1.1.1.1
 
-  statement_formed : (s : Statement) (o : ℕ) (after : List Terminal) → AllKnown (events_statement s) → IsShallow o o (spell_statement s after) → Formed (claims_in scope s) after
+  statement_formed : (s : Statement) (o : ℕ) (after : List Terminal) → AllKnown (events_statement s) → IsShallow o o (spell_statement s after) →
+      Formed (claims_in scope s) after
   statement_formed (field place (rationals a b)) o after h k = (All-nil IsFormed, o, k.1.1.1)
   statement_formed (field place (prime n)) o after h k = (All-nil IsFormed, o, k.1.1.1)
   statement_formed (declare parity (plainly w) ds) o after h k = (All-nil IsFormed, o, declared_shallow ds o after k.1.1)
@@ -362,7 +377,8 @@ module _ (kind : Kind) (gs : List Generator) (claims : List Claim) where
   abbrev bare : Presentation
   bare = with_claims kind gs []
 
-  homogeneous : (c : Claim) → mixed_weight_of bare c ≡ None → mixed_parity_of bare c ≡ None → IsHomogeneous whole (tree_in kind c.equation.left) (tree_in kind c.equation.right)
+  homogeneous : (c : Claim) → mixed_weight_of bare c ≡ None → mixed_parity_of bare c ≡ None →
+      IsHomogeneous whole (tree_in kind c.equation.left) (tree_in kind c.equation.right)
   homogeneous c h k =
       let l = tree_in kind c.equation.left in
       let r = tree_in kind c.equation.right in
@@ -374,26 +390,32 @@ module _ (kind : Kind) (gs : List Generator) (claims : List Claim) where
         λ e. unmixed (parity_of_both Q l r) (unmixed_place (is_mixed (parity_of_both Q l r)) c.place k) (sym p ∙ e),
       )
 
-  chosen_in : (t : Bool) (q : Equation) (qs : List Equation) → IsSoundEquation whole q → All (IsSoundEquation whole) qs → All (IsSoundEquation whole) (if t then q ∷ qs else qs)
+  chosen_in : (t : Bool) (q : Equation) (qs : List Equation) → IsSoundEquation whole q → All (IsSoundEquation whole) qs →
+      All (IsSoundEquation whole) (if t then q ∷ qs else qs)
   chosen_in true q qs h k = All-cons (IsSoundEquation whole) q qs h k
   chosen_in false q qs h k = k
 
-  element_in : (t : Bool) (q : Equation) (qs : List Equation) → (IsTrue t → IsSoundElement whole q.left) → All (IsSoundElement whole) (lefts qs) → All (IsSoundElement whole) (lefts (if t then q ∷ qs else qs))
+  element_in : (t : Bool) (q : Equation) (qs : List Equation) → (IsTrue t → IsSoundElement whole q.left) → All (IsSoundElement whole) (lefts qs) →
+      All (IsSoundElement whole) (lefts (if t then q ∷ qs else qs))
   element_in true q qs h k = All-cons (IsSoundElement whole) q.left (lefts qs) (h refl) k
   element_in false q qs h k = k
 
   equations_in : (is : ClaimKind → Bool) (cs : List Claim) → All (λ c. IsSoundEquation whole c.equation) cs → All (IsSoundEquation whole) (claimed_as is cs)
   equations_in is [] h = All-nil (IsSoundEquation whole)
-  equations_in is (c ∷ cs) h = chosen_in (is c.kind) c.equation (claimed_as is cs) (h 0 c (omega arith)) (equations_in is cs (λ k d l. h (suc k) d (omega arith)))
+  equations_in is (c ∷ cs) h = chosen_in (is c.kind) c.equation (claimed_as is cs) (h 0 c (omega arith))
+      (equations_in is cs (λ k d l. h (suc k) d (omega arith)))
 
-  elements_in : (cs : List Claim) → All (λ c. IsTrue (is_ideal c.kind) → IsSoundElement whole c.equation.left) cs → All (IsSoundElement whole) (lefts (claimed_as is_ideal cs))
+  elements_in : (cs : List Claim) → All (λ c. IsTrue (is_ideal c.kind) → IsSoundElement whole c.equation.left) cs →
+      All (IsSoundElement whole) (lefts (claimed_as is_ideal cs))
   elements_in [] h = All-nil (IsSoundElement whole)
-  elements_in (c ∷ cs) h = element_in (is_ideal c.kind) c.equation (claimed_as is_ideal cs) (h 0 c (omega arith)) (elements_in cs (λ k d l. h (suc k) d (omega arith)))
+  elements_in (c ∷ cs) h = element_in (is_ideal c.kind) c.equation (claimed_as is_ideal cs) (h 0 c (omega arith))
+      (elements_in cs (λ k d l. h (suc k) d (omega arith)))
 
 -- the whole
 
 late_parts : (scope : Scope) (es : List Event) (p : Presentation) (cs : List Claim) → late_refusal scope es p cs ≡ None
-    → (first_place (unknown_in scope) es ≡ None) × (first_place (zero_in scope.kind) es ≡ None) × (first_place (mixed_weight_of p) cs ≡ None) × (first_place (mixed_parity_of p) cs ≡ None)
+    → (first_place (unknown_in scope) es ≡ None) × (first_place (zero_in scope.kind) es ≡ None) × (first_place (mixed_weight_of p) cs ≡ None) ×
+    (first_place (mixed_parity_of p) cs ≡ None)
 late_parts scope es p cs e =
     let h = unless_none (first_place (unknown_in scope) es) reason.UnknownName _ e in
     let k = unless_none (first_place (zero_in scope.kind) es) reason.ZeroDenominator _ h.1 in
@@ -426,7 +448,8 @@ presentation_sound text p small h =
     let elements : All (λ c. IsTrue (is_ideal c.kind) → IsSoundElement (with_claims kind gs claims) c.equation.left) claims = λ k d l i.
     let f = formed k d l in (
       (f.left, f.left_deep),
-      subst (λ t. IsHomogeneous (with_claims kind gs claims) (tree_in kind (get_or claims k d).equation.left) (in_field kind t)) (f.alone i) (homogeneous kind gs claims (get_or claims k d) (weights k d l) (parities k d l)),
+      subst (λ t. IsHomogeneous (with_claims kind gs claims) (tree_in kind (get_or claims k d).equation.left) (in_field kind t)) (f.alone i)
+          (homogeneous kind gs claims (get_or claims k d) (weights k d l) (parities k d l)),
     ) in
     let counted : places (with_claims kind gs claims) < 2 ^ 32 =
     let a = places_cost kind gs claims in

@@ -25,7 +25,8 @@ pub or_else-none : (a b : Option ℕ) → or_else a b ≡ None → (a ≡ None) 
 or_else-none None b e = (refl, e)
 or_else-none (Some place) b e = cc
 
-pub first_place-append : {A : Type 0} (f : A → Option ℕ) (xs ys : List A) → first_place f (xs ++ ys) ≡ None → (first_place f xs ≡ None) × (first_place f ys ≡ None)
+pub first_place-append : {A : Type 0} (f : A → Option ℕ) (xs ys : List A) → first_place f (xs ++ ys) ≡ None →
+    (first_place f xs ≡ None) × (first_place f ys ≡ None)
 first_place-append f [] ys e = (refl, e)
 first_place-append f (x ∷ xs) ys e =
     let h = or_else-none (f x) (first_place f (xs ++ ys)) e in
@@ -36,7 +37,8 @@ nonzero : (m : ℕ) → (m == 0) ≡ false → 1 ≤ m
 nonzero zero e = cc
 nonzero (suc m) e = omega arith
 
-module _ (scope : Scope) (n : ℕ) (numbered : (w : Word) → scope.number w ≤ n) (elements : (negative : Bool) (a b : ℕ) → IsElement scope.kind (coefficient_of scope.kind negative a b)) where
+module _ (scope : Scope) (n : ℕ) (numbered : (w : Word) → scope.number w ≤ n) (elements : (negative : Bool) (a b : ℕ) →
+    IsElement scope.kind (coefficient_of scope.kind negative a b)) where
   -- all names in these events are known
   abbrev pub Known : List Event → Type 0
   Known es = first_place (unknown_in scope) es ≡ None
@@ -73,7 +75,8 @@ module _ (scope : Scope) (n : ℕ) (numbered : (w : Word) → scope.number w ≤
     fine_sum (sum plus (term negative scale f) ts) h =
         let k = first_place-append (unknown_in scope) (events_scale scale) (events_factor f ++ events_terms ts) h in
         let l = first_place-append (unknown_in scope) (events_factor f) (events_terms ts) k.1 in
-        fine_total (term_of scope negative scale (factor_of scope f) ∷ further_of scope ts) (fine_term negative scale (factor_of scope f) (fine_factor f l.0), fine_terms ts l.1)
+        fine_total (term_of scope negative scale (factor_of scope f) ∷ further_of scope ts)
+        (fine_term negative scale (factor_of scope f) (fine_factor f l.0), fine_terms ts l.1)
 
     fine_terms : (ts : Terms) → Known (events_terms ts) → AllFine (further_of scope ts)
     fine_terms end h = tt

@@ -40,7 +40,8 @@ word_piece [] after piece = elim piece [ ]
 word_piece (b ∷ bs) after (letter, all, stops) = rw letter all
 
 word_tokens : (before bytes after : List ℕ) (us : List Token) (t : Bool) → nat_lt most_name (length bytes) ≡ t → IsTrue (is_word bytes)
-    → ◌≡◌ {A = Result (List Token) LexError} (if t then Err (NameTooLong (length before)) else Ok (token_at (length before) bytes kinds.Word ∷ [])) (Ok us) → AreWords (before ++ (bytes ++ after)) us
+    → ◌≡◌ {A = Result (List Token) LexError} (if t then Err (NameTooLong (length before)) else Ok (token_at (length before) bytes kinds.Word ∷ []))
+    (Ok us) → AreWords (before ++ (bytes ++ after)) us
 word_tokens before bytes after us true test spelled e = cc
 word_tokens before bytes after us false test spelled e =
     let same : token_at (length before) bytes kinds.Word ∷ [] ≡ us = ok-equal e in
@@ -60,7 +61,8 @@ mark_are text at (b ∷ bs) = (tt, tt)
 none_are : (text : List ℕ) (us : List Token) → ◌≡◌ {A = Result (List Token) LexError} (Ok []) (Ok us) → AreWords text us
 none_are text us e = subst (AreWords text) (ok-equal e) tt
 
-piece_are : (before bytes after : List ℕ) (form : Form) (us : List Token) → IsPiece form bytes after → piece_tokens (length before) form bytes ≡ Ok us → AreWords (before ++ (bytes ++ after)) us
+piece_are : (before bytes after : List ℕ) (form : Form) (us : List Token) → IsPiece form bytes after →
+    piece_tokens (length before) form bytes ≡ Ok us → AreWords (before ++ (bytes ++ after)) us
 piece_are before bytes after blank us piece e = none_are _ us e
 piece_are before bytes after comment us piece e = none_are _ us e
 piece_are before bytes after word us piece e = word_tokens before bytes after us (nat_lt most_name (length bytes)) refl (word_piece bytes after piece) e
@@ -72,7 +74,8 @@ AreWords-append : (text : List ℕ) (us vs : List Token) → AreWords text us �
 AreWords-append text [] vs h k = k
 AreWords-append text (u ∷ us) vs (h, hs) k = (h, AreWords-append text us vs hs k)
 
-join_are : (text : List ℕ) (a b : Result (List Token) LexError) (ts : List Token) → ((us : List Token) → a ≡ Ok us → AreWords text us) → ((vs : List Token) → b ≡ Ok vs → AreWords text vs) → joined a b ≡ Ok ts → AreWords text ts
+join_are : (text : List ℕ) (a b : Result (List Token) LexError) (ts : List Token) → ((us : List Token) → a ≡ Ok us → AreWords text us) →
+    ((vs : List Token) → b ≡ Ok vs → AreWords text vs) → joined a b ≡ Ok ts → AreWords text ts
 join_are text (Ok us) (Ok vs) ts h k e = subst (AreWords text) (ok-equal e) (AreWords-append text us vs (h us refl) (k vs refl))
 join_are text (Ok us) (Err f) ts h k e = cc
 join_are text (Err f) b ts h k e = cc

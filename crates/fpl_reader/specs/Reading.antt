@@ -208,10 +208,12 @@ is_mixed (exact a) = false
 is_mixed mixed = true
 
 abbrev pub mixed_weight_of : (p : Presentation) → Claim → Option ℕ
-mixed_weight_of p c = if is_mixed (weight_of_both (presentation_in p) (tree_in p.field c.equation.left) (tree_in p.field c.equation.right)) then Some c.place else None
+mixed_weight_of p c = if is_mixed (weight_of_both (presentation_in p) (tree_in p.field c.equation.left) (tree_in p.field c.equation.right)) then
+    Some c.place else None
 
 abbrev pub mixed_parity_of : (p : Presentation) → Claim → Option ℕ
-mixed_parity_of p c = if is_mixed (parity_of_both (presentation_in p) (tree_in p.field c.equation.left) (tree_in p.field c.equation.right)) then Some c.place else None
+mixed_parity_of p c = if is_mixed (parity_of_both (presentation_in p) (tree_in p.field c.equation.left) (tree_in p.field c.equation.right)) then
+    Some c.place else None
 
 -- the place of a reason, where it holds, or else another refusal
 abbrev pub unless : Option ℕ → Reason → Option (ℕ × Reason) → Option (ℕ × Reason)
@@ -265,8 +267,10 @@ lexical_refusal lexical.NoMemory = None
 pub data IsRefused (text : List ℕ) (place : ℕ) (why : Reason) : Type 0 where
   lexically : (e : LexError) → Reads text (Err e) → lexical_refusal e ≡ Some (place, why) → IsRefused text place why
   for_depth : (ts : List Token) → Reads text (Ok ts) → too_deep 0 0 ts ≡ Some place → why ≡ reason.TooDeep → IsRefused text place why
-  for_syntax : (ts : List Token) (k : ℕ) → Reads text (Ok ts) → too_deep 0 0 ts ≡ None → IsFaultAt k (terminals_of text ts) → place ≡ place_of text k ts → why ≡ reason.Syntax k → IsRefused text place why
-  for_sense : (ts : List Token) (ss : List Statement) → Reads text (Ok ts) → too_deep 0 0 ts ≡ None → spelling ss ≡ terminals_of text ts → refusal_of text ss ≡ Some (place, why) → IsRefused text place why
+  for_syntax : (ts : List Token) (k : ℕ) → Reads text (Ok ts) → too_deep 0 0 ts ≡ None → IsFaultAt k (terminals_of text ts) →
+      place ≡ place_of text k ts → why ≡ reason.Syntax k → IsRefused text place why
+  for_sense : (ts : List Token) (ss : List Statement) → Reads text (Ok ts) → too_deep 0 0 ts ≡ None → spelling ss ≡ terminals_of text ts →
+      refusal_of text ss ≡ Some (place, why) → IsRefused text place why
 
 abbrev pub Read : List ℕ → Result Presentation ReaderError → Type 0
 Read text (Ok p) = HasPresentation text p

@@ -141,7 +141,8 @@ fn refuse_sentence(alloc: Global, text: &[u8], place: usize, reason: Reason) -> 
 fn late_refusal(scope: &Scope, p: &Presentation, claims: &[Claim]) -> Option<(usize, Reason)>
     requires lexable { IsLexable scope.now.text.now 0 }
     requires weights { HaveWeights p.now.generators }
-    requires terms { first_place (unknown_in (sight scope.now)) (text_events scope.now.text.now) ≡ None → All (AreSidesTerms p.now.field (length p.now.generators)) claims.now }
+    requires terms { first_place (unknown_in (sight scope.now)) (text_events scope.now.text.now) ≡ None →
+        All (AreSidesTerms p.now.field (length p.now.generators)) claims.now }
     ensures { result ≡ late_refusal (sight scope.now) (text_events scope.now.text.now) p.now claims.now }
 {
     if let Some(place) = unknown_name(scope) {

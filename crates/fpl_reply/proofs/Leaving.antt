@@ -17,14 +17,16 @@ use Rattle.fpl_reply.specs.Leaves.{Says, Leaves}
 use Rattle.fpl_reply.specs.Leaves.Leaves.{whole, part, front}
 
 -- what is left of replies and fronts, told of others
-pub leaves_through : (A B : Reply → Type 0) (F G : List ℕ → Type 0) (a b : Option (List ℕ)) → ((r : Reply) → A r → B r) → ((text : List ℕ) → F text → G text) → (r : Reply) → Leaves A F a b r → Leaves B G a b r
+pub leaves_through : (A B : Reply → Type 0) (F G : List ℕ → Type 0) (a b : Option (List ℕ)) → ((r : Reply) → A r → B r) →
+    ((text : List ℕ) → F text → G text) → (r : Reply) → Leaves A F a b r → Leaves B G a b r
 leaves_through A B F G a b f g _ (whole r text h t) = whole r text (f (with_text text r) h) t
 leaves_through A B F G a b f g _ (part r h p t) = part r (f r h) p t
 leaves_through A B F G a b f g _ (front (inl e)) = front (inl e)
 leaves_through A B F G a b f g _ (front (inr h)) = front (inr (h.0, g h.0 h.1, h.2))
 
 -- a reply without a text
-pub leaves_quiet : (A : Reply → Type 0) (F : List ℕ → Type 0) (a b : Option (List ℕ)) (r : Reply) → with_text [] r ≡ r → text_of r ≡ [] → b ≡ a → A r → Leaves A F a b r
+pub leaves_quiet : (A : Reply → Type 0) (F : List ℕ → Type 0) (a b : Option (List ℕ)) (r : Reply) → with_text [] r ≡ r → text_of r ≡ [] → b ≡ a →
+    A r → Leaves A F a b r
 leaves_quiet A F a b r same none e h =
     whole r [] (subst A (sym same) h) (subst (λ t. Takes a b t) (sym (ap text_of same ∙ none)) (subst (λ o. Takes a o []) (sym e) (takes_nothing a)))
 
@@ -69,6 +71,7 @@ pub view_fault_inner : (f : ViewFault) → IsInner (view_fault_status f)
 view_fault_inner (view.Overflow u) = (λ e. cc, λ e. cc, λ e. cc, λ e. cc)
 view_fault_inner (view.TooManyWords w n) = (λ e. cc, λ e. cc, λ e. cc, λ e. cc)
 
-pub says : {T E : Type 0} (r : Result T E) (old new : Option (List ℕ)) (before now : ℕ) (line : List ℕ) → OnOk r (Takes old new line) → OnErr r (WrotePrefix old new line) → OnErr r (Rose before now) → Says old new before now line
+pub says : {T E : Type 0} (r : Result T E) (old new : Option (List ℕ)) (before now : ℕ) (line : List ℕ) → OnOk r (Takes old new line) →
+    OnErr r (WrotePrefix old new line) → OnErr r (Rose before now) → Says old new before now line
 says (Ok x) old new before now line t p f = inl t
 says (Err e) old new before now line t p f = inr (f, p)

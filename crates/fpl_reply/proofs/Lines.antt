@@ -21,7 +21,8 @@ pub on_ok_after : {T E : Type 0} (r : Result T E) (a b c : Option (List ℕ)) (u
 on_ok_after (Ok x) a b c u v t h = takes_more a b c u v t h
 on_ok_after (Err e) a b c u v t h = tt
 
-pub on_err_after : {T E : Type 0} (r : Result T E) (a b c : Option (List ℕ)) (u v : List ℕ) → Takes a b u → OnErr r (WrotePrefix b c v) → OnErr r (WrotePrefix a c (u ++ v))
+pub on_err_after : {T E : Type 0} (r : Result T E) (a b c : Option (List ℕ)) (u v : List ℕ) → Takes a b u → OnErr r (WrotePrefix b c v) →
+    OnErr r (WrotePrefix a c (u ++ v))
 on_err_after (Ok x) a b c u v t h = tt
 on_err_after (Err e) a b c u v t h = wrote_after a b c u v t h
 
@@ -30,21 +31,26 @@ below_other d h = let e : nat_eq d 1 ≡ false = grind arith in rw e refl
 
 texts_from : (before : List ℕ) (ps : List Piece) → fold (λ text piece. text ++ piece_text piece) before ps ≡ before ++ pieces_text ps
 texts_from before [] = sym (append-nil before)
-texts_from before (p ∷ ps) = texts_from (before ++ piece_text p) ps ∙ append_assoc before (piece_text p) (pieces_text ps) ∙ ap (λ x. before ++ x) (sym (texts_from (piece_text p) ps))
+texts_from before (p ∷ ps) = texts_from (before ++ piece_text p) ps ∙ append_assoc before (piece_text p) (pieces_text ps) ∙
+    ap (λ x. before ++ x) (sym (texts_from (piece_text p) ps))
 
 texts_more : (ps : List Piece) (i : ℕ) (d : Piece) → i < length ps → pieces_text (take (i + 1) ps) ≡ pieces_text (take i ps) ++ piece_text (get_or ps i d)
 texts_more ps i d l = ap pieces_text (take_at_read ps i d l).1 ∙ fold-append (λ text piece. text ++ piece_text piece) [] (take i ps) (get_or ps i d ∷ [])
 
 texts_split : (ps : List Piece) (n : ℕ) → pieces_text ps ≡ pieces_text (take n ps) ++ pieces_text (drop n ps)
 texts_split ps n =
-    ap pieces_text (sym (take-append-drop n ps)) ∙ fold-append (λ text piece. text ++ piece_text piece) [] (take n ps) (drop n ps) ∙ texts_from (pieces_text (take n ps)) (drop n ps)
+    ap pieces_text (sym (take-append-drop n ps)) ∙ fold-append (λ text piece. text ++ piece_text piece) [] (take n ps) (drop n ps) ∙
+    texts_from (pieces_text (take n ps)) (drop n ps)
 
 -- the pieces through one more place
-pub piece_taken : (a b c : Option (List ℕ)) (ps : List Piece) (i : ℕ) (d : Piece) → i < length ps → Takes a b (pieces_text (take i ps)) → Takes b c (piece_text (get_or ps i d)) → Takes a c (pieces_text (take (i + 1) ps))
+pub piece_taken : (a b c : Option (List ℕ)) (ps : List Piece) (i : ℕ) (d : Piece) → i < length ps → Takes a b (pieces_text (take i ps)) →
+    Takes b c (piece_text (get_or ps i d)) → Takes a c (pieces_text (take (i + 1) ps))
 piece_taken a b c ps i d l t h = rw (texts_more ps i d l) (takes_more a b c (pieces_text (take i ps)) (piece_text (get_or ps i d)) t h)
 
 -- a prefix of the piece at a place, after those before it
-pub piece_part : (a b c : Option (List ℕ)) (ps : List Piece) (i : ℕ) (d : Piece) → i < length ps → Takes a b (pieces_text (take i ps)) → WrotePrefix b c (piece_text (get_or ps i d)) → WrotePrefix a c (pieces_text ps)
+pub piece_part : (a b c : Option (List ℕ)) (ps : List Piece) (i : ℕ) (d : Piece) → i < length ps → Takes a b (pieces_text (take i ps)) →
+    WrotePrefix b c (piece_text (get_or ps i d)) → WrotePrefix a c (pieces_text ps)
 piece_part a b c ps i d l t h =
     rw (texts_split ps (i + 1), texts_more ps i d l)
-    (wrote_front a c (pieces_text (take i ps) ++ piece_text (get_or ps i d)) (pieces_text (drop (i + 1) ps)) (wrote_after a b c (pieces_text (take i ps)) (piece_text (get_or ps i d)) t h))
+    (wrote_front a c (pieces_text (take i ps) ++ piece_text (get_or ps i d)) (pieces_text (drop (i + 1) ps))
+    (wrote_after a b c (pieces_text (take i ps)) (piece_text (get_or ps i d)) t h))

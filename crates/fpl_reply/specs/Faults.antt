@@ -31,5 +31,6 @@ why_text (Remainder s c) = codes "remainder " ++ number_text c ++ codes " at sym
 why_text (Count closes rows) = decimal closes ++ codes " close steps, " ++ decimal rows ++ codes " closed rows"
 why_text (OriginCount stored found) = decimal stored ++ codes " origins stored, " ++ decimal found ++ codes " found"
 why_text RowForm = codes "row form"
-why_text (Differs s stored concluded) = codes "stored " ++ number_text stored ++ codes ", concluded " ++ number_text concluded ++ codes " at symbol " ++ decimal s
+why_text (Differs s stored concluded) = codes "stored " ++ number_text stored ++ codes ", concluded " ++ number_text concluded ++ codes " at symbol "
+    ++ decimal s
 why_text (NotClosed s) = codes "not closed at symbol " ++ decimal s

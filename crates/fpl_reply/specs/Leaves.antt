@@ -4,7 +4,8 @@
 --       whole: the text of the reply was appended
 --       part: a put failed, after a prefix of the text of a reply of A
 --       front: memory ran out, and nothing was appended, or one of F
---   IsAnswered A F result ..: the input failed; or the status is that of such a reply, and what it leaves stands in the output; and its line in the error output
+--   IsAnswered A F result ..: the input failed; or the status is that of such a reply, and what it leaves stands in the output; and its line in the error
+--     output
 use Rattle.std.specs.Prelude.{ℕ, ◌≡◌, ◌⊎◌, List}
 use Rattle.std.specs.declared.option.Option.{Option}
 use Rattle.fpl_outside.specs.Outside.{Rose, Takes}
@@ -20,7 +21,8 @@ pub data Leaves (A : Reply → Type 0) (F : List ℕ → Type 0) (old new : Opti
   part : (r : Reply) → A r → IsPut r → WrotePrefix old new (text_of r) → Leaves A F old new write_fault
   front : (new ≡ old) ⊎ ((text : List ℕ) × F text × Takes old new text) → Leaves A F old new no_memory
 
-pub record IsAnswered (A : Reply → Type 0) (F : List ℕ → Type 0) (result : Status) (out_old out_new err_old err_new : Option (List ℕ)) (before now : ℕ) : Type 0 where
+pub record IsAnswered (A : Reply → Type 0) (F : List ℕ → Type 0) (result : Status) (out_old out_new err_old err_new : Option (List ℕ))
+    (before now : ℕ) : Type 0 where
   pub reply : Reply
   pub status : status_of reply ≡ result
   pub leaves : (reply ≡ read_fault) ⊎ Leaves A F out_old out_new reply

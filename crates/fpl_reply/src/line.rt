@@ -90,8 +90,10 @@ fn put_colon<E: Sink>(err: &mut E, weight: u32, spot: Spot) -> Result<(), WriteF
 }
 
 fn put_reasoned<E: Sink>(err: &mut E, weight: u32, spot: Spot, why: Why) -> Result<(), WriteFault>
-    ensures whole { OnOk result (Takes (E.taken err.old) (E.taken err.new) (codes "bad checkpoint in weight " ++ decimal weight ++ spot_text spot ++ codes ": " ++ why_text why)) }
-    ensures part { OnErr result (WrotePrefix (E.taken err.old) (E.taken err.new) (codes "bad checkpoint in weight " ++ decimal weight ++ spot_text spot ++ codes ": " ++ why_text why)) }
+    ensures whole { OnOk result (Takes (E.taken err.old) (E.taken err.new) (codes "bad checkpoint in weight " ++ decimal weight ++ spot_text spot ++ codes ": "
+        ++ why_text why)) }
+    ensures part { OnErr result (WrotePrefix (E.taken err.old) (E.taken err.new) (codes "bad checkpoint in weight " ++ decimal weight ++ spot_text spot
+        ++ codes ": " ++ why_text why)) }
     ensures fault { OnErr result (Rose (E.faults err.old) (E.faults err.new)) }
     ensures later { E.faults err.old ≤ E.faults err.new }
 {

@@ -48,7 +48,8 @@ pub cubes_next : (T : PlainTable) (i : ℕ) → is_odd (plain_basis T i).parity 
 unfolding cubes_from
 cubes_next T i e = ap (λ xs. cond (is_three T.kind) xs []) (from_to_next (cube_at T) i (length T.basis) (λ lt. cube_none T i (λ odd _. cc)))
 
-pub cubes_found : (T : PlainTable) (i v : ℕ) → HasShape T → is_three T.kind ≡ true → 3 * v ≡ suc T.weight → through T (v - 1) ≤ i → i < through T v → i < length T.basis → is_odd (plain_basis T i).parity ≡ true →
+pub cubes_found : (T : PlainTable) (i v : ℕ) → HasShape T → is_three T.kind ≡ true → 3 * v ≡ suc T.weight → through T (v - 1) ≤ i → i < through T v →
+    i < length T.basis → is_odd (plain_basis T i).parity ≡ true →
     cubes_from T i ≡ Cube (i + 1) ∷ cubes_from T (i + 1)
 unfolding cubes_from
 cubes_found T i v shape three e low high lt odd =
@@ -59,5 +60,6 @@ cubes_found T i v shape three e low high lt odd =
 pub cubes_end : (T : PlainTable) (i v : ℕ) → HasShape T → 3 * v ≡ suc T.weight → through T v ≤ i → cubes_from T i ≡ []
 unfolding cubes_from
 cubes_end T i v shape e past =
-    ap (λ xs. cond (is_three T.kind) xs []) (from_to_none (cube_at T) i (length T.basis) (λ x l m. cube_none T x (λ _ three. let h = heavy_past T v x shape (omega arith) m in omega arith)))
+    ap (λ xs. cond (is_three T.kind) xs []) (from_to_none (cube_at T) i (length T.basis) (λ x l m. cube_none T x
+    (λ _ three. let h = heavy_past T v x shape (omega arith) m in omega arith)))
     ∙ either_none (is_three T.kind)

@@ -35,7 +35,8 @@ unfolding joined
 in_joined zero f x h = absurd (let l = h.1 in omega arith)
 in_joined (suc n) f x h = go (Contains-append_cases (joined n f) (f n) x h) (in_joined n f x)
   where
-    go : Contains (joined n f) x ⊎ Contains (f n) x → (Contains (joined n f) x → (i : ℕ) × (i < n) × Contains (f i) x) → (i : ℕ) × (i < suc n) × Contains (f i) x
+    go : Contains (joined n f) x ⊎ Contains (f n) x → (Contains (joined n f) x → (i : ℕ) × (i < n) × Contains (f i) x) →
+        (i : ℕ) × (i < suc n) × Contains (f i) x
     go (inl k) t = let r = t k in (r.0, (let l = r.1 in omega arith), r.2)
     go (inr k) t = (n, omega arith, k)
 
@@ -44,12 +45,14 @@ odd_is odd e = refl
 odd_is even e = absurd (let k : ⊥ = cc in k)
 
 module _ (T : PlainTable) (p : Presentation) where
-  here_or_later : (r : ℕ) (qs : List Equation) (o : Origin) (b : Bool) → 1 ≤ r → r ≤ length p.relations → (Contains (relations_from T (r + 1) qs) o → IsOrigin T p o) →
+  here_or_later : (r : ℕ) (qs : List Equation) (o : Origin) (b : Bool) → 1 ≤ r → r ≤ length p.relations →
+      (Contains (relations_from T (r + 1) qs) o → IsOrigin T p o) →
       Contains (cond b (Relation r ∷ []) []) o ⊎ Contains (relations_from T (r + 1) qs) o → IsOrigin T p o
   here_or_later r qs o b from to later (inl k) = subst (IsOrigin T p) (one_if b (Relation r) o k).1 (from, to)
   here_or_later r qs o b from to later (inr k) = later k
 
-  in_relations : (r : ℕ) (qs : List Equation) (o : Origin) → 1 ≤ r → r + length qs ≤ 1 + length p.relations → Contains (relations_from T r qs) o → IsOrigin T p o
+  in_relations : (r : ℕ) (qs : List Equation) (o : Origin) → 1 ≤ r → r + length qs ≤ 1 + length p.relations → Contains (relations_from T r qs) o →
+      IsOrigin T p o
   in_relations r [] o from to h = absurd (let l = h.1 in omega arith)
   in_relations r (q ∷ qs) o from to h =
       here_or_later r qs o (is_exactly (suc T.weight) (relation_weight T q)) from (omega arith) (in_relations (r + 1) qs o (omega arith) (omega arith))

@@ -61,7 +61,8 @@ unfolding onward
 onward_last f s zero = let e : s + 0 ≡ s = omega arith in append-nil (f s) ∙ ap f (sym e)
 onward_last f s (suc c) =
     let e : s + 1 + c ≡ s + suc c = omega arith in
-    ap (λ u. f s ++ u) (onward_last f (s + 1) c) ∙ sym (append_assoc (f s) (onward f (s + 1) c) (f (s + 1 + c))) ∙ ap (λ t. (f s ++ onward f (s + 1) c) ++ f t) e
+    ap (λ u. f s ++ u) (onward_last f (s + 1) c) ∙ sym (append_assoc (f s) (onward f (s + 1) c) (f (s + 1 + c))) ∙
+    ap (λ t. (f s ++ onward f (s + 1) c) ++ f t) e
 
 joined_onward : {A : Type 0} (f : ℕ → List A) (n : ℕ) → joined n f ≡ onward f 0 n
 unfolding joined onward

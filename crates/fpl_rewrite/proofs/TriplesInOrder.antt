@@ -33,7 +33,8 @@ pub firsts_all : (T : PlainTable) (i : ℕ) → firsts_from T i i i ≡ from_to 
 unfolding firsts_from
 firsts_all T i = run_all (λ later. seconds_from T later later later) i (length T.basis)
 
-pub seconds_found : (T : PlainTable) (i j k next : ℕ) (o : Origin) → j < length T.basis → thirds_from T i j k ≡ o ∷ thirds_from T i j next → seconds_from T i j k ≡ o ∷ seconds_from T i j next
+pub seconds_found : (T : PlainTable) (i j k next : ℕ) (o : Origin) → j < length T.basis → thirds_from T i j k ≡ o ∷ thirds_from T i j next →
+    seconds_from T i j k ≡ o ∷ seconds_from T i j next
 unfolding seconds_from
 seconds_found T i j k next o lt e =
     rw (when_below j (length T.basis) (thirds_from T i j k) lt, when_below j (length T.basis) (thirds_from T i j next) lt, e) refl
@@ -43,7 +44,8 @@ unfolding seconds_from
 seconds_next T i j k lt e =
     rw (when_below j (length T.basis) (thirds_from T i j k) lt, e) (sym (run_all (λ later. thirds_from T i later later) (j + 1) (length T.basis)))
 
-pub firsts_found : (T : PlainTable) (i j k first second next : ℕ) (o : Origin) → first ≡ i → i < length T.basis → seconds_from T i j k ≡ o ∷ seconds_from T first second next →
+pub firsts_found : (T : PlainTable) (i j k first second next : ℕ) (o : Origin) → first ≡ i → i < length T.basis →
+    seconds_from T i j k ≡ o ∷ seconds_from T first second next →
     firsts_from T i j k ≡ o ∷ firsts_from T first second next
 unfolding firsts_from
 firsts_found T i j k first second next o same lt e =
@@ -55,7 +57,8 @@ unfolding firsts_from
 firsts_next T i j k lt e =
     rw (when_below i (length T.basis) (seconds_from T i j k) lt, e) (sym (run_all (λ later. seconds_from T later later later) (i + 1) (length T.basis)))
 
-empty_run : {A : Type 0} (f : ℕ → List A) (xs : List A) (j n : ℕ) → (j < n → xs ≡ []) → ((x : ℕ) → j ≤ x → x < n → f x ≡ []) → cond (nat_lt j n) xs [] ++ from_to f (j + 1) n ≡ []
+empty_run : {A : Type 0} (f : ℕ → List A) (xs : List A) (j n : ℕ) → (j < n → xs ≡ []) → ((x : ℕ) → j ≤ x → x < n → f x ≡ []) →
+    cond (nat_lt j n) xs [] ++ from_to f (j + 1) n ≡ []
 empty_run f xs j n here later = by (below_or_not j n)
   where
     by : (j < n) ⊎ (n ≤ j) → cond (nat_lt j n) xs [] ++ from_to f (j + 1) n ≡ []
@@ -63,10 +66,12 @@ empty_run f xs j n here later = by (below_or_not j n)
     by (inr le) = ap (λ u. u ++ from_to f (j + 1) n) (when_not_below j n xs le) ∙ from_to_end f (j + 1) n (omega arith)
 
 -- the third is at least as heavy as the second, so this second is too heavy
-too_heavy : (T : PlainTable) (i j k h : ℕ) → HasShape T → suc T.weight < (plain_basis T i).weight + 2 * (h + 1) → h < (plain_basis T j).weight → j ≤ k → thirds_from T i j k ≡ []
+too_heavy : (T : PlainTable) (i j k h : ℕ) → HasShape T → suc T.weight < (plain_basis T i).weight + 2 * (h + 1) → h < (plain_basis T j).weight →
+    j ≤ k → thirds_from T i j k ≡ []
 too_heavy T i j k h shape bound heavy le = thirds_none T i j k (λ x l m. let up = shape.ascend j x (omega arith) m in omega arith)
 
-pub seconds_end : (T : PlainTable) (i j k h : ℕ) → HasShape T → suc T.weight < (plain_basis T i).weight + 2 * (h + 1) → through T h ≤ j → j ≤ k → seconds_from T i j k ≡ []
+pub seconds_end : (T : PlainTable) (i j k h : ℕ) → HasShape T → suc T.weight < (plain_basis T i).weight + 2 * (h + 1) → through T h ≤ j → j ≤ k →
+    seconds_from T i j k ≡ []
 unfolding seconds_from
 seconds_end T i j k h shape bound past le =
     empty_run (λ later. thirds_from T i later later) (thirds_from T i j k) j (length T.basis)
@@ -74,7 +79,8 @@ seconds_end T i j k h shape bound past le =
     (λ x l m. too_heavy T i x x h shape bound (heavy_past T h x shape (omega arith) m) (omega arith))
 
 -- the second is at least as heavy as the first
-pub first_too_heavy : (T : PlainTable) (i j k h : ℕ) → HasShape T → suc T.weight < 3 * (h + 1) → through T h ≤ i → i < length T.basis → i ≤ j → j ≤ k → seconds_from T i j k ≡ []
+pub first_too_heavy : (T : PlainTable) (i j k h : ℕ) → HasShape T → suc T.weight < 3 * (h + 1) → through T h ≤ i → i < length T.basis → i ≤ j →
+    j ≤ k → seconds_from T i j k ≡ []
 first_too_heavy T i j k h shape bound past lt le m =
     let heavy = heavy_past T h i shape past lt in
     seconds_end T i j k h shape (omega arith) (omega arith) m
@@ -107,5 +113,6 @@ seconds_whole T i =
 pub triples_are : (T : PlainTable) → triples_of T ≡ firsts_from T 0 0 0
 triples_are T =
     joined_is (λ i. joined (length T.basis) (λ j. joined (length T.basis) (triple_at T i j))) (length T.basis)
-    ∙ from_to_same (λ i. joined (length T.basis) (λ j. joined (length T.basis) (triple_at T i j))) (λ i. seconds_from T i i i) 0 (length T.basis) (λ i l m. seconds_whole T i)
+    ∙ from_to_same (λ i. joined (length T.basis) (λ j. joined (length T.basis) (triple_at T i j))) (λ i. seconds_from T i i i) 0 (length T.basis)
+    (λ i l m. seconds_whole T i)
     ∙ sym (firsts_all T 0)

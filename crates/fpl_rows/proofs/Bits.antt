@@ -25,12 +25,18 @@ bit_of words zero k l = absurd (omega arith)
 bit_of words (suc n) k l = go (ℕ_discrete k n) (bit_of words n k)
   where
     go : Dec (k ≡ n) → (k < n → get_or (bits_in words n) k false ≡ bit_in words k) → get_or (bits_in words n ++ bit_in words n ∷ []) k false ≡ bit_in words k
-    go (yes e) h = ap (λ i. get_or (bits_in words n ++ bit_in words n ∷ []) i false) (e ∙ sym (length-bits words n)) ∙ get_or-append_seam (bits_in words n) (bit_in words n) [] false ∙ ap (bit_in words) (sym e)
-    go (no d) h = get_or-append (bits_in words n) (bit_in words n ∷ []) false k (let q = length-bits words n in omega (arith, q, d, l)) ∙ h (omega (arith, d, l))
+    go (yes e) h = ap (λ i. get_or (bits_in words n ++ bit_in words n ∷ []) i false) (e ∙ sym (length-bits words n)) ∙
+        get_or-append_seam (bits_in words n) (bit_in words n) [] false ∙ ap (bit_in words) (sym e)
+    go (no d) h = get_or-append (bits_in words n) (bit_in words n ∷ []) false k (let q = length-bits words n in omega (arith, q, d, l)) ∙
+        h (omega (arith, d, l))
 
 -- where the bits are not 1 there is no mark
 pub no_bit : (words : List ℕ) (n k : ℕ) → bit_in words k ≡ false → get_or (bits_in words n) k false ≡ false
-no_bit words n k e = elim (dec_lt k n) [ yes l ↦ bit_of words n k l ∙ e | no l ↦ past (bits_in words n) false k (let q = length-bits words n in omega (arith, q, l)) ]
+no_bit words n k e = elim (dec_lt k n) [
+  | yes l ↦ bit_of words n k l ∙ e
+  | no l ↦ past (bits_in words n) false k
+      (let q = length-bits words n in omega (arith, q, l))
+]
 
 -- lists of bits are the same where each bit is
 pub bits_are : (words : List ℕ) (n : ℕ) (bs : List Bool) → length bs ≡ n → ((k : ℕ) → k < n → bit_in words k ≡ get_or bs k false) → bits_in words n ≡ bs
@@ -58,13 +64,15 @@ zero_of_zeros (suc n) zero = refl
 zero_of_zeros (suc n) (suc j) = zero_of_zeros n j
 
 pub no_bits : (m n : ℕ) → bits_in (replicate m 0) n ≡ replicate n false
-no_bits m n = bits_are (replicate m 0) n (replicate n false) (length-replicate n false) (λ k l. word_zero (replicate m 0) k (zero_of_zeros m (k / 64)) ∙ sym (one_of_all n false false k l))
+no_bits m n = bits_are (replicate m 0) n (replicate n false) (length-replicate n false) (λ k l. word_zero (replicate m 0) k (zero_of_zeros m (k / 64))
+    ∙ sym (one_of_all n false false k l))
 
 -- one bit is set
 pub bit_marked : (words : List ℕ) (n k w : ℕ) → k < n → n / 64 < length words → w ≡ get_or words (k / 64) w →
     bits_in (set words (k / 64) (bit_or w (1 * 2 ^ (k % 64) % 2 ^ 64))) n ≡ set (bits_in words n) k true
 bit_marked words n k w l room is =
-    bits_are (set words (k / 64) (bit_or w (1 * 2 ^ (k % 64) % 2 ^ 64))) n (set (bits_in words n) k true) (length-set (bits_in words n) k true ∙ length-bits words n) (λ j b. at j b (ℕ_discrete j k) (ℕ_discrete (j / 64) (k / 64)))
+    bits_are (set words (k / 64) (bit_or w (1 * 2 ^ (k % 64) % 2 ^ 64))) n (set (bits_in words n) k true)
+    (length-set (bits_in words n) k true ∙ length-bits words n) (λ j b. at j b (ℕ_discrete j k) (ℕ_discrete (j / 64) (k / 64)))
   where
     inside : k / 64 < length words
     inside = omega (arith, l, room)
@@ -83,22 +91,27 @@ bit_marked words n k w l room is =
     more : List ℕ
     more = set words (k / 64) (bit_or w (1 * 2 ^ (k % 64) % 2 ^ 64))
 
-    at : (j : ℕ) → j < n → Dec (j ≡ k) → Dec (j / 64 ≡ k / 64) → bit_in (set words (k / 64) (bit_or w (1 * 2 ^ (k % 64) % 2 ^ 64))) j ≡ get_or (set (bits_in words n) k true) j false
+    at : (j : ℕ) → j < n → Dec (j ≡ k) → Dec (j / 64 ≡ k / 64) → bit_in (set words (k / 64) (bit_or w (1 * 2 ^ (k % 64) % 2 ^ 64))) j ≡
+        get_or (set (bits_in words n) k true) j false
     at j b (yes e) d =
         ap (bit_in (set words (k / 64) (bit_or w (1 * 2 ^ (k % 64) % 2 ^ 64)))) e
-        ∙ bit_one (set words (k / 64) (bit_or w (1 * 2 ^ (k % 64) % 2 ^ 64))) k (ap (λ x. bit_at x (k % 64)) (get_or-set_same words (k / 64) (bit_or w (1 * 2 ^ (k % 64) % 2 ^ 64)) 0 inside) ∙ bit_at_set_same w64 w (k % 64) (omega arith))
+        ∙ bit_one (set words (k / 64) (bit_or w (1 * 2 ^ (k % 64) % 2 ^ 64))) k (ap (λ x. bit_at x (k % 64))
+        (get_or-set_same words (k / 64) (bit_or w (1 * 2 ^ (k % 64) % 2 ^ 64)) 0 inside) ∙ bit_at_set_same w64 w (k % 64) (omega arith))
         ∙ sym (ap (λ i. get_or (set (bits_in words n) k true) i false) e ∙ get_or-set_same (bits_in words n) k true false (omega (arith, long, l)))
     at j b (no e) (yes d) =
         ap (λ x. nat_eq x 1)
-        (ap (λ i. bit_at (get_or (set words (k / 64) (bit_or w (1 * 2 ^ (k % 64) % 2 ^ 64))) i 0) (j % 64)) d ∙ ap (λ x. bit_at x (j % 64)) (get_or-set_same words (k / 64) (bit_or w (1 * 2 ^ (k % 64) % 2 ^ 64)) 0 inside)
-        ∙ bit_at_set_other w64 w (k % 64) (omega arith) (j % 64) (λ q. e (omega (arith, d, q))) ∙ ap (λ x. bit_at x (j % 64)) (sym (ap (λ i. get_or words i 0) d ∙ same_word)))
+        (ap (λ i. bit_at (get_or (set words (k / 64) (bit_or w (1 * 2 ^ (k % 64) % 2 ^ 64))) i 0) (j % 64)) d ∙
+        ap (λ x. bit_at x (j % 64)) (get_or-set_same words (k / 64) (bit_or w (1 * 2 ^ (k % 64) % 2 ^ 64)) 0 inside)
+        ∙ bit_at_set_other w64 w (k % 64) (omega arith) (j % 64) (λ q. e (omega (arith, d, q))) ∙
+        ap (λ x. bit_at x (j % 64)) (sym (ap (λ i. get_or words i 0) d ∙ same_word)))
         ∙ sym (get_or-set_other (bits_in words n) k j true false e ∙ bit_of words n j b)
     at j b (no e) (no d) =
         ap (λ x. nat_eq (bit_at x (j % 64)) 1) (get_or-set_other words (k / 64) (j / 64) (bit_or w (1 * 2 ^ (k % 64) % 2 ^ 64)) 0 d)
         ∙ sym (get_or-set_other (bits_in words n) k j true false e ∙ bit_of words n j b)
 
 -- the top of a word
-top_of : (word i : ℕ) → ((m : ℕ) × (count_leading_zeros 64 word + m ≡ 64) × (word < 2 ^ m) × (2 ^ m ≤ 2 * word + 1)) → 64 - count_leading_zeros 64 word ≤ i → bit_at word i ≡ 0
+top_of : (word i : ℕ) → ((m : ℕ) × (count_leading_zeros 64 word + m ≡ 64) × (word < 2 ^ m) × (2 ^ m ≤ 2 * word + 1)) →
+    64 - count_leading_zeros 64 word ≤ i → bit_at word i ≡ 0
 top_of word i (m, e, below, rest) l = bit_at_above word m i below (omega (arith, e, l))
 
 pub top_none : (word i : ℕ) → word < 2 ^ 64 → 64 - count_leading_zeros 64 word ≤ i → bit_at word i ≡ 0
@@ -115,7 +128,8 @@ pub low_part : (word most i : ℕ) → most < 64 → i < most → bit_at (bit_an
 low_part word most i l m e = both_bits word (1 * 2 ^ most % 2 ^ 64 - 1) i e (ap (λ x. bit_at (x - 1) i) (power most l) ∙ bit_at_ones most i m)
 
 pub high_part : (word least i : ℕ) → least < 64 → least ≤ i → i < 64 → bit_at (bit_and word ((2 ^ 64 - 1) * 2 ^ least % 2 ^ 64)) i ≡ 0 → bit_at word i ≡ 0
-high_part word least i l m n e = both_bits word ((2 ^ 64 - 1) * 2 ^ least % 2 ^ 64) i e (ap (λ x. bit_at x i) (ones_shl 64 least (omega arith)) ∙ bit_at_mask_inside least 64 i m n)
+high_part word least i l m n e = both_bits word ((2 ^ 64 - 1) * 2 ^ least % 2 ^ 64) i e (ap (λ x. bit_at x i) (ones_shl 64 least (omega arith)) ∙
+    bit_at_mask_inside least 64 i m n)
 
 start_of : (word t i : ℕ) → (t < 64) × (bit_at word t ≡ 1) × ((i : ℕ) → i < t → bit_at word i ≡ 0) → i < t → bit_at word i ≡ 0
 start_of word t i (within, one, before) l = before i l
@@ -124,12 +138,14 @@ pub start_none : (word i : ℕ) → 0 < word → word < 2 ^ 64 → i < trailing_
 start_none word i l m k = start_of word (trailing_zeros w64 word) i (bit_at-trailing_zeros w64 word l m) k
 
 -- the bits of one word, from e up to top
-pub in_word : (words : List ℕ) (k e top j : ℕ) → 64 * k + e ≤ j → j < 64 * k + top → top ≤ 64 → ((i : ℕ) → e ≤ i → i < top → bit_at (get_or words k 0) i ≡ 0) → bit_in words j ≡ false
+pub in_word : (words : List ℕ) (k e top j : ℕ) → 64 * k + e ≤ j → j < 64 * k + top → top ≤ 64 →
+    ((i : ℕ) → e ≤ i → i < top → bit_at (get_or words k 0) i ≡ 0) → bit_in words j ≡ false
 in_word words k e top j a b c h =
     let q : j / 64 ≡ k = omega arith in
     bit_zero words j (ap (λ w. bit_at (get_or words w 0) (j % 64)) q ∙ h (j % 64) (omega (arith, q)) (omega (arith, q)))
 
-pub marked_within : (words : List ℕ) (low high at w : ℕ) → at < length words → IsWithin words low high → IsWithin (set words at w) (min low at) (max high (at + 1))
+pub marked_within : (words : List ℕ) (low high at w : ℕ) → at < length words → IsWithin words low high →
+    IsWithin (set words at w) (min low at) (max high (at + 1))
 marked_within words low high at w l h = record {
   start = (let q = length-set words at w in let s = h.start in omega (arith, q, s));
   end = (let q = length-set words at w in let s = h.end in omega (arith, q, s, l));

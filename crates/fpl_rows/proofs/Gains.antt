@@ -23,17 +23,20 @@ use Rattle.fpl_rows.proofs.SpreadSums.{axpy_place, axpy_stops, axpy_zeros}
 
 -- one number is added, where nothing is left to add up to its place
 module _ {S : Type 0} (h : S → Num) (kind : Kind) (row : List S) (rest : List Num) (c : Num) (p : ℕ) (x : S) (y : Num)
-    (inside : p < length rest) (most : length rest ≤ length row) (isx : x ≡ get_or row p x) (low : (s : ℕ) → s ≤ p → get_or rest s (residue 0) ≡ residue 0) (is_c : IsElement kind c) where
+    (inside : p < length rest) (most : length rest ≤ length row) (isx : x ≡ get_or row p x)
+    (low : (s : ℕ) → s ≤ p → get_or rest s (residue 0) ≡ residue 0) (is_c : IsElement kind c) where
   in_row : get_or (map h row) p (residue 0) ≡ h x
   in_row = number_at h row p x (residue 0) (omega (arith, inside, most)) isx
 
   passes : (z : Num) (s : ℕ) → s ≤ p → IsElement kind z → fused kind z c (get_or rest s (residue 0)) ≡ Ok z
   passes z s l is = ap (fused kind z c) (low s l) ∙ nothing_added kind z c (residue 0) is is_c (nought_element kind c is_c) refl
 
-  pub fused_step : (v : S) → Ok (h v) ≡ fused kind (h x) c y → IsElement kind (h v) → axpy_of kind (map h row) c (set rest p y) ≡ axpy_of kind (map h (set row p v)) c rest
+  pub fused_step : (v : S) → Ok (h v) ≡ fused kind (h x) c y → IsElement kind (h v) → axpy_of kind (map h row) c (set rest p y) ≡
+      axpy_of kind (map h (set row p v)) c rest
   fused_step v isv is =
       let wide = length-map row h in
-      axpy_place kind (map h row) rest c p y (h v) inside (omega (arith, wide, most)) (ap (λ w. fused kind w c y) in_row ∙ sym isv) (passes (h v) p (omega arith) is)
+      axpy_place kind (map h row) rest c p y (h v) inside (omega (arith, wide, most)) (ap (λ w. fused kind w c y) in_row ∙ sym isv)
+      (passes (h v) p (omega arith) is)
       ∙ ap (λ w. axpy_of kind w c rest) (sym (map-set h row p v))
 
   pub fused_stops : (u : Unfit) → AreElements kind (map h row) → fused kind (h x) c y ≡ Err u → axpy_of kind (map h row) c (set rest p y) ≡ Err u
@@ -44,7 +47,8 @@ module _ {S : Type 0} (h : S → Num) (kind : Kind) (row : List S) (rest : List 
       (ap (λ w. fused kind w c y) in_row ∙ e)
 
 -- the numbers at some places, from number k of the list on
-module _ {E : Type 0} (f : E → Num) (n : ℕ) (ps : List ℕ) (ys : List E) (packing : IsPacking n ps (length ys)) (k : ℕ) (y : E) (lt : k < length ps) (isy : y ≡ get_or ys k y) where
+module _ {E : Type 0} (f : E → Num) (n : ℕ) (ps : List ℕ) (ys : List E) (packing : IsPacking n ps (length ys)) (k : ℕ) (y : E) (lt : k < length ps)
+    (isy : y ≡ get_or ys k y) where
   abbrev pub after_it : List Num
   after_it = spread n (drop (suc k) ps) (drop (suc k) (map f ys))
 
@@ -95,19 +99,24 @@ hidden_all zero (y ∷ ys) l = absurd (omega arith)
 hidden_all (suc k) (y ∷ ys) l = ap (λ w. residue 0 ∷ w) (hidden_all k ys (omega (arith, l)))
 
 -- past the last number nothing is left to add
-pub none_left : (kind : Kind) (row : List Num) (c : Num) (k : ℕ) (ys : List Num) → length ys ≤ k → AreElements kind row → IsElement kind c → Ok row ≡ axpy_of kind row c (hidden k ys)
+pub none_left : (kind : Kind) (row : List Num) (c : Num) (k : ℕ) (ys : List Num) → length ys ≤ k → AreElements kind row → IsElement kind c →
+    Ok row ≡ axpy_of kind row c (hidden k ys)
 none_left kind row c k ys l all is = sym (ap (axpy_of kind row c) (hidden_all k ys l) ∙ axpy_zeros kind row c (length ys) all is)
 
 -- places past the end count as 0
-axpy_tail : (kind : Kind) (xs ys : List Num) (c : Num) (d : ℕ) → AreElements kind xs → IsElement kind c → axpy_of kind xs c (ys ++ replicate d (residue 0)) ≡ axpy_of kind xs c ys
+axpy_tail : (kind : Kind) (xs ys : List Num) (c : Num) (d : ℕ) → AreElements kind xs → IsElement kind c →
+    axpy_of kind xs c (ys ++ replicate d (residue 0)) ≡ axpy_of kind xs c ys
 axpy_tail kind [] ys c d all is = refl
 axpy_tail kind (x ∷ xs) [] c d all is = axpy_zeros kind (x ∷ xs) c d all is
-axpy_tail kind (x ∷ xs) (y ∷ ys) c d all is = ap (λ r. and_then (λ s. map_ok (λ rest. s ∷ rest) r) (fused kind x c y)) (axpy_tail kind xs ys c d (all_tail (IsElement kind) x xs all) is)
+axpy_tail kind (x ∷ xs) (y ∷ ys) c d all is = ap (λ r. and_then (λ s. map_ok (λ rest. s ∷ rest) r) (fused kind x c y))
+    (axpy_tail kind xs ys c d (all_tail (IsElement kind) x xs all) is)
 
-axpy_one_more : (kind : Kind) (xs ys : List Num) (c : Num) → AreElements kind xs → IsElement kind c → axpy_of kind xs c (ys ++ residue 0 ∷ []) ≡ axpy_of kind xs c ys
+axpy_one_more : (kind : Kind) (xs ys : List Num) (c : Num) → AreElements kind xs → IsElement kind c →
+    axpy_of kind xs c (ys ++ residue 0 ∷ []) ≡ axpy_of kind xs c ys
 axpy_one_more kind xs ys c all is = axpy_tail kind xs ys c 1 all is
 
-pub axpy_wider : (kind : Kind) (xs : List Num) (c : Num) (n d : ℕ) (ps : List ℕ) (ys : List Num) → ((k : ℕ) → k < length ps → get_or ps k 0 < n) → AreElements kind xs → IsElement kind c →
+pub axpy_wider : (kind : Kind) (xs : List Num) (c : Num) (n d : ℕ) (ps : List ℕ) (ys : List Num) → ((k : ℕ) → k < length ps → get_or ps k 0 < n) →
+    AreElements kind xs → IsElement kind c →
     axpy_of kind xs c (spread (n + d) ps ys) ≡ axpy_of kind xs c (spread n ps ys)
 axpy_wider kind xs c n zero ps ys within all is = (let e : n + 0 ≡ n = omega arith in ap (λ m. axpy_of kind xs c (spread m ps ys)) e)
 axpy_wider kind xs c n (suc d) ps ys within all is =
@@ -120,7 +129,8 @@ pub packing_wider : (n m : ℕ) (ps : List ℕ) (k : ℕ) → n ≤ m → IsPack
 packing_wider n m ps k l h = record { same = h.same; ascend = h.ascend; within = λ i b. (let w = h.within i b in omega (arith, w, l)) }
 
 -- a sum is put, and its place marked
-pub working_set : {S : Type 0} (kind : Kind) (has_room : S → Bool) (value : S → Num) (marks : List Bool) (sums : List S) (s : ℕ) (x : S) → s < length sums → has_room x ≡ true → IsElement kind (value x) →
+pub working_set : {S : Type 0} (kind : Kind) (has_room : S → Bool) (value : S → Num) (marks : List Bool) (sums : List S) (s : ℕ) (x : S) →
+    s < length sums → has_room x ≡ true → IsElement kind (value x) →
     IsWorking kind has_room value marks sums → IsWorking kind has_room value (set marks s true) (set sums s x)
 working_set kind has_room value marks sums s x l r is h = record {
   marked = marked_put value marks sums s x l h.marked;

@@ -35,8 +35,10 @@ answered y a b = chosen (is_within y.numerator && is_within y.denominator) y a b
 module _ (x : Num) (is : IsElement Rational x) where
   reduced_is : reduced x.numerator (unsigned_abs x.denominator) ≡ x
   reduced_is =
-      let g : gcd (unsigned_abs x.numerator) (unsigned_abs x.denominator) ≡ 1 = same_from_IsGcd _ _ _ 1 (gcd_is (unsigned_abs x.numerator) (unsigned_abs x.denominator)) is.0.lowest in
-      num_same (ap (divided x.numerator) g ∙ divided-one x.numerator) (ap (λ w. pos (unsigned_abs x.denominator / w)) g ∙ ap pos (div-one (unsigned_abs x.denominator)) ∙ sym (positive_is x.denominator is.0.positive))
+      let g : gcd (unsigned_abs x.numerator) (unsigned_abs x.denominator) ≡ 1 = same_from_IsGcd _ _ _ 1
+      (gcd_is (unsigned_abs x.numerator) (unsigned_abs x.denominator)) is.0.lowest in
+      num_same (ap (divided x.numerator) g ∙ divided-one x.numerator) (ap (λ w. pos (unsigned_abs x.denominator / w)) g ∙
+      ap pos (div-one (unsigned_abs x.denominator)) ∙ sym (positive_is x.denominator is.0.positive))
 
   fits_is : is_within x.numerator && is_within x.denominator ≡ true
   fits_is = true_both _ _ (within_true _ is.1.0) (within_true _ is.1.1)
@@ -57,7 +59,8 @@ module _ (x : Num) (is : IsElement Rational x) where
   shared_is = ap₂ gcd (ap unsigned_abs both_is) (one-gcd (unsigned_abs x.denominator)) ∙ gcd-one (unsigned_abs x.numerator)
 
   below_is : sum_below (residue 0) x ≡ unsigned_abs x.denominator
-  below_is = ap₂ (λ g h. (1 / g) * (unsigned_abs x.denominator / h)) (one-gcd (unsigned_abs x.denominator)) shared_is ∙ ap (λ w. 1 * w) (div-one (unsigned_abs x.denominator)) ∙ one-mul (unsigned_abs x.denominator)
+  below_is = ap₂ (λ g h. (1 / g) * (unsigned_abs x.denominator / h)) (one-gcd (unsigned_abs x.denominator)) shared_is ∙
+      ap (λ w. 1 * w) (div-one (unsigned_abs x.denominator)) ∙ one-mul (unsigned_abs x.denominator)
 
   sum_is : fraction_sum (residue 0) x ≡ x
   sum_is = num_same (ap₂ divided both_is shared_is ∙ divided-one x.numerator) (ap pos below_is ∙ sym (positive_is x.denominator is.0.positive))

@@ -100,7 +100,8 @@ impl<F: Field> Form<F> {
         requires factor { IsElement (F.kind_of field.now) (F.number c) }
         requires other { AreElements (F.kind_of field.now) (numbers_in F.number self.now) }
         ensures working { IsWorking (F.kind_of field.now) (F.has_room field.now) (F.summed field.now) marks.new sums.new }
-        ensures value { Answers (λ _. map (F.summed field.now) sums.new) result (axpy_of (F.kind_of field.now) (map (F.summed field.now) sums.old) (F.number c) (numbers_in F.number self.now)) }
+        ensures value { Answers (λ _. map (F.summed field.now) sums.new) result (axpy_of (F.kind_of field.now) (map (F.summed field.now) sums.old) (F.number c)
+            (numbers_in F.number self.now)) }
     {
         match self {
             Form::Dense(other) => gain_each(field, sums, marks, c, other),

@@ -97,7 +97,8 @@ fn axpy_at<F: Field>(
     requires factor { IsElement (F.kind_of field.now) (F.number c) }
     requires other { AreElements (F.kind_of field.now) (map F.number numbers.now) }
     ensures elements { AreElements (F.kind_of field.now) (map F.number row.new) }
-    ensures value { Answers (λ _. map F.number row.new) result (axpy_of (F.kind_of field.now) (map F.number row.old) (F.number c) (spread size places.now (map F.number numbers.now))) }
+    ensures value { Answers (λ _. map F.number row.new) result (axpy_of (F.kind_of field.now) (map F.number row.old) (F.number c)
+        (spread size places.now (map F.number numbers.now))) }
 {
     for k in 0..places.len() {
         let place = places[k] as usize;

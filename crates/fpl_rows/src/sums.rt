@@ -22,7 +22,8 @@ pub fn gain_at<F: Field>(
     requires factor { IsElement (F.kind_of field.now) (F.number c) }
     requires other { AreElements (F.kind_of field.now) (map F.number numbers.now) }
     ensures working { IsWorking (F.kind_of field.now) (F.has_room field.now) (F.summed field.now) marks.new sums.new }
-    ensures value { Answers (λ _. map (F.summed field.now) sums.new) result (axpy_of (F.kind_of field.now) (map (F.summed field.now) sums.old) (F.number c) (spread (length sums.old) places.now (map F.number numbers.now))) }
+    ensures value { Answers (λ _. map (F.summed field.now) sums.new) result (axpy_of (F.kind_of field.now) (map (F.summed field.now) sums.old) (F.number c)
+        (spread (length sums.old) places.now (map F.number numbers.now))) }
 {
     for k in 0..places.len() {
         let place = places[k] as usize;
@@ -48,7 +49,8 @@ pub fn gain_each<F: Field>(
     requires factor { IsElement (F.kind_of field.now) (F.number c) }
     requires other { AreElements (F.kind_of field.now) (map F.number other.now) }
     ensures working { IsWorking (F.kind_of field.now) (F.has_room field.now) (F.summed field.now) marks.new sums.new }
-    ensures value { Answers (λ _. map (F.summed field.now) sums.new) result (axpy_of (F.kind_of field.now) (map (F.summed field.now) sums.old) (F.number c) (map F.number other.now)) }
+    ensures value { Answers (λ _. map (F.summed field.now) sums.new) result (axpy_of (F.kind_of field.now) (map (F.summed field.now) sums.old) (F.number c)
+        (map F.number other.now)) }
 {
     for k in 0..other.len() {
         // a multiple of 0 adds nothing, and always fits

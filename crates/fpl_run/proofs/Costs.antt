@@ -32,7 +32,8 @@ costs_start c bytes s old new is rises idle most = record {
 }
 
 -- a task, told by its command
-pub costs_task : (c : Command) (s : Start) (made : Way) → way_of c.view ≡ Some made → (old new : ℕ) → (IsCounted made → new ≤ old + cost_for (task_for c made) s) →
+pub costs_task : (c : Command) (s : Start) (made : Way) → way_of c.view ≡ Some made → (old new : ℕ) →
+    (IsCounted made → new ≤ old + cost_for (task_for c made) s) →
     (way : Way) → way_of c.view ≡ Some way → IsCounted way → new ≤ old + cost_for (task_for c way) s
 costs_task c s made is old new most way also counted =
     let same : way ≡ made = ways_one (way_of c.view) way made also is in

@@ -46,7 +46,8 @@ pub ended_told : (stop : code.Stop) → IsStop {X = Stage} stop (Err ended) → 
 ended_told (told.TooMany w n) h full = let no : ended ≡ failed (too_many w n) = erred ended (failed (too_many w n)) h in cc
 ended_told (told.BadBytes b) h full = let no : ended ≡ failed (bad_bytes b) = erred ended (failed (bad_bytes b)) h in cc
 ended_told (told.BadSection w spot why) h full = let no : ended ≡ failed (bad_section w spot why) = erred ended (failed (bad_section w spot why)) h in cc
-ended_told (told.Overflow w op a b) h full = let no : ended ≡ failed (overflow w (unfit_of op a b)) = erred ended (failed (overflow w (unfit_of op a b))) h in cc
+ended_told (told.Overflow w op a b) h full = let no : ended ≡ failed (overflow w (unfit_of op a b)) =
+    erred ended (failed (overflow w (unfit_of op a b))) h in cc
 ended_told told.Ended h full = refl
 ended_told told.NoMemory h full = absurd (full refl)
 
@@ -81,10 +82,12 @@ err_weaker (Ok y) P Q f h = tt
 err_weaker (Err y) P Q f h = f y h
 
 -- a text that was put
-pub whole_leaves : (t : Task) (s : Start) (a b : Option (List ℕ)) (r : Reply) (text : List ℕ) → AnswersTask t s (done text) → Leaves (λ reply. reply ≡ done text) (λ front. ⊥) a b r →
+pub whole_leaves : (t : Task) (s : Start) (a b : Option (List ℕ)) (r : Reply) (text : List ℕ) → AnswersTask t s (done text) →
+    Leaves (λ reply. reply ≡ done text) (λ front. ⊥) a b r →
     Leaves (AnswersTask t s) (IsFront t s) a b r
 whole_leaves t s a b r text h l =
-    leaves_through (λ reply. reply ≡ done text) (AnswersTask t s) (λ front. ⊥) (IsFront t s) a b (λ x e. subst (AnswersTask t s) (sym e) h) (λ front k. absurd k) r l
+    leaves_through (λ reply. reply ≡ done text) (AnswersTask t s) (λ front. ⊥) (IsFront t s) a b (λ x e. subst (AnswersTask t s) (sym e) h)
+    (λ front k. absurd k) r l
 
 -- what comes in place of a text
 pub stops_leave : (t : Task) (s : Start) (a b : Option (List ℕ)) (r : Reply) → b ≡ a → Stops t s r → Leaves (AnswersTask t s) (IsFront t s) a b r
@@ -103,7 +106,8 @@ module _ (t : Task) (s : Start) (stop : code.Stop) (stage : Stage) (r : Reply) (
   at_memory : stop ≡ told.NoMemory → Stops t s r
   at_memory e = subst (λ x. Stops t s x) (sym (memory e)) out_of_memory
 
-  task_stopped : written_before t.way s.presentation (walk_for t s).stage.sections ≡ [] → ((walk_for t s).stop ≡ Some ended → stop ≡ told.Ended → ⊥) → HasStopped stop stage (walk_for t s) → Stops t s r
+  task_stopped : written_before t.way s.presentation (walk_for t s).stage.sections ≡ [] → ((walk_for t s).stop ≡ Some ended → stop ≡ told.Ended → ⊥) →
+      HasStopped stop stage (walk_for t s) → Stops t s r
   task_stopped quiet no_end (inl e) = at_memory e
   task_stopped quiet no_end (inr k) = elim (memory_or stop) [
     | inl e ↦ at_memory e
@@ -119,7 +123,8 @@ module _ (t : Task) (s : Start) (stop : code.Stop) (stage : Stage) (r : Reply) (
   pub show_stopped : (v : Shown) → t.way ≡ Show v → HasStopped stop stage (walk_for t s) → Stops t s r
   show_stopped v way h =
       task_stopped (ap (λ (x : Way). written_before x s.presentation (walk_for t s).stage.sections) way)
-      (λ e k. never_ends t.entries s.presentation s.stored t.limit (begun_for s) (subst (λ (x : Way). (walk_of (does_compute x) t.entries s.presentation s.stored t.limit (begun_for s)).stop ≡ Some ended) way e)) h
+      (λ e k. never_ends t.entries s.presentation s.stored t.limit (begun_for s)
+      (subst (λ (x : Way). (walk_of (does_compute x) t.entries s.presentation s.stored t.limit (begun_for s)).stop ≡ Some ended) way e)) h
 
   pub check_stopped : t.way ≡ Check → (stop ≡ told.Ended → ⊥) → HasStopped stop stage (walk_for t s) → Stops t s r
   check_stopped way going h = task_stopped (ap (λ (x : Way). written_before x s.presentation (walk_for t s).stage.sections) way) (λ e k. going k) h
@@ -135,45 +140,54 @@ module _ (t : Task) (run : PlainRun) (bytes : List ℕ) (has_begun : HasBegun ru
   pub cost_begun : cost_for t (start_from run bytes) ≡ cost_of (does_compute t.way) t.entries run.presentation (stored_in run bytes) t.limit run.stage
   cost_begun = ap (λ (x : Stage). cost_of (does_compute t.way) t.entries run.presentation (stored_in run bytes) t.limit x) (sym has_begun)
 
-  pub stops_begun : (stop : code.Stop) (stage : Stage) → HasStopped stop stage (walk_of (does_compute t.way) t.entries run.presentation (stored_in run bytes) t.limit run.stage) →
+  pub stops_begun : (stop : code.Stop) (stage : Stage) →
+      HasStopped stop stage (walk_of (does_compute t.way) t.entries run.presentation (stored_in run bytes) t.limit run.stage) →
       HasStopped stop stage (walk_for t (start_from run bytes))
   stops_begun stop stage h = subst (λ (w : Walked). HasStopped stop stage w) (sym walk_begun) h
 
   module _ (new : PlainRun) (kept : new.presentation ≡ run.presentation) where
-    module _ (v : Shown) (way : t.way ≡ Show v) (whole : walk_of (does_compute t.way) t.entries run.presentation (stored_in run bytes) t.limit run.stage ≡ ends new.stage None) where
+    module _ (v : Shown) (way : t.way ≡ Show v) (whole : walk_of (does_compute t.way) t.entries run.presentation
+        (stored_in run bytes) t.limit run.stage ≡ ends new.stage None) where
       walked : walk_for t s ≡ ends new.stage None
       walked = walk_begun ∙ whole
 
       come : HasCome t s
       come = inl (ap (λ (w : Walked). w.stop) walked)
 
-      text_there : (r : Result (List ℕ) ViewFault) → text_of_view v new.presentation new.stage.table new.stage.sections ≡ r → text_of_way t.way s t.limit (walk_for t s).stage ≡ r
+      text_there : (r : Result (List ℕ) ViewFault) → text_of_view v new.presentation new.stage.table new.stage.sections ≡ r →
+          text_of_way t.way s t.limit (walk_for t s).stage ≡ r
       text_there r e =
           ap (λ (w : Walked). text_of_way t.way s t.limit w.stage) walked ∙ ap (λ (x : Way). text_of_way x s t.limit new.stage) way
           ∙ ap (λ (p : Presentation). text_of_view v p new.stage.table new.stage.sections) (sym kept) ∙ e
 
-      pub show_text : (text : List ℕ) → text_of_view v new.presentation new.stage.table new.stage.sections ≡ Ok text → AnswersTask t (start_from run bytes) (done text)
+      pub show_text : (text : List ℕ) → text_of_view v new.presentation new.stage.table new.stage.sections ≡ Ok text →
+          AnswersTask t (start_from run bytes) (done text)
       show_text text e = shown come text (text_there (Ok text) e)
 
-      pub show_fault : (r : Reply) → (r ≡ no_memory) ⊎ ((f : ViewFault) × (r ≡ failed_in_view f) × (text_of_view v new.presentation new.stage.table new.stage.sections ≡ Err f)) → Stops t (start_from run bytes) r
+      pub show_fault : (r : Reply) → (r ≡ no_memory) ⊎ ((f : ViewFault) × (r ≡ failed_in_view f) ×
+          (text_of_view v new.presentation new.stage.table new.stage.sections ≡ Err f)) → Stops t (start_from run bytes) r
       show_fault r (inl e) = subst (λ x. Stops t s x) (sym e) out_of_memory
       show_fault r (inr h) = subst (λ x. Stops t s x) (sym h.1) (in_view h.0 (fails_in_view come h.0 (text_there (Err h.0) h.2)))
 
-    pub check_made : (o : Option Stop) → (o ≡ None) ⊎ (o ≡ Some ended) → t.way ≡ Check → walk_of (does_compute t.way) t.entries run.presentation (stored_in run bytes) t.limit run.stage ≡ ends new.stage o →
-        (text : List ℕ) → text ≡ check_text new.presentation.field t.limit new.stage.table.weight (length bytes - new.stage.place) → AnswersTask t (start_from run bytes) (done text)
+    pub check_made : (o : Option Stop) → (o ≡ None) ⊎ (o ≡ Some ended) → t.way ≡ Check → walk_of (does_compute t.way) t.entries run.presentation
+        (stored_in run bytes) t.limit run.stage ≡ ends new.stage o →
+        (text : List ℕ) → text ≡ check_text new.presentation.field t.limit new.stage.table.weight (length bytes - new.stage.place) →
+        AnswersTask t (start_from run bytes) (done text)
     check_made o over way whole text e =
         let walked : walk_for t s ≡ ends new.stage o = walk_begun ∙ whole in
         let stop : (walk_for t s).stop ≡ o = ap (λ (w : Walked). w.stop) walked in
         let come : HasCome t s = elim over [ inl n ↦ inl (stop ∙ n) | inr n ↦ inr (stop ∙ n) ] in
         let field : check_text run.presentation.field t.limit new.stage.table.weight (length bytes - new.stage.place) ≡ text =
         ap (λ (p : Presentation). check_text p.field t.limit new.stage.table.weight (length bytes - new.stage.place)) (sym kept) ∙ sym e in
-        shown come text (ap (λ (w : Walked). text_of_way t.way s t.limit w.stage) walked ∙ ap (λ (x : Way). text_of_way x s t.limit new.stage) way ∙ ap Ok field)
+        shown come text (ap (λ (w : Walked). text_of_way t.way s t.limit w.stage) walked ∙ ap (λ (x : Way). text_of_way x s t.limit new.stage) way ∙
+        ap Ok field)
 
     pub none_made : (r : Reply) → r ≡ no_memory → Stops t (start_from run bytes) r
     none_made r e = subst (λ x. Stops t s x) (sym e) out_of_memory
 
 -- what a run begins with
 pub begun_start : {E : Type 0} (b : Begin) (bytes : List ℕ) (r : Result PlainRun E) →
-    IfOk r (λ run. run ≡ record { presentation = b.presentation; version = b.version; stage = begun b.presentation b.place b.stored }) → IfOk r (λ run. start_from run bytes ≡ start_in b bytes)
+    IfOk r (λ run. run ≡ record { presentation = b.presentation; version = b.version; stage = begun b.presentation b.place b.stored }) →
+    IfOk r (λ run. start_from run bytes ≡ start_in b bytes)
 begun_start b bytes (Ok run) h = ap (λ (x : PlainRun). start_from x bytes) h
 begun_start b bytes (Err e) h = tt

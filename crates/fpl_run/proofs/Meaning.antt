@@ -53,9 +53,11 @@ head_sound : (bytes : List ℕ) (h : Head) → length bytes ≤ most_bytes → I
 head_sound bytes h short fits has =
     let text = canonical_of h.presentation in
     let parts : bytes ≡ head_bytes_of h.version h.presentation ++ drop h.end bytes = (head_taken bytes h fits has).1 in
-    let all : length bytes ≡ length (head_bytes_of h.version h.presentation) + length (drop h.end bytes) = ap length parts ∙ length-append (head_bytes_of h.version h.presentation) (drop h.end bytes) in
+    let all : length bytes ≡ length (head_bytes_of h.version h.presentation) + length (drop h.end bytes) =
+    ap length parts ∙ length-append (head_bytes_of h.version h.presentation) (drop h.end bytes) in
     let head : length (head_bytes_of h.version h.presentation) ≡ 5 + length (to_be_bytes w32 (length text) ++ text) = omega arith in
-    let rest : length (to_be_bytes w32 (length text) ++ text) ≡ length (to_be_bytes w32 (length text)) + length text = length-append (to_be_bytes w32 (length text)) text in
+    let rest : length (to_be_bytes w32 (length text) ++ text) ≡ length (to_be_bytes w32 (length text)) + length text =
+    length-append (to_be_bytes w32 (length text)) text in
     let small : length text < 2 ^ 32 = omega (arith, short, all, head, rest) in
     let same : length has.text ≡ length text = ap length has.canonical in
     presentation_sound has.text h.presentation (omega (arith, small, same)) has.reading
@@ -74,7 +76,8 @@ pub walk_standard : (words : List (List ℕ)) (c : Command) (way : Way) (bytes :
     IsStandardWalk s.presentation c.entries c.limit (walk_for (task_for c way) s)
 walk_standard words c way bytes s is fits from =
     let range = command_in_range words c is in
-    walks_are_standard (does_compute way) c.entries c.limit s.place s.has s.presentation s.stored (start_sound c bytes fits s from) range.1 range.0 (start_bytes c bytes fits s from)
+    walks_are_standard (does_compute way) c.entries c.limit s.place s.has s.presentation s.stored (start_sound c bytes fits s from) range.1 range.0
+    (start_bytes c bytes fits s from)
 
 -- what a reply says of its walk
 abbrev pub Tells : Task → Start → Reply → Type 0
@@ -93,7 +96,8 @@ task_tells t s _ (stopped_at f e) = e
 task_tells t s _ (fails_in_view come f e) = (come, e)
 task_tells t s _ (shown come text e) = (come, e)
 
-pub reply_tells : (words : List (List ℕ)) (c : Command) (way : Way) (bytes : List ℕ) (s : Start) (r : Reply) → IsCommand words c → way_of c.view ≡ Some way → IsStart c bytes s →
+pub reply_tells : (words : List (List ℕ)) (c : Command) (way : Way) (bytes : List ℕ) (s : Start) (r : Reply) → IsCommand words c →
+    way_of c.view ≡ Some way → IsStart c bytes s →
     Answers words bytes r → Tells (task_for c way) s r
 reply_tells words c way bytes s r is made from a = task_tells (task_for c way) s r (task_reply c bytes way made s from r (of_words words bytes c is r a))
 
@@ -146,14 +150,16 @@ abbrev Meaning : List (List ℕ) → Option (List ℕ) → Option (List ℕ) →
 Meaning words oo on bytes =
     (c : Command) (v : Shown) → IsCommand words c → way_of c.view ≡ Some (Show v) → (text : List ℕ) × Takes oo on text × Means c bytes v text
 
-start_of_answer : (words : List (List ℕ)) (c : Command) (v : Shown) (bytes text : List ℕ) → IsCommand words c → way_of c.view ≡ Some (Show v) → IsBytes bytes → Answers words bytes (done text) →
+start_of_answer : (words : List (List ℕ)) (c : Command) (v : Shown) (bytes text : List ℕ) → IsCommand words c → way_of c.view ≡ Some (Show v) →
+    IsBytes bytes → Answers words bytes (done text) →
     Means c bytes v text
 start_of_answer words c v bytes text is made fits a = found (started c bytes (done text) tt (of_words words bytes c is (done text) a))
   where
     found : (s : Start) × IsStart c bytes s → Means c bytes v text
     found s = meant words c v bytes s.0 text is fits s.1 (reply_tells words c (Show v) bytes s.0 (done text) is made s.1 a)
 
-done_means : (words : List (List ℕ)) (oo on : Option (List ℕ)) (bytes : List ℕ) (r : Reply) → IsBytes bytes → Leaves (Answers words bytes) (Fronts words bytes) oo on r → status_of r ≡ Done → Meaning words oo on bytes
+done_means : (words : List (List ℕ)) (oo on : Option (List ℕ)) (bytes : List ℕ) (r : Reply) → IsBytes bytes →
+    Leaves (Answers words bytes) (Fronts words bytes) oo on r → status_of r ≡ Done → Meaning words oo on bytes
 done_means words oo on bytes _ fits (whole r text a t) e = λ c v is made.
     let x = with_text text r in
     let same : x ≡ done (text_of x) = done_text x (status_shown text r ∙ e) in

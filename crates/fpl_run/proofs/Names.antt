@@ -51,7 +51,8 @@ most_is_small Sample = omega arith
 most_is_small _ = omega arith
 
 -- what the words spell, with the entries as the words after the view and the limit say them
-starts : (words : List (List ℕ)) (c : Command) → IsCommand words c → (rest : List (List ℕ)) × (words ≡ view_name c.view ∷ decimal c.limit ∷ rest) × (c.limit ≤ 1000) × IsRest rest c.entries
+starts : (words : List (List ℕ)) (c : Command) → IsCommand words c → (rest : List (List ℕ)) × (words ≡ view_name c.view ∷ decimal c.limit ∷ rest) ×
+    (c.limit ≤ 1000) × IsRest rest c.entries
 starts words c is =
     let small : c.limit ≤ 1000 = omega (arith, most_is_small c.view, is.most) in
     elim is.spelled [ inl two ↦ ([], two.0, small, inl (refl, two.1)) | inr three ↦ (decimal c.entries ∷ [], three.0, small, inr (refl, three.2)) ]

@@ -132,7 +132,8 @@ module _ (c : Command) where
     command_one _ _ (start a s is q h) (start b t also r k) = start_one t q r (subst (λ (x : Start). AnswersStart c x q) (starts_one s t is also) h) k
 
     -- the reply to a start, where the view is built
-    pub task_reply : (way : Way) → way_of c.view ≡ Some way → (s : Start) → IsStart c bytes s → (r : Reply) → AnswersCommand c bytes r → AnswersTask (task_for c way) s r
+    pub task_reply : (way : Way) → way_of c.view ≡ Some way → (s : Start) → IsStart c bytes s → (r : Reply) → AnswersCommand c bytes r →
+        AnswersTask (task_for c way) s r
     task_reply way made s is _ (unread u) = absurd (not_way (way_of c.view) way (ap way_of u) made)
     task_reply way made s is _ (no_start u r h) = absurd (start_or_none s r is h)
     task_reply way made s is _ (start u t also r h) = built_task way made s r (subst (λ (x : Start). AnswersStart c x r) (starts_one t s also is) h)
@@ -165,7 +166,8 @@ unbuilt_reply : (c : Command) (s : Start) → way_of c.view ≡ None → (r : Re
 unbuilt_reply c s e _ (not_built_yet k) = refl
 unbuilt_reply c s e _ (built way k r a) = absurd (not_way (way_of c.view) way e k)
 
-pub unbuilt_command : (c : Command) (bytes : List ℕ) (s : Start) → way_of c.view ≡ None → IsStart c bytes s → (r : Reply) → AnswersCommand c bytes r → r ≡ not_built
+pub unbuilt_command : (c : Command) (bytes : List ℕ) (s : Start) → way_of c.view ≡ None → IsStart c bytes s → (r : Reply) → AnswersCommand c bytes r →
+    r ≡ not_built
 unbuilt_command c bytes s e is _ (unread u) = refl
 unbuilt_command c bytes s e is _ (no_start u r h) = absurd (start_or_none c bytes s r is h)
 unbuilt_command c bytes s e is _ (start u t also r h) = unbuilt_reply c t e r h
@@ -179,4 +181,5 @@ pub one_reply : OneReply
 one_reply words bytes _ _ (no_command a) (no_command b) = refl
 one_reply words bytes _ _ (no_command a) (command c is s b) = absurd (a c is)
 one_reply words bytes _ _ (command c is r a) (no_command b) = absurd (b c is)
-one_reply words bytes _ _ (command c is r a) (command d is' s b) = command_one d bytes r s (subst (λ (x : Command). AnswersCommand x bytes r) (one_command words c d is is') a) b
+one_reply words bytes _ _ (command c is r a) (command d is' s b) =
+    command_one d bytes r s (subst (λ (x : Command). AnswersCommand x bytes r) (one_command words c d is is') a) b

@@ -44,10 +44,12 @@ computes Write other = refl
 computes Check other = absurd (other refl)
 
 -- a view that computes has one text of one table and its sections, whatever was stored
-text_same : (way : Way) → does_compute way ≡ true → (s t : Start) (limit : ℕ) (g h : Stage) → s.presentation ≡ t.presentation → g.table ≡ h.table → g.sections ≡ h.sections →
+text_same : (way : Way) → does_compute way ≡ true → (s t : Start) (limit : ℕ) (g h : Stage) → s.presentation ≡ t.presentation → g.table ≡ h.table →
+    g.sections ≡ h.sections →
     text_of_way way s limit g ≡ text_of_way way t limit h
 text_same (Show v) c s t limit g h p e f =
-    ap (λ (x : Presentation). text_of_view v x g.table g.sections) p ∙ ap (λ (x : PlainTable). text_of_view v t.presentation x g.sections) e ∙ ap (λ (x : List Section). text_of_view v t.presentation h.table x) f
+    ap (λ (x : Presentation). text_of_view v x g.table g.sections) p ∙ ap (λ (x : PlainTable). text_of_view v t.presentation x g.sections) e ∙
+    ap (λ (x : List Section). text_of_view v t.presentation h.table x) f
 text_same Write c s t limit g h p e f = ap₂ (λ x y. Ok (stream_text x y)) p f
 text_same Check c s t limit g h p e f = cc
 
@@ -82,16 +84,20 @@ module _ (c : Command) (p : Presentation) (bytes : List ℕ) (own : IsCheckpoint
     come_too (inl e) = inl (sym same_walks.stop ∙ e)
     come_too (inr e) = inr (sym same_walks.stop ∙ e)
 
-    text_too : text_of_way way (of_head bytes h) c.limit (walk_for t (of_head bytes h)).stage ≡ text_of_way way (of_text p) c.limit (walk_for t (of_text p)).stage
-    text_too = text_same way goes (of_head bytes h) (of_text p) c.limit (walk_for t (of_head bytes h)).stage (walk_for t (of_text p)).stage (held h has) same_walks.table same_walks.sections
+    text_too : text_of_way way (of_head bytes h) c.limit (walk_for t (of_head bytes h)).stage ≡
+        text_of_way way (of_text p) c.limit (walk_for t (of_text p)).stage
+    text_too = text_same way goes (of_head bytes h) (of_text p) c.limit (walk_for t (of_head bytes h)).stage (walk_for t (of_text p)).stage
+        (held h has) same_walks.table same_walks.sections
 
     alone : (r : Reply) → AnswersTask t (of_head bytes h) r → AnswersTask t (of_text p) r
     alone _ (stopped_at f e) =
-        subst (λ (x : List ℕ). AnswersTask t (of_text p) (stopped x f)) (ap₂ (written_before way) (sym (held h has)) (sym same_walks.sections)) (stopped_at f (sym same_walks.stop ∙ e))
+        subst (λ (x : List ℕ). AnswersTask t (of_text p) (stopped x f)) (ap₂ (written_before way) (sym (held h has)) (sym same_walks.sections))
+        (stopped_at f (sym same_walks.stop ∙ e))
     alone _ (fails_in_view come f e) = fails_in_view (come_too come) f (sym text_too ∙ e)
     alone _ (shown come text e) = shown (come_too come) text (sym text_too ∙ e)
 
-  alone_start : (way_of c.view ≡ Some Check → ⊥) → (h : Head) → HasHead bytes h → (r : Reply) → AnswersStart c (of_head bytes h) r → AnswersStart c (of_text p) r
+  alone_start : (way_of c.view ≡ Some Check → ⊥) → (h : Head) → HasHead bytes h → (r : Reply) → AnswersStart c (of_head bytes h) r →
+      AnswersStart c (of_text p) r
   alone_start other h has _ (not_built_yet e) = not_built_yet e
   alone_start other h has _ (built way e r a) = built way e r (alone way (computes way (λ k. other (e ∙ ap Some k))) h has r a)
 

@@ -42,7 +42,8 @@ module _ (c : Command) (p : Presentation) (end : ℕ) where
   abbrev sections : List Section
   sections = (walk_for (task_for c Write) (of_text p)).stage.sections
 
-  task_writes : IsStreamOf p (take end (stream_text p sections)) → (r : Reply) → AnswersTask (task_for c Write) (of_text p) r → IsStreamOf p (take end (text_of r))
+  task_writes : IsStreamOf p (take end (stream_text p sections)) → (r : Reply) → AnswersTask (task_for c Write) (of_text p) r →
+      IsStreamOf p (take end (text_of r))
   task_writes kept _ (stopped_at f e) = kept
   task_writes kept _ (fails_in_view come f e) = cc
   task_writes kept _ (shown come text e) = subst (λ x. IsStreamOf p (take end x)) (texts_same (stream_text p sections) text e) kept
@@ -58,5 +59,6 @@ checkpoints_are_own words c p text r end is made short said a long =
     let canonical : length (canonical_of p) < 2 ^ 32 = omega (arith, short, canonical_short text p said) in
     let sound : IsSound p = presentation_sound text p (omega (arith, short)) said in
     let kept : IsStreamOf p (take end (stream_text p (sections c p end))) =
-    subst (λ x. IsStreamOf p (take end x)) (sym (written_is p (sections c p end))) (runs_write_streams p c.entries c.limit end sound canonical range.1 range.0 long) in
+    subst (λ x. IsStreamOf p (take end x)) (sym (written_is p (sections c p end)))
+    (runs_write_streams p c.entries c.limit end sound canonical range.1 range.0 long) in
     task_writes c p end kept r (task_reply c text Write made (of_text p) (from_text short (plain c p text made said) p said) r (of_words words text c is r a))

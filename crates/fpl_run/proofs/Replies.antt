@@ -57,13 +57,15 @@ passed_input (Some bs) (Some rest) max P h f =
 pub start_through : (c : Command) (s : Start) (way : Way) → way_of c.view ≡ Some way → (a b : Option (List ℕ)) (r : Reply) →
     Leaves (AnswersTask (task_for c way) s) (IsFront (task_for c way) s) a b r → Leaves (AnswersStart c s) (FrontsStart c s) a b r
 start_through c s way is a b r h =
-    leaves_through (AnswersTask (task_for c way) s) (AnswersStart c s) (IsFront (task_for c way) s) (FrontsStart c s) a b (λ x k. built way is x k) (λ text f. (way, is, f)) r h
+    leaves_through (AnswersTask (task_for c way) s) (AnswersStart c s) (IsFront (task_for c way) s) (FrontsStart c s) a b (λ x k. built way is x k)
+    (λ text f. (way, is, f)) r h
 
 -- what was read, told by its bytes
 pub command_through : (c : Command) (bytes : List ℕ) (s : Start) → (IsUnread c.view → ⊥) → IsStart c bytes s → (a b : Option (List ℕ)) (r : Reply) →
     Leaves (AnswersStart c s) (FrontsStart c s) a b r → Leaves (AnswersCommand c bytes) (FrontsCommand c bytes) a b r
 command_through c bytes s now is a b r h =
-    leaves_through (AnswersStart c s) (AnswersCommand c bytes) (FrontsStart c s) (FrontsCommand c bytes) a b (λ x k. start now s is x k) (λ text f. (s, is, f)) r h
+    leaves_through (AnswersStart c s) (AnswersCommand c bytes) (FrontsStart c s) (FrontsCommand c bytes) a b (λ x k. start now s is x k)
+    (λ text f. (s, is, f)) r h
 
 -- no reply to what is read of an input
 module _ (c : Command) (bytes : List ℕ) where
@@ -87,7 +89,8 @@ module _ (c : Command) (bytes : List ℕ) where
   command_inner _ (no_start u r h) = no_start_inner r h
   command_inner _ (start u s is r h) = start_inner s r h
 
-  pub ended_inner : (F : List ℕ → Type 0) (oo on : Option (List ℕ)) (r : Reply) → Leaves (AnswersCommand c bytes) F oo on r → (status_of r ≡ ReadFault → ⊥) × (status_of r ≡ Usage → ⊥)
+  pub ended_inner : (F : List ℕ → Type 0) (oo on : Option (List ℕ)) (r : Reply) → Leaves (AnswersCommand c bytes) F oo on r →
+      (status_of r ≡ ReadFault → ⊥) × (status_of r ≡ Usage → ⊥)
   ended_inner F oo on _ (whole r text h t) =
       let inner : IsInner (status_of r) = subst IsInner (status_shown text r) (command_inner (with_text text r) h) in
       (inner.0, inner.1)
@@ -101,7 +104,8 @@ module _ (c : Command) (bytes : List ℕ) where
   fault_may_put v (overflow w u) e = e
 
   -- where nothing may be put, there is no text
-  task_quiet : (s : Start) (way : Way) → way_of c.view ≡ Some way → (r : Reply) → AnswersTask (task_for c way) s r → (MayPut c.view (status_of r) → ⊥) → text_of r ≡ []
+  task_quiet : (s : Start) (way : Way) → way_of c.view ≡ Some way → (r : Reply) → AnswersTask (task_for c way) s r →
+      (MayPut c.view (status_of r) → ⊥) → text_of r ≡ []
   task_quiet s (Show v) is _ (stopped_at f e) never = refl
   task_quiet s Write is _ (stopped_at f e) never = absurd (never (fault_may_put c.view f is))
   task_quiet s Check is _ (stopped_at f e) never = refl
@@ -123,7 +127,8 @@ module _ (c : Command) (bytes : List ℕ) where
   command_quiet _ (no_start u r h) never = no_start_quiet r h
   command_quiet _ (start u s is r h) never = start_quiet s r h never
 
-  pub quiet_output : (oo on : Option (List ℕ)) (r : Reply) → Leaves (AnswersCommand c bytes) (FrontsCommand c bytes) oo on r → (MayPut c.view (status_of r) → ⊥) → on ≡ oo
+  pub quiet_output : (oo on : Option (List ℕ)) (r : Reply) → Leaves (AnswersCommand c bytes) (FrontsCommand c bytes) oo on r →
+      (MayPut c.view (status_of r) → ⊥) → on ≡ oo
   quiet_output oo on _ (whole r text h t) never =
       let none : text_of (with_text text r) ≡ [] = command_quiet (with_text text r) h (λ m. never (subst (MayPut c.view) (status_shown text r) m)) in
       none_taken oo on (subst (λ x. Takes oo on x) none t)
@@ -136,11 +141,13 @@ module _ (c : Command) (bytes : List ℕ) where
       absurd (never (is ∙ ap Some way))
 
 pub command_reply : (words : List (List ℕ)) (c : Command) → IsCommand words c → (left oo on : Option (List ℕ)) (r : Reply) →
-    IfSome left (λ bytes. (r ≡ read_fault) ⊎ Leaves (AnswersCommand c bytes) (FrontsCommand c bytes) oo on r) → IfSome left (λ bytes. (r ≡ read_fault) ⊎ Leaves (Answers words bytes) (Fronts words bytes) oo on r)
+    IfSome left (λ bytes. (r ≡ read_fault) ⊎ Leaves (AnswersCommand c bytes) (FrontsCommand c bytes) oo on r) →
+    IfSome left (λ bytes. (r ≡ read_fault) ⊎ Leaves (Answers words bytes) (Fronts words bytes) oo on r)
 command_reply words c is None oo on r h = tt
 command_reply words c is (Some bytes) oo on r (inl e) = inl e
 command_reply words c is (Some bytes) oo on r (inr h) =
-    inr (leaves_through (AnswersCommand c bytes) (Answers words bytes) (FrontsCommand c bytes) (Fronts words bytes) oo on (λ x a. command c is x a) (λ text f. (c, is, f)) r h)
+    inr (leaves_through (AnswersCommand c bytes) (Answers words bytes) (FrontsCommand c bytes) (Fronts words bytes) oo on (λ x a. command c is x a)
+    (λ text f. (c, is, f)) r h)
 
 pub answered : (words : List (List ℕ)) (left oo on eo en : Option (List ℕ)) (before now : ℕ) (r : Reply) →
     IfSome left (λ bytes. (r ≡ read_fault) ⊎ Leaves (Answers words bytes) (Fronts words bytes) oo on r) → Says eo en before now (line_of r) →

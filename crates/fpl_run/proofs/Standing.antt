@@ -45,10 +45,12 @@ faults_mean words c way bytes s text fault is made fits from a =
     let w = walk_for (task_for c way) s in
     let stop : w.stop ≡ Some (failed fault) = reply_tells words c way bytes s (stopped text fault) is made from a in
     if_some (StopMeans (does_compute way) c.entries c.limit s.presentation s.stored w.stage) w.stop (failed fault) stop
-    (stops_mean (does_compute way) c.entries c.limit s.place s.has s.presentation s.stored (start_sound c bytes fits s from) range.1 range.0 (start_bytes c bytes fits s from))
+    (stops_mean (does_compute way) c.entries c.limit s.place s.has s.presentation s.stored (start_sound c bytes fits s from) range.1 range.0
+    (start_bytes c bytes fits s from))
 
 -- a task whose walk a fault stops
-stopped_task : (t : Task) (s : Start) (fault : Fault) → (walk_for t s).stop ≡ Some (failed fault) → (r : Reply) → AnswersTask t s r → (text : List ℕ) × (r ≡ stopped text fault)
+stopped_task : (t : Task) (s : Start) (fault : Fault) → (walk_for t s).stop ≡ Some (failed fault) → (r : Reply) → AnswersTask t s r →
+    (text : List ℕ) × (r ≡ stopped text fault)
 stopped_task t s f e _ (stopped_at g k) =
     let same : failed g ≡ failed f = stops_one (failed g) (failed f) (walk_for t s).stop k e in
     let faults : g ≡ f = cc in
@@ -60,14 +62,16 @@ pub limit_comes : LimitComes
 limit_comes words c way bytes s w count r is made fits from passes below a =
     let range = command_in_range words c is in
     stopped_task (task_for c way) s (too_many w count)
-    (there.too_many_stops (does_compute way) c.entries c.limit s.place s.has s.presentation s.stored w count (start_sound c bytes fits s from) range.1 range.0 (start_bytes c bytes fits s from) passes below)
+    (there.too_many_stops (does_compute way) c.entries c.limit s.place s.has s.presentation s.stored w count
+    (start_sound c bytes fits s from) range.1 range.0 (start_bytes c bytes fits s from) passes below)
     r (task_reply c bytes way made s from r (of_words words bytes c is r a))
 
 pub faults_come : FaultsCome
 faults_come words c way bytes s w fault r is made fits from one last below holds a =
     let range = command_in_range words c is in
     stopped_task (task_for c way) s fault
-    (there.stops_there_too (does_compute way) c.entries c.limit s.place s.has s.presentation s.stored w (failed fault) (start_sound c bytes fits s from) range.1 range.0 (start_bytes c bytes fits s from) one last below holds)
+    (there.stops_there_too (does_compute way) c.entries c.limit s.place s.has s.presentation s.stored w (failed fault)
+    (start_sound c bytes fits s from) range.1 range.0 (start_bytes c bytes fits s from) one last below holds)
     r (task_reply c bytes way made s from r (of_words words bytes c is r a))
 
 pub primes_fit : PrimesFit
@@ -77,12 +81,15 @@ primes_fit n words c bytes s text w u is fits from prime a = go (way_of c.view) 
     range = command_in_range words c is
 
     go : (o : Option Way) → way_of c.view ≡ o → ⊥
-    go None e = let no : stopped text (overflow w u) ≡ not_built = unbuilt_command c bytes s e from (stopped text (overflow w u)) (of_words words bytes c is (stopped text (overflow w u)) a) in cc
+    go None e = let no : stopped text (overflow w u) ≡ not_built = unbuilt_command c bytes s e from (stopped text (overflow w u))
+        (of_words words bytes c is (stopped text (overflow w u)) a) in cc
     go (Some way) e =
-        there.primes_fit n (does_compute way) c.entries c.limit s.place s.has s.presentation s.stored w u (start_sound c bytes fits s from) range.1 range.0 (start_bytes c bytes fits s from) prime
+        there.primes_fit n (does_compute way) c.entries c.limit s.place s.has s.presentation s.stored w u
+        (start_sound c bytes fits s from) range.1 range.0 (start_bytes c bytes fits s from) prime
         (reply_tells words c way bytes s (stopped text (overflow w u)) is e from a)
 
-one_shown : (v : Shown) (p q : Presentation) (T S : PlainTable) (ss rr : List Section) (text also : List ℕ) → text_of_view v p T ss ≡ Ok text → text_of_view v q S rr ≡ Ok also → text_of_view v p T ss ≡ text_of_view v q S rr → text ≡ also
+one_shown : (v : Shown) (p q : Presentation) (T S : PlainTable) (ss rr : List Section) (text also : List ℕ) → text_of_view v p T ss ≡ Ok text →
+    text_of_view v q S rr ≡ Ok also → text_of_view v p T ss ≡ text_of_view v q S rr → text ≡ also
 one_shown v p q T S ss rr text also e k same = let both : ◌≡◌ {A = Result (List ℕ) ViewFault} (Ok text) (Ok also) = sym e ∙ same ∙ k in cc
 
 pub one_text : OneText
@@ -95,9 +102,12 @@ one_text words c v bytes more s t text also is made of_table fits fits_too from 
     let over : (walk_of true c.entries s.presentation t.stored c.limit (begun s.presentation t.place t.has)).stop ≡ None =
     subst (λ (p : Presentation). (walk_of true c.entries p t.stored c.limit (begun p t.place t.has)).stop ≡ None) (sym same) (shown_through c v t told_too.0) in
     let tables : x.stage.table ≡ (walk_of true c.entries s.presentation t.stored c.limit (begun s.presentation t.place t.has)).stage.table =
-    there.one_table true true c.entries c.entries c.limit s.place t.place s.has t.has s.presentation s.stored t.stored (start_sound c bytes fits s from) range.1 range.1 range.0
+    there.one_table true true c.entries c.entries c.limit s.place t.place s.has t.has s.presentation s.stored t.stored
+    (start_sound c bytes fits s from) range.1 range.1 range.0
     (start_bytes c bytes fits s from) (start_bytes c more fits_too t from_too) (shown_through c v s told.0) over in
-    let table : x.stage.table ≡ y.stage.table = tables ∙ ap (λ (p : Presentation). (walk_of true c.entries p t.stored c.limit (begun p t.place t.has)).stage.table) same in
+    let table : x.stage.table ≡ y.stage.table =
+    tables ∙ ap (λ (p : Presentation). (walk_of true c.entries p t.stored c.limit (begun p t.place t.has)).stage.table) same in
     one_shown v s.presentation t.presentation x.stage.table y.stage.table x.stage.sections y.stage.sections text also told.1 told_too.1
-    (ap (λ (p : Presentation). text_of_view v p x.stage.table x.stage.sections) same ∙ ap (λ (T : PlainTable). text_of_view v t.presentation T x.stage.sections) table
+    (ap (λ (p : Presentation). text_of_view v p x.stage.table x.stage.sections) same ∙
+    ap (λ (T : PlainTable). text_of_view v t.presentation T x.stage.sections) table
     ∙ texts_of_tables v of_table t.presentation y.stage.table x.stage.sections y.stage.sections)

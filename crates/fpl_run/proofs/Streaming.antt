@@ -45,7 +45,8 @@ abbrev pub LeavesStream : Presentation → Walked → Option (List ℕ) → Opti
 LeavesStream p w a b r = Leaves (IsStreamed p w) (IsCutShort p w) a b r
 
 -- a checkpoint computes what isn't stored
-pub goes_on : (way : Way) → way ≡ Write → (e : ℕ) (p : Presentation) (at : Stored) (n : ℕ) (stage : Stage) → (walk_of (does_compute way) e p at n stage).stop ≡ Some ended → ⊥
+pub goes_on : (way : Way) → way ≡ Write → (e : ℕ) (p : Presentation) (at : Stored) (n : ℕ) (stage : Stage) →
+    (walk_of (does_compute way) e p at n stage).stop ≡ Some ended → ⊥
 goes_on way is e p at n stage h = never_ends e p at n stage (subst (λ (x : Way). (walk_of (does_compute x) e p at n stage).stop ≡ Some ended) is h)
 
 -- a walk that stops, and not at the end of what is stored
@@ -79,8 +80,10 @@ module _ (p : Presentation) (w : Walked) (going : w.stop ≡ Some ended → ⊥)
   head_cut cut.NoMemory h = front (inl h)
   head_cut cut.WriteFault h = part_streamed [] all refl (head_part p a b h)
 
-  pub stop_streamed : (stop : code.Stop) (stage : Stage) (r : Reply) (rest : List Section) → all ≡ stage.sections ++ rest → Takes a b (stream_text p stage.sections) → HasStopped stop stage w →
-      (stop ≡ told.NoMemory → r ≡ no_memory) → ((f : Fault) → IsStop {X = Stage} stop (Err (failed f)) → (stop ≡ told.NoMemory → ⊥) → r ≡ stopped [] f) → LeavesStream p w a b r
+  pub stop_streamed : (stop : code.Stop) (stage : Stage) (r : Reply) (rest : List Section) → all ≡ stage.sections ++ rest →
+      Takes a b (stream_text p stage.sections) → HasStopped stop stage w →
+      (stop ≡ told.NoMemory → r ≡ no_memory) → ((f : Fault) → IsStop {X = Stage} stop (Err (failed f)) → (stop ≡ told.NoMemory → ⊥) →
+      r ≡ stopped [] f) → LeavesStream p w a b r
   stop_streamed stop stage r rest e t h memory known = elim (memory_or stop) [
     | inl n ↦ subst (λ x. LeavesStream p w a b x) (sym (memory n)) (front_streamed stage.sections rest e t)
     | inr full ↦ go full h
@@ -90,7 +93,8 @@ module _ (p : Presentation) (w : Walked) (going : w.stop ≡ Some ended → ⊥)
       at full ended same k = absurd (going (ap (λ (v : Walked). v.stop) same))
       at full (failed f) same k =
           let here : stream_text p stage.sections ≡ stream_text p all = ap (λ (v : Walked). stream_text p v.stage.sections) (sym same) in
-          subst (λ x. LeavesStream p w a b x) (sym (known f k full)) (whole (stopped [] f) (stream_text p all) (to_a_fault f (ap (λ (v : Walked). v.stop) same)) (subst (λ x. Takes a b x) here t))
+          subst (λ x. LeavesStream p w a b x) (sym (known f k full)) (whole (stopped [] f) (stream_text p all)
+          (to_a_fault f (ap (λ (v : Walked). v.stop) same)) (subst (λ x. Takes a b x) here t))
 
       go : (stop ≡ told.NoMemory → ⊥) → HasStopped stop stage w → LeavesStream p w a b r
       go full (inl n) = absurd (full n)
@@ -102,7 +106,8 @@ module _ (p : Presentation) (w : Walked) (going : w.stop ≡ Some ended → ⊥)
       whole (done []) (stream_text p all) (to_the_limit (ap (λ (v : Walked). v.stop) same)) (subst (λ x. Takes a b x) here t)
 
 -- memory ran out, or a put failed, at a section after others
-pub section_cut : (p : Presentation) (w : Walked) (going : w.stop ≡ Some ended → ⊥) (a b c : Option (List ℕ)) (ss : List Section) (s : Section) (rest : List Section) → w.stage.sections ≡ (ss ++ s ∷ []) ++ rest →
+pub section_cut : (p : Presentation) (w : Walked) (going : w.stop ≡ Some ended → ⊥) (a b c : Option (List ℕ)) (ss : List Section) (s : Section)
+    (rest : List Section) → w.stage.sections ≡ (ss ++ s ∷ []) ++ rest →
     Takes a b (stream_text p ss) → (x : Cut) → IsCut (section_bytes_of Two p.field s) b c x → LeavesStream p w a c (cut_reply x)
 section_cut p w going a b c ss s rest e t cut.NoMemory h =
     front_streamed p w going a c ss (s ∷ rest) (e ∙ append_assoc ss (s ∷ []) rest) (subst (λ o. Takes a o (stream_text p ss)) (sym h) t)
@@ -118,18 +123,21 @@ module _ (t : Task) (s : Start) (w : Walked) (way : t.way ≡ Write) (same : w �
   streamed_task _ (to_a_fault f e) =
       let stop : (walk_for t s).stop ≡ Some (failed f) = ap (λ (v : Walked). v.stop) (sym same) ∙ e in
       let text : written_before t.way s.presentation (walk_for t s).stage.sections ≡ stream_text s.presentation w.stage.sections =
-      ap (λ (x : Way). written_before x s.presentation (walk_for t s).stage.sections) way ∙ ap (λ (v : Walked). stream_text s.presentation v.stage.sections) (sym same) in
+      ap (λ (x : Way). written_before x s.presentation (walk_for t s).stage.sections) way ∙
+      ap (λ (v : Walked). stream_text s.presentation v.stage.sections) (sym same) in
       subst (λ x. AnswersTask t s (stopped x f)) text (stopped_at f stop)
 
   pub cut_task : (text : List ℕ) → IsCutShort s.presentation w text → IsFront t s text
   cut_task text h = (way, h.0, h.1 ∙ ap (λ (v : Walked). stream_text s.presentation (take h.0 v.stage.sections)) same)
 
   pub stream_leaves : (a b : Option (List ℕ)) (r : Reply) → LeavesStream s.presentation w a b r → Leaves (AnswersTask t s) (IsFront t s) a b r
-  stream_leaves a b r h = leaves_through (IsStreamed s.presentation w) (AnswersTask t s) (IsCutShort s.presentation w) (IsFront t s) a b streamed_task cut_task r h
+  stream_leaves a b r h = leaves_through (IsStreamed s.presentation w) (AnswersTask t s) (IsCutShort s.presentation w)
+      (IsFront t s) a b streamed_task cut_task r h
 
 -- a run that has just begun
 pub run_leaves : (t : Task) (run : PlainRun) (bytes : List ℕ) → t.way ≡ Write → HasBegun run → (a b : Option (List ℕ)) (r : Reply) →
     LeavesStream run.presentation (walk_of (does_compute t.way) t.entries run.presentation (stored_in run bytes) t.limit run.stage) a b r →
     Leaves (AnswersTask t (start_from run bytes)) (IsFront t (start_from run bytes)) a b r
 run_leaves t run bytes way begun a b r h =
-    stream_leaves t (start_from run bytes) (walk_of (does_compute t.way) t.entries run.presentation (stored_in run bytes) t.limit run.stage) way (sym (walk_begun t run bytes begun)) a b r h
+    stream_leaves t (start_from run bytes) (walk_of (does_compute t.way) t.entries run.presentation (stored_in run bytes) t.limit run.stage) way
+    (sym (walk_begun t run bytes begun)) a b r h

@@ -29,7 +29,8 @@ module _ (p : Presentation) where
 
   stream_on : (ss rest : List Section) → stream_text p (ss ++ rest) ≡ stream_text p ss ++ flat_map bytes_of rest
   unfolding stream_text
-  stream_on ss rest = ap (λ x. head_bytes_of VERSION p ++ x) (flat_map-append bytes_of ss rest) ∙ sym (append_assoc (head_bytes_of VERSION p) (flat_map bytes_of ss) (flat_map bytes_of rest))
+  stream_on ss rest = ap (λ x. head_bytes_of VERSION p ++ x) (flat_map-append bytes_of ss rest) ∙
+      sym (append_assoc (head_bytes_of VERSION p) (flat_map bytes_of ss) (flat_map bytes_of rest))
 
   -- it begins with the mark
   pub stream_put : (ss : List Section) → stream_text p ss ≡ [] → ⊥
@@ -45,7 +46,8 @@ module _ (p : Presentation) where
     head_taken ss e t = subst (λ x. Takes a b x) (sym (ap (stream_text p) e ∙ stream_none)) t
 
     pub part_within : (ss rest all : List Section) → all ≡ ss ++ rest → WrotePrefix a b (stream_text p ss) → WrotePrefix a b (stream_text p all)
-    part_within ss rest all e t = subst (λ x. WrotePrefix a b x) (sym (ap (stream_text p) e ∙ stream_on ss rest)) (wrote_front a b (stream_text p ss) (flat_map bytes_of rest) t)
+    part_within ss rest all e t = subst (λ x. WrotePrefix a b x) (sym (ap (stream_text p) e ∙ stream_on ss rest))
+        (wrote_front a b (stream_text p ss) (flat_map bytes_of rest) t)
 
     pub head_part : WrotePrefix a b (head_bytes_of VERSION p) → WrotePrefix a b (stream_text p [])
     head_part t = subst (λ x. WrotePrefix a b x) (sym stream_none) t

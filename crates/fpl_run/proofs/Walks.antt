@@ -88,27 +88,33 @@ module _ (p : Presentation) (stage : Stage) where
     step_grows c e =
         let count = count_through stage.table (next_weight stage) in
         either (Grows stage) (nat_lt e count) (Err (failed (too_many (next_weight stage) count))) (weighed c p at stage) tt
-        (either (Grows stage) stage.stored (framed c p at stage (frame_of at.bytes stage.place (next_weight stage))) (computed c p stage) (framed_grows c (frame_of at.bytes stage.place (next_weight stage))) (computed_grows c))
+        (either (Grows stage) stage.stored (framed c p at stage (frame_of at.bytes stage.place (next_weight stage))) (computed c p stage)
+        (framed_grows c (frame_of at.bytes stage.place (next_weight stage))) (computed_grows c))
 
     step_goes : (e : ℕ) → Goes (step_of true e p at stage)
     step_goes e =
         let count = count_through stage.table (next_weight stage) in
         either Goes (nat_lt e count) (Err (failed (too_many (next_weight stage) count))) (weighed true p at stage) tt
-        (either Goes stage.stored (framed true p at stage (frame_of at.bytes stage.place (next_weight stage))) (computed true p stage) (framed_goes (frame_of at.bytes stage.place (next_weight stage))) (computed_as_goes (close_weight stage.table p)))
+        (either Goes stage.stored (framed true p at stage (frame_of at.bytes stage.place (next_weight stage))) (computed true p stage)
+        (framed_goes (frame_of at.bytes stage.place (next_weight stage))) (computed_as_goes (close_weight stage.table p)))
 
-grown : (stage next : Stage) (r : Result Stage Stop) → r ≡ Ok next → Grows stage r → (next.table.weight ≡ suc stage.table.weight) × ((s : Section) × (next.sections ≡ stage.sections ++ s ∷ []))
+grown : (stage next : Stage) (r : Result Stage Stop) → r ≡ Ok next → Grows stage r → (next.table.weight ≡ suc stage.table.weight) ×
+    ((s : Section) × (next.sections ≡ stage.sections ++ s ∷ []))
 grown stage next (Ok x) e g =
     let same : x ≡ next = cc in
     (ap (λ (s : Stage). s.table.weight) (sym same) ∙ g.0, (g.1.0, ap (λ (s : Stage). s.sections) (sym same) ∙ g.1.1))
 grown stage next (Err s) e g = cc
 
-pub step_raises : (c : Bool) (e : ℕ) (p : Presentation) (at : Stored) (stage next : Stage) → step_of c e p at stage ≡ Ok next → next.table.weight ≡ suc stage.table.weight
+pub step_raises : (c : Bool) (e : ℕ) (p : Presentation) (at : Stored) (stage next : Stage) → step_of c e p at stage ≡ Ok next →
+    next.table.weight ≡ suc stage.table.weight
 step_raises c e p at stage next h = (grown stage next (step_of c e p at stage) h (step_grows p stage at c e)).0
 
-pub step_adds : (c : Bool) (e : ℕ) (p : Presentation) (at : Stored) (stage next : Stage) → step_of c e p at stage ≡ Ok next → (s : Section) × (next.sections ≡ stage.sections ++ s ∷ [])
+pub step_adds : (c : Bool) (e : ℕ) (p : Presentation) (at : Stored) (stage next : Stage) → step_of c e p at stage ≡ Ok next →
+    (s : Section) × (next.sections ≡ stage.sections ++ s ∷ [])
 step_adds c e p at stage next h = (grown stage next (step_of c e p at stage) h (step_grows p stage at c e)).1
 
-keeps_on : (further : Stage → Walked) (stage : Stage) → ((next : Stage) → (rest : List Section) × ((further next).stage.sections ≡ next.sections ++ rest)) → (r : Result Stage Stop) → Grows stage r →
+keeps_on : (further : Stage → Walked) (stage : Stage) →
+    ((next : Stage) → (rest : List Section) × ((further next).stage.sections ≡ next.sections ++ rest)) → (r : Result Stage Stop) → Grows stage r →
     (rest : List Section) × ((walk_on further stage r).stage.sections ≡ stage.sections ++ rest)
 keeps_on further stage again (Ok next) g =
     let on = again next in
@@ -116,18 +122,22 @@ keeps_on further stage again (Ok next) g =
 keeps_on further stage again (Err s) g = ([], sym (append-nil stage.sections))
 
 -- a walk keeps the sections that it begins with
-pub walk_keeps : (c : Bool) (e : ℕ) (p : Presentation) (at : Stored) (n : ℕ) (stage : Stage) → (rest : List Section) × ((walk_of c e p at n stage).stage.sections ≡ stage.sections ++ rest)
+pub walk_keeps : (c : Bool) (e : ℕ) (p : Presentation) (at : Stored) (n : ℕ) (stage : Stage) →
+    (rest : List Section) × ((walk_of c e p at n stage).stage.sections ≡ stage.sections ++ rest)
 walk_keeps c e p at zero stage = ([], sym (append-nil stage.sections))
-walk_keeps c e p at (suc n) stage = keeps_on (walk_of c e p at n) stage (λ next. walk_keeps c e p at n next) (step_of c e p at stage) (step_grows p stage at c e)
+walk_keeps c e p at (suc n) stage = keeps_on (walk_of c e p at n) stage (λ next. walk_keeps c e p at n next) (step_of c e p at stage)
+    (step_grows p stage at c e)
 
-ends_on : (further : Stage → Walked) (stage : Stage) → ((next : Stage) → (further next).stop ≡ Some ended → ⊥) → (r : Result Stage Stop) → Goes r → (walk_on further stage r).stop ≡ Some ended → ⊥
+ends_on : (further : Stage → Walked) (stage : Stage) → ((next : Stage) → (further next).stop ≡ Some ended → ⊥) → (r : Result Stage Stop) → Goes r →
+    (walk_on further stage r).stop ≡ Some ended → ⊥
 ends_on further stage again (Ok next) g h = again next h
 ends_on further stage again (Err (failed f)) g h = cc
 ends_on further stage again (Err ended) g h = g
 
 pub never_ends : (e : ℕ) (p : Presentation) (at : Stored) (n : ℕ) (stage : Stage) → (walk_of true e p at n stage).stop ≡ Some ended → ⊥
 never_ends e p at zero stage h = cc
-never_ends e p at (suc n) stage h = ends_on (walk_of true e p at n) stage (λ next. never_ends e p at n next) (step_of true e p at stage) (step_goes p stage at e) h
+never_ends e p at (suc n) stage h = ends_on (walk_of true e p at n) stage (λ next. never_ends e p at n next) (step_of true e p at stage)
+    (step_goes p stage at e) h
 
 -- what a loop through the weights keeps: the walk that is left, and its cost
 module _ (c : Bool) (e : ℕ) (p : Presentation) (at : Stored) (limit : ℕ) where
@@ -145,11 +155,14 @@ module _ (c : Bool) (e : ℕ) (p : Presentation) (at : Stored) (limit : ℕ) whe
       cost_of c e p at (limit - stage.table.weight) stage ≡ step_cost c e p at stage + cost_of c e p at (limit - next.table.weight) next
   cost_left stage next l h =
       let up = step_raises c e p at stage next h in
-      ap (λ n. cost_of c e p at n stage) (left_of stage.table.weight l) ∙ ap (λ r. step_cost c e p at stage + cost_on (cost_of c e p at (limit - suc stage.table.weight)) r) h
+      ap (λ n. cost_of c e p at n stage) (left_of stage.table.weight l) ∙ ap (λ r. step_cost c e p at stage +
+      cost_on (cost_of c e p at (limit - suc stage.table.weight)) r) h
       ∙ ap (λ n. step_cost c e p at stage + cost_of c e p at (limit - n) next) (sym up)
 
-  pub walk_stops : (stage : Stage) (s : Stop) → stage.table.weight < limit → step_of c e p at stage ≡ Err s → walk_of c e p at (limit - stage.table.weight) stage ≡ stopped stage (Some s)
-  walk_stops stage s l h = ap (λ n. walk_of c e p at n stage) (left_of stage.table.weight l) ∙ ap (walk_on (walk_of c e p at (limit - suc stage.table.weight)) stage) h
+  pub walk_stops : (stage : Stage) (s : Stop) → stage.table.weight < limit → step_of c e p at stage ≡ Err s →
+      walk_of c e p at (limit - stage.table.weight) stage ≡ stopped stage (Some s)
+  walk_stops stage s l h = ap (λ n. walk_of c e p at n stage) (left_of stage.table.weight l) ∙
+      ap (walk_on (walk_of c e p at (limit - suc stage.table.weight)) stage) h
 
   pub cost_stops : (stage : Stage) → stage.table.weight < limit → step_cost c e p at stage ≤ cost_of c e p at (limit - stage.table.weight) stage
   cost_stops stage l =
@@ -160,7 +173,8 @@ module _ (c : Bool) (e : ℕ) (p : Presentation) (at : Stored) (limit : ℕ) whe
   walk_over stage l = let none : limit - stage.table.weight ≡ 0 = omega arith in ap (λ n. walk_of c e p at n stage) none
 
 -- what a stop tells
-pub stop_known : (stop : code.Stop) (r : Result Stage Stop) → IsStop stop r → (stop ≡ told.NoMemory) ⊎ ((s : Stop) × (r ≡ Err s) × IsStop {X = Stage} stop (Err s))
+pub stop_known : (stop : code.Stop) (r : Result Stage Stop) → IsStop stop r → (stop ≡ told.NoMemory) ⊎
+    ((s : Stop) × (r ≡ Err s) × IsStop {X = Stage} stop (Err s))
 stop_known (told.TooMany w n) r h = inr (failed (too_many w n), h, refl)
 stop_known (told.BadBytes b) r h = inr (failed (bad_bytes b), h, refl)
 stop_known (told.BadSection w spot why) r h = inr (failed (bad_section w spot why), h, refl)
@@ -176,13 +190,16 @@ pub stored_as : (r s : PlainRun) (bytes : List ℕ) → r.version ≡ s.version 
 unfolding stored_at
 stored_as r s bytes e = ap (λ v. stored_at v bytes) e
 
-pub step_as : (c d : Bool) (e : ℕ) (p q : Presentation) (at bt : Stored) (stage : Stage) → d ≡ c → q ≡ p → bt ≡ at → step_of c e p at stage ≡ step_of d e q bt stage
+pub step_as : (c d : Bool) (e : ℕ) (p q : Presentation) (at bt : Stored) (stage : Stage) → d ≡ c → q ≡ p → bt ≡ at →
+    step_of c e p at stage ≡ step_of d e q bt stage
 step_as c d e p q at bt stage x y z = rw (x, y, z) refl
 
-pub cost_as : (c d : Bool) (e : ℕ) (p q : Presentation) (at bt : Stored) (stage : Stage) → d ≡ c → q ≡ p → bt ≡ at → step_cost c e p at stage ≡ step_cost d e q bt stage
+pub cost_as : (c d : Bool) (e : ℕ) (p q : Presentation) (at bt : Stored) (stage : Stage) → d ≡ c → q ≡ p → bt ≡ at →
+    step_cost c e p at stage ≡ step_cost d e q bt stage
 cost_as c d e p q at bt stage x y z = rw (x, y, z) refl
 
-pub stopped_at : (c : Bool) (e : ℕ) (p : Presentation) (at : Stored) (limit : ℕ) (stage left : Stage) (stop : code.Stop) (whole : Walked) → left ≡ stage → whole ≡ walk_of c e p at (limit - stage.table.weight) stage →
+pub stopped_at : (c : Bool) (e : ℕ) (p : Presentation) (at : Stored) (limit : ℕ) (stage left : Stage) (stop : code.Stop) (whole : Walked) →
+    left ≡ stage → whole ≡ walk_of c e p at (limit - stage.table.weight) stage →
     stage.table.weight < limit → IsStop stop (step_of c e p at stage) → HasStopped stop left whole
 stopped_at c e p at limit stage left stop whole same is low h = go (stop_known stop (step_of c e p at stage) h)
   where

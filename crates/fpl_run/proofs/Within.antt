@@ -60,7 +60,8 @@ module _ (words : List (List ℕ)) (bytes : List ℕ) (h : IsWithinLimits words 
   come = subst (λ (b : Bool). (walk b).stop ≡ None) (sym h.computes) goes_on
 
   standard : IsStandardWalk h.presentation h.command.entries h.command.limit (walk_for t s)
-  standard = walks_are_standard (does_compute h.way) h.command.entries h.command.limit 0 false h.presentation s.stored (input_sound h.input) range.1 range.0 no_bytes
+  standard = walks_are_standard (does_compute h.way) h.command.entries h.command.limit 0 false h.presentation s.stored
+      (input_sound h.input) range.1 range.0 no_bytes
 
   table : IsTableOf h.presentation h.command.limit (walk_for t s).stage.table
   table = subst (λ n. IsTableOf h.presentation n (walk_for t s).stage.table) (standard.whole come) standard.table

@@ -1,7 +1,8 @@
 -- The reply to words and the bytes of an input. At each step exactly one of the cases holds.
 --   text_of_way way s limit stage: the text of a view over the last stage of its walk, or a fault of its own: the text of the table; the checkpoint; or how
 --   many sections passed a check, and how many bytes stand after them
---   written_before way p sections: what a view has written when a fault stops its walk: a checkpoint the head and the sections of the weights below, others nothing
+--   written_before way p sections: what a view has written when a fault stops its walk: a checkpoint the head and the sections of the weights below, others
+--     nothing
 --   AnswersTask t s: a fault stops the walk at a weight; or it comes to its end, and the view has a fault of its own; or a text
 --   AnswersStart c s: the view isn't built yet; or it is, and has the reply of its task
 --   AnswersCommand c bytes: the view reads no input, and isn't built; the bytes are nothing for the command; or they are a start
@@ -37,7 +38,8 @@ written_before Write p sections = stream_text p sections
 written_before Check p sections = []
 
 pub data AnswersTask (t : Task) (s : Start) : Reply → Type 0 where
-  stopped_at : (fault : Fault) → (walk_for t s).stop ≡ Some (failed fault) → AnswersTask t s (stopped (written_before t.way s.presentation (walk_for t s).stage.sections) fault)
+  stopped_at : (fault : Fault) → (walk_for t s).stop ≡ Some (failed fault) → AnswersTask t s
+      (stopped (written_before t.way s.presentation (walk_for t s).stage.sections) fault)
   fails_in_view : HasCome t s → (fault : ViewFault) → text_of_way t.way s t.limit (walk_for t s).stage ≡ Err fault → AnswersTask t s (failed_in_view fault)
   shown : HasCome t s → (text : List ℕ) → text_of_way t.way s t.limit (walk_for t s).stage ≡ Ok text → AnswersTask t s (done text)
 

@@ -5,4 +5,5 @@ use Rattle.fpl_spelling.specs.Spelling.{field_text}
 
 abbrev pub check_text : Kind → (limit sections rest : ℕ) → List ℕ
 check_text field limit sections rest =
-    codes "check " ++ field_text field ++ codes " through " ++ decimal limit ++ codes "\nsections " ++ decimal sections ++ codes "\nrest " ++ decimal rest ++ codes "\nend\n"
+    codes "check " ++ field_text field ++ codes " through " ++ decimal limit ++ codes "\nsections " ++ decimal sections ++ codes "\nrest " ++
+    decimal rest ++ codes "\nend\n"

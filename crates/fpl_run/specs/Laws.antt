@@ -1,7 +1,8 @@
 -- What the replies obey. The words spell the command c, and the bytes of an input are bytes.
 --   OneReply: words and the bytes of an input have at most one reply
 --   OneText: inputs with one presentation, whoever made the checkpoints among them, have one text of a view that is of the table alone
---   WalksAreStandard: the table of a walk is the standard table of the presentation that was read, through the weight that the walk has come to, and its symbols
+--   WalksAreStandard: the table of a walk is the standard table of the presentation that was read, through the weight that the walk has come to, and its
+--     symbols
 --   stay within the entries
 --   PrimesFit: over a prime no reply is that an operation doesn't fit, whatever is stored
 --   StopsMean: what a fault says over the standard table that the walk had come to
@@ -51,7 +52,8 @@ OneReply = (words : List (List ℕ)) (bytes : List ℕ) (r s : Reply) → Answer
 
 abbrev pub OneText : Type 0
 OneText =
-    (words : List (List ℕ)) (c : Command) (v : Shown) (bytes more : List ℕ) (s t : Start) (text also : List ℕ) → IsCommand words c → way_of c.view ≡ Some (Show v) → IsOfTable v →
+    (words : List (List ℕ)) (c : Command) (v : Shown) (bytes more : List ℕ) (s t : Start) (text also : List ℕ) → IsCommand words c →
+    way_of c.view ≡ Some (Show v) → IsOfTable v →
     IsBytes bytes → IsBytes more → IsStart c bytes s → IsStart c more t → s.presentation ≡ t.presentation →
     Answers words bytes (done text) → Answers words more (done also) → text ≡ also
 
@@ -62,24 +64,29 @@ WalksAreStandard =
 
 abbrev pub PrimesFit : Type 0
 PrimesFit =
-    (n : ℕ) (words : List (List ℕ)) (c : Command) (bytes : List ℕ) (s : Start) (text : List ℕ) (w : ℕ) (u : Unfit) → IsCommand words c → IsBytes bytes → IsStart c bytes s →
+    (n : ℕ) (words : List (List ℕ)) (c : Command) (bytes : List ℕ) (s : Start) (text : List ℕ) (w : ℕ) (u : Unfit) → IsCommand words c →
+    IsBytes bytes → IsStart c bytes s →
     s.presentation.field ≡ Prime n → Answers words bytes (stopped text (overflow w u)) → ⊥
 
 abbrev pub StopsMean : Type 0
 StopsMean =
-    (words : List (List ℕ)) (c : Command) (way : Way) (bytes : List ℕ) (s : Start) (text : List ℕ) (fault : Fault) → IsCommand words c → way_of c.view ≡ Some way →
+    (words : List (List ℕ)) (c : Command) (way : Way) (bytes : List ℕ) (s : Start) (text : List ℕ) (fault : Fault) → IsCommand words c →
+    way_of c.view ≡ Some way →
     IsBytes bytes → IsStart c bytes s → Answers words bytes (stopped text fault) →
     FaultMeans (does_compute way) c.entries c.limit s.presentation s.stored (walk_for (task_for c way) s).stage fault
 
 abbrev pub LimitComes : Type 0
 LimitComes =
-    (words : List (List ℕ)) (c : Command) (way : Way) (bytes : List ℕ) (s : Start) (w count : ℕ) (r : Reply) → IsCommand words c → way_of c.view ≡ Some way → IsBytes bytes →
-    IsStart c bytes s → PassesAt s.presentation c.limit c.entries w count → (walk_for (record { way = way; limit = w - 1; entries = c.entries }) s).stop ≡ None →
+    (words : List (List ℕ)) (c : Command) (way : Way) (bytes : List ℕ) (s : Start) (w count : ℕ) (r : Reply) → IsCommand words c →
+    way_of c.view ≡ Some way → IsBytes bytes →
+    IsStart c bytes s → PassesAt s.presentation c.limit c.entries w count →
+    (walk_for (record { way = way; limit = w - 1; entries = c.entries }) s).stop ≡ None →
     Answers words bytes r → (text : List ℕ) × (r ≡ stopped text (too_many w count))
 
 abbrev pub FaultsCome : Type 0
 FaultsCome =
-    (words : List (List ℕ)) (c : Command) (way : Way) (bytes : List ℕ) (s : Start) (w : ℕ) (fault : Fault) (r : Reply) → IsCommand words c → way_of c.view ≡ Some way →
+    (words : List (List ℕ)) (c : Command) (way : Way) (bytes : List ℕ) (s : Start) (w : ℕ) (fault : Fault) (r : Reply) → IsCommand words c →
+    way_of c.view ≡ Some way →
     IsBytes bytes → IsStart c bytes s → 1 ≤ w → w ≤ c.limit →
     let below = walk_for (record { way = way; limit = w - 1; entries = c.entries }) s in
     below.stop ≡ None → FaultMeans (does_compute way) c.entries c.limit s.presentation s.stored below.stage fault →
@@ -94,11 +101,13 @@ pub record IsOwnReply (c : Command) (p : Presentation) (r : Reply) : Type 0 wher
 
 abbrev pub OwnCheckpoints : Type 0
 OwnCheckpoints =
-    (words : List (List ℕ)) (c : Command) (p : Presentation) (bytes : List ℕ) (r : Reply) → IsCommand words c → IsCheckpointOf p bytes → Answers words bytes r → IsOwnReply c p r
+    (words : List (List ℕ)) (c : Command) (p : Presentation) (bytes : List ℕ) (r : Reply) → IsCommand words c → IsCheckpointOf p bytes →
+    Answers words bytes r → IsOwnReply c p r
 
 abbrev pub CheckpointsAreOwn : Type 0
 CheckpointsAreOwn =
-    (words : List (List ℕ)) (c : Command) (p : Presentation) (text : List ℕ) (r : Reply) (end : ℕ) → IsCommand words c → way_of c.view ≡ Some Write → length text ≤ most_text →
+    (words : List (List ℕ)) (c : Command) (p : Presentation) (text : List ℕ) (r : Reply) (end : ℕ) → IsCommand words c → way_of c.view ≡ Some Write →
+    length text ≤ most_text →
     HasPresentation text p → Answers words text r → length (head_bytes_of VERSION p) ≤ end → IsStreamOf p (take end (text_of r))
 
 pub data IsInput (p : Presentation) (bytes : List ℕ) : Type 0 where
@@ -115,7 +124,8 @@ pub record IsWithinLimits (words : List (List ℕ)) (bytes : List ℕ) : Type 0 
   pub input : IsInput presentation bytes
   pub within : IsWithin presentation command.limit command.entries
   pub fits : presentation.field ≡ Rational → (w : ℕ) → 1 ≤ w → w ≤ command.limit → FitsAt presentation w
-  pub shows : (v : Shown) → way ≡ Show v → (T : PlainTable) (sections : List Section) (fault : ViewFault) → IsTableOf presentation command.limit T → IsRaised presentation T →
+  pub shows : (v : Shown) → way ≡ Show v → (T : PlainTable) (sections : List Section) (fault : ViewFault) → IsTableOf presentation command.limit T →
+      IsRaised presentation T →
       text_of_view v presentation T sections ≡ Err fault → ⊥
 
 abbrev pub WithinLimits : Type 0

@@ -44,5 +44,6 @@ pub data IsStart (c : Command) (bytes : List ℕ) : Start → Type 0 where
 pub data IsNoStart (c : Command) (bytes : List ℕ) : Reply → Type 0 where
   input_too_long : most_bytes < length bytes → IsNoStart c bytes (refused most_bytes too_long)
   text_too_long : length bytes ≤ most_bytes → (IsCheckpoint c bytes → ⊥) → most_text < length bytes → IsNoStart c bytes (refused most_text too_long)
-  no_presentation : length bytes ≤ most_text → (IsCheckpoint c bytes → ⊥) → (place : ℕ) (reason : Reason) → IsRefused bytes place reason → IsNoStart c bytes (refused place (reason_text reason))
+  no_presentation : length bytes ≤ most_text → (IsCheckpoint c bytes → ⊥) → (place : ℕ) (reason : Reason) → IsRefused bytes place reason →
+      IsNoStart c bytes (refused place (reason_text reason))
   no_head : length bytes ≤ most_bytes → IsCheckpoint c bytes → (b : BadBytes) → IsBadHead bytes b → IsNoStart c bytes (stopped [] (bad_bytes b))

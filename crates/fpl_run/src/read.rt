@@ -148,7 +148,8 @@ pub(crate) fn answer_command<I: Source, O: Sink, L: Ledger>(
 ) -> Outcome
     requires range { IsInRange c.limit c.entries }
     ensures command { status_of (reply_of result) ≢ Status.Usage }
-    ensures reply { IfSome (I.left input.old) (λ bytes. (reply_of result ≡ read_fault) ⊎ Leaves (AnswersCommand c bytes) (FrontsCommand c bytes) (O.taken out.old) (O.taken out.new) (reply_of result)) }
+    ensures reply { IfSome (I.left input.old) (λ bytes. (reply_of result ≡ read_fault) ⊎ Leaves (AnswersCommand c bytes) (FrontsCommand c bytes)
+        (O.taken out.old) (O.taken out.new) (reply_of result)) }
     ensures fault { status_of (reply_of result) ≡ Status.WriteFault → Rose (O.faults out.old) (O.faults out.new) }
     ensures cost { IfSome (I.left input.old) (λ bytes. CostsAtMost c bytes steps.old steps.new) }
     ensures nothing { (MayPut c.view (status_of (reply_of result)) → ⊥) → O.taken out.new ≡ O.taken out.old }

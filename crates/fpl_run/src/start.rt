@@ -53,8 +53,10 @@ fn walk<F: Field, L: Ledger>(
     requires start { run.old.stage.table.weight ≡ 0 }
     requires version { (run.old.version ≡ 1) ⊎ (run.old.version ≡ 2) }
     ensures presentation { run.new.presentation ≡ run.old.presentation }
-    ensures whole { OnOk result (walk_of (does_compute task.way) task.entries run.old.presentation (stored_in run.old bytes.now) task.limit run.old.stage ≡ plain.stopped run.new.stage None) }
-    ensures stop { IfErr result (λ stop. HasStopped stop run.new.stage (walk_of (does_compute task.way) task.entries run.old.presentation (stored_in run.old bytes.now) task.limit run.old.stage)) }
+    ensures whole { OnOk result (walk_of (does_compute task.way) task.entries run.old.presentation (stored_in run.old bytes.now) task.limit run.old.stage
+        ≡ plain.stopped run.new.stage None) }
+    ensures stop { IfErr result (λ stop. HasStopped stop run.new.stage (walk_of (does_compute task.way) task.entries run.old.presentation
+        (stored_in run.old bytes.now) task.limit run.old.stage)) }
     ensures rises { steps.old ≤ steps.new }
     ensures cost { steps.new ≤ steps.old + cost_of (does_compute task.way) task.entries run.old.presentation (stored_in run.old bytes.now) task.limit run.old.stage }
 {
@@ -97,7 +99,8 @@ fn shown_text<F: Field, L: Ledger>(
     steps: &mut Steps<L>,
 ) -> Result<Vec<u8>, Outcome>
     ensures text { IfOk result (λ text. text_of_view shown run.now.presentation run.now.stage.table run.now.stage.sections ≡ Ok text.items) }
-    ensures fault { IfErr result (λ outcome. (reply_of outcome ≡ no_memory) ⊎ ((fault : ViewFault) × (reply_of outcome ≡ failed_in_view fault) × (text_of_view shown run.now.presentation run.now.stage.table run.now.stage.sections ≡ Err fault))) }
+    ensures fault { IfErr result (λ outcome. (reply_of outcome ≡ no_memory) ⊎ ((fault : ViewFault) × (reply_of outcome ≡ failed_in_view fault)
+        × (text_of_view shown run.now.presentation run.now.stage.table run.now.stage.sections ≡ Err fault))) }
     ensures rises { steps.old ≤ steps.new }
     ensures idle { IsCounted (Way.Show shown) → steps.new ≡ steps.old }
 {
@@ -190,7 +193,9 @@ fn check_through<F: Field, L: Ledger>(
 // Puts a text that was made.
 fn put_made<O: Sink>(out: &mut O, made: Result<Vec<u8>, Outcome>) -> Outcome
     requires { IfErr made (λ outcome. status_of (reply_of outcome) ≡ Status.WriteFault → ⊥) }
-    ensures reply { (task : Task) (s : Start) → IfOk made (λ text. AnswersTask task s (done text.items)) → IfErr made (λ outcome. Stops task s (reply_of outcome)) → Leaves (AnswersTask task s) (IsFront task s) (O.taken out.old) (O.taken out.new) (reply_of result) }
+    ensures reply { (task : Task) (s : Start) → IfOk made (λ text. AnswersTask task s (done text.items)) →
+        IfErr made (λ outcome. Stops task s (reply_of outcome)) → Leaves (AnswersTask task s) (IsFront task s) (O.taken out.old)
+        (O.taken out.new) (reply_of result) }
     ensures fault { status_of (reply_of result) ≡ Status.WriteFault → Rose (O.faults out.old) (O.faults out.new) }
 {
     match made {
@@ -211,7 +216,8 @@ fn through<F: Field, O: Sink, L: Ledger>(
     requires begun { HasBegun run.old }
     requires version { (run.old.version ≡ 1) ⊎ (run.old.version ≡ 2) }
     requires short { length (canonical_of run.old.presentation) < 2 ^ 32 }
-    ensures reply { Leaves (AnswersTask task (start_from run.old bytes.now)) (IsFront task (start_from run.old bytes.now)) (O.taken out.old) (O.taken out.new) (reply_of result) }
+    ensures reply { Leaves (AnswersTask task (start_from run.old bytes.now)) (IsFront task (start_from run.old bytes.now)) (O.taken out.old) (O.taken out.new)
+        (reply_of result) }
     ensures fault { status_of (reply_of result) ≡ Status.WriteFault → Rose (O.faults out.old) (O.faults out.new) }
     ensures rises { steps.old ≤ steps.new }
     ensures cost { IsCounted task.way → steps.new ≤ steps.old + cost_for task (start_from run.old bytes.now) }
@@ -227,7 +233,12 @@ fn through<F: Field, O: Sink, L: Ledger>(
 fn begin_run<F: Field>(alloc: Global, field: F, begin: Begin) -> Result<Run<F>, AllocError>
     requires kind { F.kind_of field ≡ begin.presentation.field }
     requires sound { IsSound begin.presentation }
-    ensures { IfOk result (λ run. run ≡ record { presentation = begin.presentation; version = begin.version; stage = begun_at begin.presentation begin.place begin.stored }) }
+    ensures { IfOk result (λ run. run ≡ record {
+      presentation = begin.presentation;
+      version = begin.version;
+      stage = begun_at begin.presentation
+          begin.place begin.stored;
+    }) }
 {
     Run::start(
         alloc,
@@ -252,7 +263,8 @@ fn run_through<F: Field, O: Sink, L: Ledger>(
     requires begun { IfOk begun HasBegun }
     requires version { IfOk begun (λ run. (run.version ≡ 1) ⊎ (run.version ≡ 2)) }
     requires short { IfOk begun (λ run. length (canonical_of run.presentation) < 2 ^ 32) }
-    ensures reply { (s : Start) → IfOk begun (λ run. start_from run bytes.now ≡ s) → Leaves (AnswersTask task s) (IsFront task s) (O.taken out.old) (O.taken out.new) (reply_of result) }
+    ensures reply { (s : Start) → IfOk begun (λ run. start_from run bytes.now ≡ s) → Leaves (AnswersTask task s) (IsFront task s) (O.taken out.old)
+        (O.taken out.new) (reply_of result) }
     ensures fault { status_of (reply_of result) ≡ Status.WriteFault → Rose (O.faults out.old) (O.faults out.new) }
     ensures rises { steps.old ≤ steps.new }
     ensures cost { (s : Start) → IfOk begun (λ run. start_from run bytes.now ≡ s) → IsCounted task.way → steps.new ≤ steps.old + cost_for task s }

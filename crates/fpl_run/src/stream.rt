@@ -37,7 +37,8 @@ pub(crate) fn stream<F: Field, O: Sink, L: Ledger>(
     requires begun { HasBegun run.old }
     requires version { (run.old.version ≡ 1) ⊎ (run.old.version ≡ 2) }
     requires short { length (canonical_of run.old.presentation) < 2 ^ 32 }
-    ensures reply { Leaves (AnswersTask task (start_from run.old bytes.now)) (IsFront task (start_from run.old bytes.now)) (O.taken out.old) (O.taken out.new) (reply_of result) }
+    ensures reply { Leaves (AnswersTask task (start_from run.old bytes.now)) (IsFront task (start_from run.old bytes.now)) (O.taken out.old) (O.taken out.new)
+        (reply_of result) }
     ensures fault { status_of (reply_of result) ≡ Status.WriteFault → Rose (O.faults out.old) (O.faults out.new) }
     ensures rises { steps.old ≤ steps.new }
     ensures cost { steps.new ≤ steps.old + cost_for task (start_from run.old bytes.now) }

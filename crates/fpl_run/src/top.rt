@@ -31,7 +31,8 @@ fn answer_words<I: Source, O: Sink, L: Ledger>(
     steps: &mut Steps<L>,
 ) -> Outcome
     ensures usage { (status_of (reply_of result) ≡ Status.Usage) ↔ IsNoCommand (spelled words.now.items) }
-    ensures reply { IfSome (I.left input.old) (λ bytes. (reply_of result ≡ read_fault) ⊎ Leaves (Answers (spelled words.now.items) bytes) (Fronts (spelled words.now.items) bytes) (O.taken out.old) (O.taken out.new) (reply_of result)) }
+    ensures reply { IfSome (I.left input.old) (λ bytes. (reply_of result ≡ read_fault) ⊎ Leaves (Answers (spelled words.now.items) bytes)
+        (Fronts (spelled words.now.items) bytes) (O.taken out.old) (O.taken out.new) (reply_of result)) }
     ensures nothing { ((c : Command) → IsCommand (spelled words.now.items) c → MayPut c.view (status_of (reply_of result)) → ⊥) → O.taken out.new ≡ O.taken out.old }
     ensures unread { ReadsNothing (spelled words.now.items) → input.new ≡ input.old }
     ensures bytes { status_of (reply_of result) ≡ Status.Done → IfSome (I.left input.old) IsBytes }
@@ -63,10 +64,12 @@ pub fn run<I: Source, O: Sink, E: Sink, L: Ledger>(
     ensures usage { (result ≡ Status.Usage) ↔ IsNoCommand (spelled words.now.items) }
 
     // Where the input tells its bytes, the words and the bytes decide the status, the text and the line, but for want of memory and faults.
-    ensures answer { IfSome (I.left input.old) (λ bytes. IsAnswered (Answers (spelled words.now.items) bytes) (Fronts (spelled words.now.items) bytes) result (O.taken out.old) (O.taken out.new) (E.taken err.old) (E.taken err.new) (E.faults err.old) (E.faults err.new)) }
+    ensures answer { IfSome (I.left input.old) (λ bytes. IsAnswered (Answers (spelled words.now.items) bytes) (Fronts (spelled words.now.items) bytes) result
+        (O.taken out.old) (O.taken out.new) (E.taken err.old) (E.taken err.new) (E.faults err.old) (E.faults err.new)) }
 
     // What was written shows the standard table of the presentation that was read, in the words of the algebra.
-    ensures means { result ≡ Status.Done → IfSome (I.left input.old) (λ bytes. (c : Command) (v : Shown) → IsCommand (spelled words.now.items) c → way_of c.view ≡ Some (Show v) → (text : List ℕ) × Takes (O.taken out.old) (O.taken out.new) text × Means c bytes v text) }
+    ensures means { result ≡ Status.Done → IfSome (I.left input.old) (λ bytes. (c : Command) (v : Shown) → IsCommand (spelled words.now.items) c →
+        way_of c.view ≡ Some (Show v) → (text : List ℕ) × Takes (O.taken out.old) (O.taken out.new) text × Means c bytes v text) }
 
     ensures line { (reply : Reply) × (status_of reply ≡ result) × Says (E.taken err.old) (E.taken err.new) (E.faults err.old) (E.faults err.new) (line_of reply) }
 

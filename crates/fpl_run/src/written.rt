@@ -37,7 +37,8 @@ pub(crate) fn put_last_section<F: Field, O: Sink>(
     out: &mut O,
 ) -> Result<(), Cut>
     requires { 0 < run.now.stage.table.weight }
-    ensures puts { (before : List Section) (section : Section) → run.now.stage.sections ≡ before ++ section ∷ [] → Puts (section_bytes_of Two run.now.presentation.field section) (O.taken out.old) (O.taken out.new) result }
+    ensures puts { (before : List Section) (section : Section) → run.now.stage.sections ≡ before ++ section ∷ [] →
+        Puts (section_bytes_of Two run.now.presentation.field section) (O.taken out.old) (O.taken out.new) result }
     ensures fault { IfErr result (λ cut. cut ≡ Cut.WriteFault → Rose (O.faults out.old) (O.faults out.new)) }
     ensures later { O.faults out.old ≤ O.faults out.new }
 {

@@ -52,9 +52,12 @@ after_turn a b x y t some h = record {
     rest_below = mod-lt x (omega arith)
 
     go : (t : ℕ) → Dec (t ≡ 0) → x * y * 2 ^ t < 2 ^ 257 → (t ≡ 0) ⊎ (y ≤ x) → y * (x % y) * 2 ^ (t + 1) < 2 ^ 257
-    go t (yes e) m o = subst (λ w. y * (x % y) * 2 ^ (w + 1) < 2 ^ 257) (sym e) (let m : y * (x % y) < 2 ^ 128 * 2 ^ 128 = mul-lt y (x % y) (2 ^ 128) (2 ^ 128) h.right (let l = h.right in omega arith) in omega arith)
+    go t (yes e) m o = subst (λ w. y * (x % y) * 2 ^ (w + 1) < 2 ^ 257) (sym e) (let m : y * (x % y) < 2 ^ 128 * 2 ^ 128 =
+        mul-lt y (x % y) (2 ^ 128) (2 ^ 128) h.right
+        (let l = h.right in omega arith) in omega arith)
     go t (no d) m (inl e) = absurd (d e)
-    go t (no d) m (inr k) = let s = halves x y (x / y) (x % y) (2 ^ t) (div-add-mod x y) rest_below k in let e : 2 ^ (t + 1) ≡ 2 ^ t * 2 = power t in rw e (omega arith)
+    go t (no d) m (inr k) = let s = halves x y (x / y) (x % y) (2 ^ t) (div-add-mod x y) rest_below k in let e : 2 ^ (t + 1) ≡ 2 ^ t * 2 = power t in
+        rw e (omega arith)
       where
         power : (t : ℕ) → 2 ^ (t + 1) ≡ 2 ^ t * 2
         power t = ap (λ w. 2 ^ w) (add-one t) ∙ pow-suc 2 t

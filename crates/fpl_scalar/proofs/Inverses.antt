@@ -19,7 +19,8 @@ rest_is j q r k e = omega arith
 
 -- one division: a * m congruent to x gives a * (m * (p - p / x)) congruent to p % x
 pub one_division : (a m x p : ℕ) → 1 ≤ x → x < p → a * m % p ≡ x → a * (m * (p - p / x) % p) % p ≡ p % x
-one_division a m x p one below e = regrouped a m (p - p / x) p ∙ ap (λ w. w * (p - p / x) % p) e ∙ go (x - 1) (p / x) (p % x) (omega arith) (div-add-mod p x) (mod-lt p one)
+one_division a m x p one below e = regrouped a m (p - p / x) p ∙ ap (λ w. w * (p - p / x) % p) e ∙
+    go (x - 1) (p / x) (p % x) (omega arith) (div-add-mod p x) (mod-lt p one)
   where
     at_most : (j q r : ℕ) → (j + 1) * q + r ≡ p → q ≤ p
     at_most j q r f = omega arith
@@ -50,7 +51,8 @@ found : (p a n m : ℕ) → m < n → a * m % p ≡ 1 → (inverse_below p a n <
 found p a zero m l e = absurd (omega arith)
 found p a (suc n) m l e = go (ℕ_discrete (a * n % p) 1) (λ k. found p a n m k e)
   where
-    go : Dec (a * n % p ≡ 1) → (m < n → (inverse_below p a n < n) × (a * inverse_below p a n % p ≡ 1)) → (inverse_below p a (suc n) < suc n) × (a * inverse_below p a (suc n) % p ≡ 1)
+    go : Dec (a * n % p ≡ 1) → (m < n → (inverse_below p a n < n) × (a * inverse_below p a n % p ≡ 1)) →
+        (inverse_below p a (suc n) < suc n) × (a * inverse_below p a (suc n) % p ≡ 1)
     go (yes f) h = (let t : nat_eq (a * n % p) 1 ≡ true = grind arith in rw t (omega arith, f))
     go (no d) h =
         let t : nat_eq (a * n % p) 1 ≡ false = grind arith in

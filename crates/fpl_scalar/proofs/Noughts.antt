@@ -71,7 +71,8 @@ module _ (x : Num) (is : IsElement Rational x) where
   shared_is = ap₂ gcd (ap unsigned_abs both_is) (gcd-one (unsigned_abs x.denominator)) ∙ gcd-one (unsigned_abs x.numerator)
 
   below_is : sum_below x (residue 0) ≡ unsigned_abs x.denominator
-  below_is = ap₂ (λ g h. (unsigned_abs x.denominator / g) * (1 / h)) (gcd-one (unsigned_abs x.denominator)) shared_is ∙ ap (λ w. w * 1) (div-one (unsigned_abs x.denominator)) ∙ mul-one (unsigned_abs x.denominator)
+  below_is = ap₂ (λ g h. (unsigned_abs x.denominator / g) * (1 / h)) (gcd-one (unsigned_abs x.denominator)) shared_is ∙
+      ap (λ w. w * 1) (div-one (unsigned_abs x.denominator)) ∙ mul-one (unsigned_abs x.denominator)
 
   sum_is : fraction_sum x (residue 0) ≡ x
   sum_is = num_same (ap₂ divided both_is shared_is ∙ divided-one x.numerator) (ap pos below_is ∙ sym (positive_is x.denominator is.0.positive))
@@ -98,4 +99,5 @@ nothing_added (Prime p) x c y is_x is_c is_y z =
 
 pub nothing_multiplied : (kind : Kind) (c y : Num) → IsElement kind c → IsElement kind y → is_nought y ≡ true → operate kind Mul c y ≡ Ok y
 nothing_multiplied Rational c y is_c is_y z = product_nought c y is_c is_y z ∙ ap Ok (sym (nought_is Rational y is_y z))
-nothing_multiplied (Prime p) c y is_c is_y z = ap (λ n. Ok (residue n)) (multiplied_residue p (residue_of c) (residue_of y) (zero_int_is y.numerator z)) ∙ ap Ok (sym (nought_is (Prime p) y is_y z))
+nothing_multiplied (Prime p) c y is_c is_y z =
+    ap (λ n. Ok (residue n)) (multiplied_residue p (residue_of c) (residue_of y) (zero_int_is y.numerator z)) ∙ ap Ok (sym (nought_is (Prime p) y is_y z))

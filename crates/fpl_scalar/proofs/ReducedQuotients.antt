@@ -21,10 +21,12 @@ reduced_element : (a : ℤ) (m : ℕ) → unsigned_abs a ≤ most_number → m �
 reduced_element a m h k some = (
   record {
     positive = positive_int _ (quotient_positive m _ some is.1);
-    lowest = subst (λ w. IsGcd w (m / gcd (unsigned_abs a) m) 1) (sym (abs-divided a (gcd (unsigned_abs a) m))) (quotients_apart _ m _ (pos_of_dvd_of_pos is.1 some) is);
+    lowest = subst (λ w. IsGcd w (m / gcd (unsigned_abs a) m) 1) (sym (abs-divided a (gcd (unsigned_abs a) m)))
+        (quotients_apart _ m _ (pos_of_dvd_of_pos is.1 some) is);
   },
   (
-    subst (λ w. w ≤ most_number) (sym (abs-divided a (gcd (unsigned_abs a) m))) (let q : unsigned_abs a / gcd (unsigned_abs a) m ≤ unsigned_abs a = div-le_self _ _ in omega arith),
+    subst (λ w. w ≤ most_number) (sym (abs-divided a (gcd (unsigned_abs a) m))) (let q : unsigned_abs a / gcd (unsigned_abs a) m ≤ unsigned_abs a =
+        div-le_self _ _ in omega arith),
     (let q : m / gcd (unsigned_abs a) m ≤ m = div-le_self _ _ in omega arith),
   ),
 )
@@ -32,10 +34,12 @@ reduced_element a m h k some = (
     is : IsGcd (unsigned_abs a) m (gcd (unsigned_abs a) m)
     is = gcd_is (unsigned_abs a) m
 
-pub quotient_element : (a n : ℤ) (m k g : ℕ) → unsigned_abs a ≤ most_number → m ≤ most_number → 0 < m → k ≡ unsigned_abs (wrapped a) → g ≡ gcd k m → n ≡ divided (wrapped a) g →
+pub quotient_element : (a n : ℤ) (m k g : ℕ) → unsigned_abs a ≤ most_number → m ≤ most_number → 0 < m → k ≡ unsigned_abs (wrapped a) → g ≡ gcd k m →
+    n ≡ divided (wrapped a) g →
     IsElement Rational (record { numerator = wrapped n; denominator = to_z w128 (m / g) })
 quotient_element a n m k g h l some k_is g_is n_is =
-    subst (IsElement Rational) (sym (num_same (ap wrapped n_same ∙ back _ element.1.0) (ap (λ w. to_z w128 (m / w)) g_same ∙ to_z_pos w128 (m / gcd (unsigned_abs a) m) (let s = element.1.1 in omega arith)))) element
+    subst (IsElement Rational) (sym (num_same (ap wrapped n_same ∙ back _ element.1.0) (ap (λ w. to_z w128 (m / w)) g_same ∙
+    to_z_pos w128 (m / gcd (unsigned_abs a) m) (let s = element.1.1 in omega arith)))) element
   where
     element : IsElement Rational (record { numerator = divided a (gcd (unsigned_abs a) m); denominator = pos (m / gcd (unsigned_abs a) m) })
     element = reduced_element a m h l some

@@ -35,15 +35,19 @@ multiplied_below p c [] some = All-nil (λ x. x < p)
 multiplied_below p c (x ∷ xs) some = All-cons (λ x. x < p) (c * x % p) (multiplied p c xs) (mod-lt (c * x) some) (multiplied_below p c xs some)
 
 -- residue s put in front
-in_front : (s t : ℕ) (r : Result (List Num) Unfit) (xs : List ℕ) → s ≡ t → r ≡ Ok (map residue xs) → map_ok (λ rest. residue s ∷ rest) r ≡ Ok (map residue (t ∷ xs))
+in_front : (s t : ℕ) (r : Result (List Num) Unfit) (xs : List ℕ) → s ≡ t → r ≡ Ok (map residue xs) →
+    map_ok (λ rest. residue s ∷ rest) r ≡ Ok (map residue (t ∷ xs))
 in_front s t r xs e f = ap₂ (λ w v. map_ok (λ rest. residue w ∷ rest) v) e f
 
-pub axpy_of_residues : (p : ℕ) (xs : List ℕ) (c : ℕ) (ys : List ℕ) → axpy_of (Prime p) (map residue xs) (residue c) (map residue ys) ≡ Ok (map residue (added p xs c ys))
+pub axpy_of_residues : (p : ℕ) (xs : List ℕ) (c : ℕ) (ys : List ℕ) → axpy_of (Prime p) (map residue xs) (residue c) (map residue ys) ≡
+    Ok (map residue (added p xs c ys))
 axpy_of_residues p [] c ys = refl
 axpy_of_residues p (x ∷ xs) c [] = refl
-axpy_of_residues p (x ∷ xs) c (y ∷ ys) = in_front ((x + c * y % p) % p) ((x + c * y) % p) _ (added p xs c ys) (add-mod-mod x (c * y) p) (axpy_of_residues p xs c ys)
+axpy_of_residues p (x ∷ xs) c (y ∷ ys) = in_front ((x + c * y % p) % p) ((x + c * y) % p) _ (added p xs c ys) (add-mod-mod x (c * y) p)
+    (axpy_of_residues p xs c ys)
 
-pub axpied_residues : (p : ℕ) (xs : List ℕ) (c : ℕ) (ys : List ℕ) → axpied (Prime p) (map residue xs) (residue c) (map residue ys) ≡ map residue (added p xs c ys)
+pub axpied_residues : (p : ℕ) (xs : List ℕ) (c : ℕ) (ys : List ℕ) → axpied (Prime p) (map residue xs) (residue c) (map residue ys) ≡
+    map residue (added p xs c ys)
 axpied_residues p [] c ys = refl
 axpied_residues p (x ∷ xs) c [] = refl
 axpied_residues p (x ∷ xs) c (y ∷ ys) = ap₂ (λ w v. residue w ∷ v) (add-mod-mod x (c * y) p) (axpied_residues p xs c ys)

@@ -14,7 +14,8 @@ mapped : (t : Bool) (v : ℤ) → option_map (whole Rational) (if t then Some v 
 mapped true v = refl
 mapped false v = refl
 
-module _ (a b : Num) (is_a : IsElement Rational a) (is_b : IsElement Rational b) (one_a : a.denominator ≡ pos 1) (one_b : b.denominator ≡ pos 1) (x : Option ℤ) (r : Option Num) (r_is : r ≡ option_map (whole Rational) x) where
+module _ (a b : Num) (is_a : IsElement Rational a) (is_b : IsElement Rational b) (one_a : a.denominator ≡ pos 1) (one_b : b.denominator ≡ pos 1)
+    (x : Option ℤ) (r : Option Num) (r_is : r ≡ option_map (whole Rational) x) where
   answered : (v : ℤ) (fits : Num → Num → Bool) (value : Num → Num → Num) → x ≡ (if is_within v then Some v else None) →
       fits (over_one a.numerator) (over_one b.numerator) ≡ is_within v → value (over_one a.numerator) (over_one b.numerator) ≡ over_one v →
       r ≡ (if fits a b then Some (value a b) else None)

@@ -1,10 +1,8 @@
 -- Items that are written one after another, as a loop does.
 use Rattle.std.proofs.Common.{◌≡◌, ℕ, ◌+◌, ◌<◌, List, [], ◌∷◌, ◌++◌, length, take, Some, All, sym, ap, subst, ◌∙◌, append_assoc}
 use Rattle.std.specs.Prelude.{slice_get}
-use Rattle.std.specs.List.{flat_map, AllByRecursion}
+use Rattle.std.specs.List.{flat_map}
 use Rattle.std.proofs.lemmas.List.{flat_map_more, take_more}
-use Rattle.std.proofs.Math.Seq.{take-length}
-use Rattle.std.proofs.lemmas.List.Elements.{recursion_from_All}
 use Rattle.std.proofs.lemmas.Option.{slice_get_within, get_or_from_slice_get}
 use Rattle.fpl_rows.proofs.Fits.{all_more}
 
@@ -23,13 +21,6 @@ wrote_more spell P xs i x old head before new found h next is =
           ∙ ap (λ (l : List ℕ). old ++ l) (flat_map_more spell head (take i xs) x ∙ ap (λ ys. head ++ flat_map spell ys) (sym one));
       stored = subst (All P) (sym one) (all_more P (take i xs) x h.stored is);
     }
-
--- at the end of the loop all are written
-pub wrote_all : {A : Type 0} (spell : A → List ℕ) (P : A → Type 0) (xs : List A) (i : ℕ) (old head new : List ℕ) → i ≡ length xs →
-    Wrote spell P old head new (take i xs) → (new ≡ old ++ (head ++ flat_map spell xs)) × AllByRecursion P xs
-wrote_all spell P xs i old head new e h =
-    let whole = subst (Wrote spell P old head new) (ap (λ n. take n xs) e ∙ take-length xs) h in
-    (whole.bytes, recursion_from_All P xs whole.stored)
 
 -- a tag and two fields
 pub tag_and_two : (old first second new : List ℕ) (tag : ℕ) (ys zs : List ℕ) → first ≡ old ++ tag ∷ [] → second ≡ first ++ ys → new ≡ second ++ zs →

@@ -54,7 +54,8 @@ cube_at end bytes = do
 unfoldable pub origin_at : Version → ℕ → List ℕ → Result (Origin × List ℕ) BadBytes
 origin_at version end bytes = do
   tag ← tag_at end bytes
-  if tag.0 == relation_tag then relation_at end tag.1 else if tag.0 == jacobi_tag then jacobi_at end tag.1 else if tag.0 == cube_tag && is_two version then cube_at end tag.1 else Err (fault end bytes BadTag)
+  if tag.0 == relation_tag then relation_at end tag.1 else if tag.0 == jacobi_tag then jacobi_at end tag.1 else if tag.0 == cube_tag && is_two version
+      then cube_at end tag.1 else Err (fault end bytes BadTag)
 
 module _ (version : Version) (kind : Kind) (end : ℕ) where
   -- the second version has no scale of 0

@@ -76,9 +76,11 @@ pub fn read_section(
     requires inside { to ≤ length bytes.now }
 
     // What is read has these bytes, and is what has bytes.
-    ensures found { IfOk result (λ s. IsStoredSection (version_of version) kind s × (s.weight ≡ w) × (slice_range bytes.now from to ≡ payload_bytes (version_of version) kind s)) }
+    ensures found { IfOk result (λ s. IsStoredSection (version_of version) kind s × (s.weight ≡ w)
+        × (slice_range bytes.now from to ≡ payload_bytes (version_of version) kind s)) }
     // What has these bytes is read, unless memory runs out.
-    ensures only { (s : Section) → IsStoredSection (version_of version) kind s → s.weight ≡ w → slice_range bytes.now from to ≡ payload_bytes (version_of version) kind s → Gives (λ t. t) result (Ok s) }
+    ensures only { (s : Section) → IsStoredSection (version_of version) kind s → s.weight ≡ w →
+        slice_range bytes.now from to ≡ payload_bytes (version_of version) kind s → Gives (λ t. t) result (Ok s) }
     // The first reason to refuse the bytes.
     ensures exact { Gives (λ s. s) result (payload_at (version_of version) kind w to (slice_range bytes.now from to)) }
 {

@@ -49,22 +49,27 @@ module _ (scope : Scope) where
 
   -- a sentence ends between statements
   ends_between : {front : List Terminal} {ss : List Statement} {tail : Tail} → Read front ss tail → IsSentence front → view_tail scope tail ≡ state.Statement
-  ends_between r (ts, e) = ap (λ (s : List Claim × State). s.1) (some-equal (sym r.runs ∙ ap (run scope (Some ([], state.Statement))) (sym e) ∙ sentence_runs scope ts []))
+  ends_between r (ts, e) = ap (λ (s : List Claim × State). s.1)
+      (some-equal (sym r.runs ∙ ap (run scope (Some ([], state.Statement))) (sym e) ∙ sentence_runs scope ts []))
 
   -- where the machine stops, no sentence goes on
-  stops : {front : List Terminal} {ss : List Statement} {tail : Tail} (terminal : Terminal) → Read front ss tail → step_state scope (claims_of scope ss) (view_tail scope tail) terminal ≡ None → Begins (front ++ terminal ∷ []) → ⊥
+  stops : {front : List Terminal} {ss : List Statement} {tail : Tail} (terminal : Terminal) → Read front ss tail →
+      step_state scope (claims_of scope ss) (view_tail scope tail) terminal ≡ None → Begins (front ++ terminal ∷ []) → ⊥
   stops {front} terminal r e (ts, more, spelled) =
       refused (sym (ap (run scope (Some ([], state.Statement))) (spelled ∙ append_assoc front (terminal ∷ []) more)
-      ∙ run-append (Some ([], state.Statement)) front (terminal ∷ more) ∙ ap (λ a. run scope a (terminal ∷ more)) r.runs ∙ ap (λ a. run scope a more) e ∙ run-none more)
+      ∙ run-append (Some ([], state.Statement)) front (terminal ∷ more) ∙ ap (λ a. run scope a (terminal ∷ more)) r.runs ∙
+      ap (λ a. run scope a more) e ∙ run-none more)
       ∙ sentence_runs scope ts [])
 
   whole : {ss : List Statement} {front : List Terminal} → Read front ss between → Says scope (front ++ []) (claims_of scope ss)
   whole {ss} r = record { sentence = ss; spelled = spell_done-spelling ss ∙ r.spelled []; claimed = refl }
 
-  cut : {front : List Terminal} {ss : List Statement} {tail : Tail} → Read front ss tail → (view_tail scope tail ≡ state.Statement → ⊥) → IsFaultAt (length front + 1) (front ++ [])
+  cut : {front : List Terminal} {ss : List Statement} {tail : Tail} → Read front ss tail → (view_tail scope tail ≡ state.Statement → ⊥) →
+      IsFaultAt (length front + 1) (front ++ [])
   cut {front} r apart = record { front = front; after = []; whole = refl; number = refl; begun = begun r; wrong = λ s. apart (ends_between r s) }
 
-  ends : (front : List Terminal) (ss : List Statement) (tail : Tail) → Read front ss tail → Outcome (front ++ []) (ended (claims_of scope ss) (view_tail scope tail) (length front + 1))
+  ends : (front : List Terminal) (ss : List Statement) (tail : Tail) → Read front ss tail →
+      Outcome (front ++ []) (ended (claims_of scope ss) (view_tail scope tail) (length front + 1))
   ends front ss between r = whole r
   ends front ss (in_field place) r = cut r (λ e. cc)
   ends front ss (field_named place naming) r = cut r (λ e. cc)
@@ -76,7 +81,8 @@ module _ (scope : Scope) where
 
   goes_on : (front : List Terminal) (ss : List Statement) (tail : Tail) (terminal : Terminal) (terminals : List Terminal) (answer : Answer) → Read front ss tail
       → step_state scope (claims_of scope ss) (view_tail scope tail) terminal ≡ answer → Takes_up scope ss tail terminal answer
-      → ((front' : List Terminal) (ss' : List Statement) (tail' : Tail) → Read front' ss' tail' → Outcome (front' ++ terminals) (parse_from scope (claims_of scope ss') (view_tail scope tail') (length front' + 1) terminals))
+      → ((front' : List Terminal) (ss' : List Statement) (tail' : Tail) → Read front' ss' tail' →
+      Outcome (front' ++ terminals) (parse_from scope (claims_of scope ss') (view_tail scope tail') (length front' + 1) terminals))
       → Outcome (front ++ terminal ∷ terminals) (or_fault (length front + 1) (λ next. parse_from scope next.0 next.1 (length front + 1 + 1) terminals) answer)
   goes_on front ss tail terminal terminals None r step taken rest =
       record { front = front; after = terminal ∷ terminals; whole = refl; number = refl; begun = begun r; wrong = stops terminal r step }
@@ -88,13 +94,15 @@ module _ (scope : Scope) where
       let counted : length (front ++ terminal ∷ []) ≡ length front + 1 = length-append front (terminal ∷ []) in
       subst (λ (s : List Claim × State). Outcome (front ++ terminal ∷ terminals) (parse_from scope s.0 s.1 (length front + 1 + 1) terminals)) same
       (subst (λ n. Outcome (front ++ terminal ∷ terminals) (parse_from scope (claims_of scope ss') (view_tail scope tail') (n + 1) terminals)) counted
-      (subst (λ xs. Outcome xs (parse_from scope (claims_of scope ss') (view_tail scope tail') (length (front ++ terminal ∷ []) + 1) terminals)) (append_assoc front (terminal ∷ []) terminals)
+      (subst (λ xs. Outcome xs (parse_from scope (claims_of scope ss') (view_tail scope tail') (length (front ++ terminal ∷ []) + 1) terminals))
+      (append_assoc front (terminal ∷ []) terminals)
       (rest (front ++ terminal ∷ []) ss' tail' r')))
 
   outcome_from : (terminals : List Terminal) (front : List Terminal) (ss : List Statement) (tail : Tail) → Read front ss tail
       → Outcome (front ++ terminals) (parse_from scope (claims_of scope ss) (view_tail scope tail) (length front + 1) terminals)
   outcome_from [] front ss tail r = ends front ss tail r
-  outcome_from (terminal ∷ terminals) front ss tail r = goes_on front ss tail terminal terminals _ r refl (takes scope ss tail terminal) (outcome_from terminals)
+  outcome_from (terminal ∷ terminals) front ss tail r = goes_on front ss tail terminal terminals _ r refl (takes scope ss tail terminal)
+      (outcome_from terminals)
 
   pub outcome : (terminals : List Terminal) → Outcome terminals (parse_of scope terminals)
   outcome terminals = outcome_from terminals [] [] between (record { spelled = λ after. refl; runs = refl })
@@ -108,13 +116,16 @@ module _ (scope : Scope) where
   -- one list of claims
   pub one_claims : {terminals : List Terminal} {a b : List Claim} → Says scope terminals a → Says scope terminals b → a ≡ b
   one_claims r s =
-      r.claimed ∙ ap (λ (s : List Claim × State). s.0) (some-equal (sym (sentence_runs scope r.sentence []) ∙ ap (run scope (Some ([], state.Statement))) (r.spelled ∙ sym s.spelled) ∙ sentence_runs scope s.sentence [])) ∙ sym s.claimed
+      r.claimed ∙ ap (λ (s : List Claim × State). s.0)
+      (some-equal (sym (sentence_runs scope r.sentence []) ∙ ap (run scope (Some ([], state.Statement))) (r.spelled ∙ sym s.spelled) ∙
+      sentence_runs scope s.sentence [])) ∙ sym s.claimed
 
 -- one fault
 
 -- of two fronts of a list one is a front of the other
 abbrev Longer : List Terminal → List Terminal → List Terminal → Type 0
-Longer shorter after longer = (terminal : Terminal) × (more : List Terminal) × (rest : List Terminal) × (after ≡ terminal ∷ rest) × (longer ≡ shorter ++ terminal ∷ more)
+Longer shorter after longer = (terminal : Terminal) × (more : List Terminal) × (rest : List Terminal) × (after ≡ terminal ∷ rest) ×
+    (longer ≡ shorter ++ terminal ∷ more)
 
 fronts : (f g a b : List Terminal) → f ++ a ≡ g ++ b → (f ≡ g) ⊎ (Longer f a g ⊎ Longer g b f)
 fronts [] [] a b e = inl refl
@@ -157,7 +168,8 @@ fault_apart {terminals} r s = sentence_wrong r.front r.after terminals r.whole r
 -- the parse is that of the sentence, or of the fault
 
 module _ (scope : Scope) where
-  sentence_outcome : (terminals : List Terminal) (ss : List Statement) (answer : Result (List Claim) ℕ) → spelling ss ≡ terminals → Outcome scope terminals answer → answer ≡ Ok (claims_of scope ss)
+  sentence_outcome : (terminals : List Terminal) (ss : List Statement) (answer : Result (List Claim) ℕ) → spelling ss ≡ terminals →
+      Outcome scope terminals answer → answer ≡ Ok (claims_of scope ss)
   sentence_outcome terminals ss (Ok claims) e h = ap Ok (one_claims scope h (record { sentence = ss; spelled = e; claimed = refl }))
   sentence_outcome terminals ss (Err k) e h = absurd (fault_apart h (ss, e))
 
@@ -175,7 +187,8 @@ module _ (scope : Scope) where
 unfoldable no_names : Scope
 no_names = record { kind = Rational; number = λ w. 0 }
 
-some_outcome : (terminals : List Terminal) (answer : Result (List Claim) ℕ) → Outcome no_names terminals answer → IsSentence terminals ⊎ ((k : ℕ) × IsFaultAt k terminals)
+some_outcome : (terminals : List Terminal) (answer : Result (List Claim) ℕ) → Outcome no_names terminals answer →
+    IsSentence terminals ⊎ ((k : ℕ) × IsFaultAt k terminals)
 some_outcome terminals (Ok claims) s = inl (s.sentence, s.spelled)
 some_outcome terminals (Err k) f = inr (k, f)
 

@@ -73,17 +73,20 @@ abbrev pub declare_all : Parity → List Declaration → Declaration → Stateme
 declare_all parity [] last = declare parity last []
 declare_all parity (d ∷ ds) last = declare parity d (ds ++ last ∷ [])
 
-spell_declarations-append : (ds : List Declaration) (d : Declaration) (after : List Terminal) → spell_declarations (ds ++ d ∷ []) after ≡ spell_declarations ds (mark.Comma ∷ spell_declaration d after)
+spell_declarations-append : (ds : List Declaration) (d : Declaration) (after : List Terminal) →
+    spell_declarations (ds ++ d ∷ []) after ≡ spell_declarations ds (mark.Comma ∷ spell_declaration d after)
 spell_declarations-append [] d after = refl
 spell_declarations-append (plainly w ∷ ds) d after = ap (λ xs. mark.Comma ∷ mark.Name w ∷ xs) (spell_declarations-append ds d after)
-spell_declarations-append (weighted w n ∷ ds) d after = ap (λ xs. mark.Comma ∷ mark.Name w ∷ mark.Colon ∷ mark.Number n ∷ xs) (spell_declarations-append ds d after)
+spell_declarations-append (weighted w n ∷ ds) d after = ap (λ xs. mark.Comma ∷ mark.Name w ∷ mark.Colon ∷ mark.Number n ∷ xs)
+    (spell_declarations-append ds d after)
 
 declare_all-spelled : (parity : Parity) (ds : List Declaration) (d : Declaration) (after : List Terminal)
     → spell_statement (declare_all parity ds d) after ≡ mark.Declare parity ∷ spell_before ds (spell_declaration d (mark.Semicolon ∷ after))
 declare_all-spelled parity [] d after = refl
 declare_all-spelled parity (e ∷ ds) d after = ap (λ xs. mark.Declare parity ∷ spell_declaration e xs) (spell_declarations-append ds d (mark.Semicolon ∷ after))
 
-spell_before-append : (ds : List Declaration) (d : Declaration) (after : List Terminal) → spell_before (ds ++ d ∷ []) after ≡ spell_before ds (spell_declaration d (mark.Comma ∷ after))
+spell_before-append : (ds : List Declaration) (d : Declaration) (after : List Terminal) → spell_before (ds ++ d ∷ []) after ≡
+    spell_before ds (spell_declaration d (mark.Comma ∷ after))
 spell_before-append [] d after = refl
 spell_before-append (e ∷ ds) d after = ap (spell_declaration e) (spell_declarations-append ds d (mark.Comma ∷ after))
 
@@ -104,7 +107,8 @@ spell_done-spelling (s ∷ ss) = ap (spell_statement s) (spell_done-spelling ss)
 module _ (scope : Scope) where
   claims_of-append : (ss : List Statement) (s : Statement) → claims_of scope (ss ++ s ∷ []) ≡ claims_of scope ss ++ claims_in scope s
   claims_of-append [] s = append-nil (claims_in scope s)
-  claims_of-append (t ∷ ss) s = ap (λ cs. claims_in scope t ++ cs) (claims_of-append ss s) ∙ sym (append_assoc (claims_in scope t) (claims_of scope ss) (claims_in scope s))
+  claims_of-append (t ∷ ss) s = ap (λ cs. claims_in scope t ++ cs) (claims_of-append ss s) ∙
+      sym (append_assoc (claims_in scope t) (claims_of scope ss) (claims_in scope s))
 
   claims_of-same : (ss : List Statement) (s : Statement) → claims_in scope s ≡ [] → claims_of scope (ss ++ s ∷ []) ≡ claims_of scope ss
   claims_of-same ss s e = claims_of-append ss s ∙ ap (λ cs. claims_of scope ss ++ cs) e ∙ append-nil (claims_of scope ss)
@@ -146,7 +150,8 @@ module _ (scope : Scope) where
   -- what is read is spelled by what was read and the terminal
   abbrev pub Goes_on : List Statement → Tail → Terminal → List Claim × State → Type 0
   Goes_on ss tail terminal s =
-      (ss' : List Statement) × (tail' : Tail) × ((claims_of scope ss', view_tail tail') ≡ s) × ((after : List Terminal) → spell_done ss' (spell_tail tail' after) ≡ spell_done ss (spell_tail tail (terminal ∷ after)))
+      (ss' : List Statement) × (tail' : Tail) × ((claims_of scope ss', view_tail tail') ≡ s) ×
+      ((after : List Terminal) → spell_done ss' (spell_tail tail' after) ≡ spell_done ss (spell_tail tail (terminal ∷ after)))
 
   abbrev pub Takes_up : List Statement → Tail → Terminal → Answer → Type 0
   Takes_up ss tail terminal None = Unit {0}
@@ -155,59 +160,92 @@ module _ (scope : Scope) where
   -- a statement ends
   ends : (ss : List Statement) (tail : Tail) (terminal : Terminal) (s : Statement) (claims : List Claim) → claims_of scope ss ++ claims_in scope s ≡ claims
       → ((after : List Terminal) → spell_statement s after ≡ spell_tail tail (terminal ∷ after)) → Goes_on ss tail terminal (claims, state.Statement)
-  ends ss tail terminal s claims same spelled =
-      (ss ++ s ∷ [], between, ap (λ cs. (cs, state.Statement)) (claims_of-append ss s ∙ same), λ after. spell_done-append ss s after ∙ ap (spell_done ss) (spelled after))
+  ends ss tail terminal s claims same spelled = (
+    ss ++ s ∷ [],
+    between,
+    ap (λ cs. (cs, state.Statement)) (claims_of-append ss s ∙ same),
+    λ after. spell_done-append ss s after ∙ ap (spell_done ss) (spelled after),
+  )
 
   declares : (ss : List Statement) (tail : Tail) (parity : Parity) (ds : List Declaration) (d : Declaration)
-      → ((after : List Terminal) → mark.Declare parity ∷ spell_before ds (spell_declaration d (mark.Semicolon ∷ after)) ≡ spell_tail tail (mark.Semicolon ∷ after))
+      → ((after : List Terminal) → mark.Declare parity ∷ spell_before ds (spell_declaration d (mark.Semicolon ∷ after)) ≡
+      spell_tail tail (mark.Semicolon ∷ after))
       → Goes_on ss tail mark.Semicolon (claims_of scope ss, state.Statement)
   declares ss tail parity ds d spelled =
-      ends ss tail mark.Semicolon (declare_all parity ds d) (claims_of scope ss) (ap (λ cs. claims_of scope ss ++ cs) (declare_all-none scope parity ds d) ∙ append-nil (claims_of scope ss))
+      ends ss tail mark.Semicolon (declare_all parity ds d) (claims_of scope ss) (ap (λ cs. claims_of scope ss ++ cs)
+      (declare_all-none scope parity ds d) ∙ append-nil (claims_of scope ss))
       (λ after. declare_all-spelled parity ds d after ∙ spelled after)
 
   another : (ss : List Statement) (tail : Tail) (parity : Parity) (ds : List Declaration) (d : Declaration)
       → ((after : List Terminal) → mark.Declare parity ∷ spell_before ds (spell_declaration d (mark.Comma ∷ after)) ≡ spell_tail tail (mark.Comma ∷ after))
       → Goes_on ss tail mark.Comma (claims_of scope ss, state.Name)
-  another ss tail parity ds d spelled =
-      (ss, declaring parity (ds ++ d ∷ []), refl, λ after. ap (spell_done ss) (ap (λ xs. mark.Declare parity ∷ xs) (spell_before-append ds d after) ∙ spelled after))
+  another ss tail parity ds d spelled = (
+    ss,
+    declaring parity (ds ++ d ∷ []),
+    refl,
+    λ after. ap (spell_done ss) (ap (λ xs. mark.Declare parity ∷ xs) (spell_before-append ds d after) ∙ spelled after),
+  )
 
   takes_rationals : (ss : List Statement) (place : ℕ) (w : Word) (t : Bool) → w.rationals ≡ t
       → Takes_up ss (in_field place) (mark.Name w) (goes (claims_of scope ss) (if t then Some state.FieldEnd else None))
   takes_rationals ss place w false e = tt
-  takes_rationals ss place w true e =
-      (ss, field_named place (rationals w.start w.end), refl, λ after. ap (λ b. spell_done ss (mark.Field place ∷ mark.Name (record w { rationals = b }) ∷ after)) (sym e))
+  takes_rationals ss place w true e = (
+    ss,
+    field_named place (rationals w.start w.end),
+    refl,
+    λ after. ap (λ b. spell_done ss (mark.Field place ∷ mark.Name (record w { rationals = b }) ∷ after)) (sym e),
+  )
 
   takes_end : (ss : List Statement) (c : Claiming) (held : List Held) (inner : Inner) (answer : Option Expr) → Finishes scope held inner answer
       → Takes_up ss (claiming c held inner) mark.Semicolon (end_side (claims_of scope ss) (view_side c (view scope held inner)) answer)
   takes_end ss c held inner None h = tt
   takes_end ss (relating place) held inner (Some e) (s, same, spelled) =
-      ends ss (claiming (relating place) held inner) mark.Semicolon (relation place s) _ (ap (λ e. claims_of scope ss ++ equate Relation place e expr.Zero ∷ []) same) (λ after. ap (λ xs. mark.Claim Relation place ∷ xs) (spelled (mark.Semicolon ∷ after)))
+      ends ss (claiming (relating place) held inner) mark.Semicolon (relation place s) _ (ap
+      (λ e. claims_of scope ss ++ equate Relation place e expr.Zero ∷ []) same) (λ after. ap (λ xs. mark.Claim Relation place ∷ xs)
+      (spelled (mark.Semicolon ∷ after)))
   takes_end ss (relating_to place a) held inner (Some e) (s, same, spelled) =
-      ends ss (claiming (relating_to place a) held inner) mark.Semicolon (equation place a s) _ (ap (λ e. claims_of scope ss ++ equate Relation place (expression_of scope a) e ∷ []) same)
+      ends ss (claiming (relating_to place a) held inner) mark.Semicolon (equation place a s) _
+      (ap (λ e. claims_of scope ss ++ equate Relation place (expression_of scope a) e ∷ []) same)
       (λ after. ap (λ xs. mark.Claim Relation place ∷ spell_sum a (mark.Equals ∷ xs)) (spelled (mark.Semicolon ∷ after)))
   takes_end ss (member place) held inner (Some e) (s, same, spelled) =
-      ends ss (claiming (member place) held inner) mark.Semicolon (ideal place s) _ (ap (λ e. claims_of scope ss ++ equate Ideal place e expr.Zero ∷ []) same) (λ after. ap (λ xs. mark.Claim Ideal place ∷ xs) (spelled (mark.Semicolon ∷ after)))
+      ends ss (claiming (member place) held inner) mark.Semicolon (ideal place s) _
+      (ap (λ e. claims_of scope ss ++ equate Ideal place e expr.Zero ∷ []) same) (λ after. ap (λ xs. mark.Claim Ideal place ∷ xs)
+      (spelled (mark.Semicolon ∷ after)))
   takes_end ss (asking place) held inner (Some e) h = tt
   takes_end ss (asking_for place a) held inner (Some e) (s, same, spelled) =
-      ends ss (claiming (asking_for place a) held inner) mark.Semicolon (equal place a s) _ (ap (λ e. claims_of scope ss ++ equate Equal place (expression_of scope a) e ∷ []) same)
+      ends ss (claiming (asking_for place a) held inner) mark.Semicolon (equal place a s) _
+      (ap (λ e. claims_of scope ss ++ equate Equal place (expression_of scope a) e ∷ []) same)
       (λ after. ap (λ xs. mark.Claim Equal place ∷ spell_sum a (mark.Equals ∷ xs)) (spelled (mark.Semicolon ∷ after)))
 
   takes_equals : (ss : List Statement) (c : Claiming) (held : List Held) (inner : Inner) (answer : Option Expr) → Finishes scope held inner answer
       → Takes_up ss (claiming c held inner) mark.Equals (turn_side (claims_of scope ss) (view_side c (view scope held inner)) answer)
   takes_equals ss c held inner None h = tt
-  takes_equals ss (relating place) held inner (Some e) (s, same, spelled) =
-      (ss, claiming (relating_to place s) [] start, ap (λ e. (claims_of scope ss, side_from Relation place (Some e))) same, λ after. ap (λ xs. spell_done ss (mark.Claim Relation place ∷ xs)) (spelled (mark.Equals ∷ after)))
+  takes_equals ss (relating place) held inner (Some e) (s, same, spelled) = (
+    ss,
+    claiming (relating_to place s) [] start,
+    ap (λ e. (claims_of scope ss, side_from Relation place (Some e))) same,
+    λ after. ap (λ xs. spell_done ss (mark.Claim Relation place ∷ xs)) (spelled (mark.Equals ∷ after)),
+  )
   takes_equals ss (relating_to place a) held inner (Some e) h = tt
   takes_equals ss (member place) held inner (Some e) h = tt
-  takes_equals ss (asking place) held inner (Some e) (s, same, spelled) =
-      (ss, claiming (asking_for place s) [] start, ap (λ e. (claims_of scope ss, side_from Equal place (Some e))) same, λ after. ap (λ xs. spell_done ss (mark.Claim Equal place ∷ xs)) (spelled (mark.Equals ∷ after)))
+  takes_equals ss (asking place) held inner (Some e) (s, same, spelled) = (
+    ss,
+    claiming (asking_for place s) [] start,
+    ap (λ e. (claims_of scope ss, side_from Equal place (Some e))) same,
+    λ after. ap (λ xs. spell_done ss (mark.Claim Equal place ∷ xs)) (spelled (mark.Equals ∷ after)),
+  )
   takes_equals ss (asking_for place a) held inner (Some e) h = tt
 
-  takes_on : (ss : List Statement) (c : Claiming) (held : List Held) (inner : Inner) (terminal : Terminal) (answer : Option (Partial × Wait)) → Accepts scope held inner terminal answer
+  takes_on : (ss : List Statement) (c : Claiming) (held : List Held) (inner : Inner) (terminal : Terminal) (answer : Option (Partial × Wait)) →
+      Accepts scope held inner terminal answer
       → Takes_up ss (claiming c held inner) terminal (continued (claims_of scope ss) (view_side c (view scope held inner)) answer)
   takes_on ss c held inner terminal None h = tt
-  takes_on ss c held inner terminal (Some s) (held', inner', same, spelled) =
-      (ss, claiming c held' inner', ap (λ (s : Partial × Wait). (claims_of scope ss, state.Side (view_side c s))) same, λ after. ap (λ xs. spell_done ss (spell_claiming c xs)) (spelled after))
+  takes_on ss c held inner terminal (Some s) (held', inner', same, spelled) = (
+    ss,
+    claiming c held' inner',
+    ap (λ (s : Partial × Wait). (claims_of scope ss, state.Side (view_side c s))) same,
+    λ after. ap (λ xs. spell_done ss (spell_claiming c xs)) (spelled after),
+  )
 
   takes_side : (ss : List Statement) (c : Claiming) (held : List Held) (inner : Inner) (terminal : Terminal)
       → Takes_up ss (claiming c held inner) terminal (step_side scope (claims_of scope ss) (view_side c (view scope held inner)) terminal)
@@ -215,7 +253,8 @@ module _ (scope : Scope) where
   takes_side ss c held inner mark.Equals = takes_equals ss c held inner _ (finishes scope held inner)
   takes_side ss c held inner terminal = takes_on ss c held inner terminal _ (accepts scope held inner terminal)
 
-  pub takes : (ss : List Statement) (tail : Tail) (terminal : Terminal) → Takes_up ss tail terminal (step_state scope (claims_of scope ss) (view_tail tail) terminal)
+  pub takes : (ss : List Statement) (tail : Tail) (terminal : Terminal) → Takes_up ss tail terminal
+      (step_state scope (claims_of scope ss) (view_tail tail) terminal)
   takes ss between (mark.Field place) = (ss, in_field place, refl, λ after. refl)
   takes ss between (mark.Declare parity) = (ss, declaring parity [], refl, λ after. refl)
   takes ss between (mark.Claim Relation place) = (ss, claiming (relating place) [] start, refl, λ after. refl)
@@ -225,8 +264,10 @@ module _ (scope : Scope) where
   takes ss (in_field place) (mark.Name w) = takes_rationals ss place w w.rationals refl
   takes ss (in_field place) (mark.Number n) = (ss, field_named place (prime n), refl, λ after. refl)
   takes ss (in_field place) _ = tt
-  takes ss (field_named place (rationals a b)) mark.Semicolon = ends ss (field_named place (rationals a b)) mark.Semicolon (field place (rationals a b)) (claims_of scope ss) (append-nil (claims_of scope ss)) (λ after. refl)
-  takes ss (field_named place (prime n)) mark.Semicolon = ends ss (field_named place (prime n)) mark.Semicolon (field place (prime n)) (claims_of scope ss) (append-nil (claims_of scope ss)) (λ after. refl)
+  takes ss (field_named place (rationals a b)) mark.Semicolon = ends ss (field_named place (rationals a b)) mark.Semicolon
+      (field place (rationals a b)) (claims_of scope ss) (append-nil (claims_of scope ss)) (λ after. refl)
+  takes ss (field_named place (prime n)) mark.Semicolon = ends ss (field_named place (prime n)) mark.Semicolon (field place (prime n))
+      (claims_of scope ss) (append-nil (claims_of scope ss)) (λ after. refl)
   takes ss (field_named place naming) _ = tt
   takes ss (declaring parity ds) (mark.Name w) = (ss, declared parity ds w, refl, λ after. refl)
   takes ss (declaring parity ds) _ = tt
@@ -243,18 +284,31 @@ module _ (scope : Scope) where
 
 -- how a sentence may be completed
 
-complete_claim : (c : Claiming) (held : List Held) (inner : Inner) → (s : Statement) × (more : List Terminal) × (spell_statement s [] ≡ spell_claiming c (spell_held held (spell_inner inner more)))
+complete_claim : (c : Claiming) (held : List Held) (inner : Inner) → (s : Statement) × (more : List Terminal) ×
+    (spell_statement s [] ≡ spell_claiming c (spell_held held (spell_inner inner more)))
 complete_claim (relating place) held inner =
     let r = complete held inner in (relation place r.0, r.1 ++ mark.Semicolon ∷ [], ap (λ xs. mark.Claim Relation place ∷ xs) (r.2 (mark.Semicolon ∷ [])))
 complete_claim (relating_to place a) held inner =
-    let r = complete held inner in (equation place a r.0, r.1 ++ mark.Semicolon ∷ [], ap (λ xs. mark.Claim Relation place ∷ spell_sum a (mark.Equals ∷ xs)) (r.2 (mark.Semicolon ∷ [])))
+    let r = complete held inner in (
+      equation place a r.0,
+      r.1 ++ mark.Semicolon ∷ [],
+      ap (λ xs. mark.Claim Relation place ∷ spell_sum a (mark.Equals ∷ xs)) (r.2 (mark.Semicolon ∷ [])),
+    )
 complete_claim (member place) held inner =
     let r = complete held inner in (ideal place r.0, r.1 ++ mark.Semicolon ∷ [], ap (λ xs. mark.Claim Ideal place ∷ xs) (r.2 (mark.Semicolon ∷ [])))
 complete_claim (asking place) held inner =
-    let r = complete held inner in
-    (equal place r.0 nought_sum, r.1 ++ mark.Equals ∷ nought_terminal ∷ mark.Semicolon ∷ [], ap (λ xs. mark.Claim Equal place ∷ xs) (r.2 (mark.Equals ∷ nought_terminal ∷ mark.Semicolon ∷ [])))
+    let r = complete held inner in (
+      equal place r.0 nought_sum,
+      r.1 ++ mark.Equals ∷ nought_terminal ∷ mark.Semicolon ∷ [],
+      ap (λ xs. mark.Claim Equal place ∷ xs) (r.2 (mark.Equals ∷ nought_terminal ∷ mark.Semicolon ∷ [])),
+    )
 complete_claim (asking_for place a) held inner =
-    let r = complete held inner in (equal place a r.0, r.1 ++ mark.Semicolon ∷ [], ap (λ xs. mark.Claim Equal place ∷ spell_sum a (mark.Equals ∷ xs)) (r.2 (mark.Semicolon ∷ [])))
+    let r = complete held inner in (
+      equal place a r.0,
+      r.1 ++ mark.Semicolon ∷ [],
+      ap (λ xs. mark.Claim Equal place ∷ spell_sum a (mark.Equals ∷ xs))
+          (r.2 (mark.Semicolon ∷ [])),
+    )
 
 unfoldable some_word : Word
 some_word = record { start = 0; end = 0; rationals = false }
@@ -263,9 +317,16 @@ pub complete_tail : (tail : Tail) → (ss : List Statement) × (more : List Term
 complete_tail between = ([], [], refl)
 complete_tail (in_field place) = (field place (prime (record { place = 0; value = 0 })) ∷ [], nought_terminal ∷ mark.Semicolon ∷ [], refl)
 complete_tail (field_named place naming) = (field place naming ∷ [], mark.Semicolon ∷ [], refl)
-complete_tail (declaring parity ds) = (declare_all parity ds (plainly some_word) ∷ [], mark.Name some_word ∷ mark.Semicolon ∷ [], declare_all-spelled parity ds (plainly some_word) [])
+complete_tail (declaring parity ds) = (
+  declare_all parity ds (plainly some_word) ∷ [],
+  mark.Name some_word ∷ mark.Semicolon ∷ [],
+  declare_all-spelled parity ds (plainly some_word) [],
+)
 complete_tail (declared parity ds w) = (declare_all parity ds (plainly w) ∷ [], mark.Semicolon ∷ [], declare_all-spelled parity ds (plainly w) [])
-complete_tail (weighing parity ds w) =
-    (declare_all parity ds (weighted w (record { place = 0; value = 0 })) ∷ [], nought_terminal ∷ mark.Semicolon ∷ [], declare_all-spelled parity ds (weighted w (record { place = 0; value = 0 })) [])
+complete_tail (weighing parity ds w) = (
+  declare_all parity ds (weighted w (record { place = 0; value = 0 })) ∷ [],
+  nought_terminal ∷ mark.Semicolon ∷ [],
+  declare_all-spelled parity ds (weighted w (record { place = 0; value = 0 })) [],
+)
 complete_tail (weighed parity ds w n) = (declare_all parity ds (weighted w n) ∷ [], mark.Semicolon ∷ [], declare_all-spelled parity ds (weighted w n) [])
 complete_tail (claiming c held inner) = let r = complete_claim c held inner in (r.0 ∷ [], r.1, r.2)

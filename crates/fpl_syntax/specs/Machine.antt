@@ -54,7 +54,20 @@ settled scope p scale e = Some (p, wait.AfterTerm (term_of scope p.negative scal
 
 -- a mark is opened before a factor
 abbrev pub opened : Partial → Opener → Scale → Option (Partial × Wait)
-opened p opener scale = Some (record { enclosing = p.enclosing ++ record { opener = opener; terms = p.terms; negative = p.negative; scale = scale } ∷ []; terms = []; negative = false }, wait.Sum)
+opened p opener scale = Some (
+  record {
+    enclosing = p.enclosing ++ record {
+      opener = opener;
+      terms = p.terms;
+      negative = p.negative;
+      scale =
+          scale;
+    } ∷ [];
+    terms = [];
+    negative = false;
+  },
+  wait.Sum,
+)
 
 abbrev pub begin_factor : Scope → Partial → Scale → Terminal → Option (Partial × Wait)
 begin_factor scope p scale (Name w) = settled scope p scale (expr.Gen (scope.number w))

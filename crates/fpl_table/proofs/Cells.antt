@@ -30,7 +30,8 @@ unfolding joined
 joined_none f zero none = refl
 joined_none f (suc n) none = rw (none n (omega arith), append-nil) (joined_none f n (λ j below. none j (omega (arith, below))))
 
-pub joined_ones : (f : ℕ → List Symbol) (x : ℕ → Symbol) (a k : ℕ) → ((j : ℕ) → a ≤ j → j < a + k → f j ≡ x j ∷ []) → length (joined (a + k) f) ≡ length (joined a f) + k
+pub joined_ones : (f : ℕ → List Symbol) (x : ℕ → Symbol) (a k : ℕ) → ((j : ℕ) → a ≤ j → j < a + k → f j ≡ x j ∷ []) →
+    length (joined (a + k) f) ≡ length (joined a f) + k
 unfolding joined
 joined_ones f x a zero ones =
     let same : a + 0 ≡ a = omega arith in
@@ -40,7 +41,8 @@ joined_ones f x a (suc k) ones =
     let h : length (joined (a + k) f) ≡ length (joined a f) + k = joined_ones f x a k (λ j from below. ones j from (omega (arith, below))) in
     rw (add-suc, ones (a + k) (omega arith) (omega arith), length-append) (omega arith)
 
-pub generator_weight : (T : PlainTable) (shapes : List Shape) → map shape_in shapes ≡ T.generators → (g : ℕ) (x : Shape) → g < length shapes → x ≡ get_or shapes g x → (generator_at T g).weight ≡ x.weight
+pub generator_weight : (T : PlainTable) (shapes : List Shape) → map shape_in shapes ≡ T.generators → (g : ℕ) (x : Shape) → g < length shapes →
+    x ≡ get_or shapes g x → (generator_at T g).weight ≡ x.weight
 generator_weight T shapes is g x lt here = rw (← is) (ap (λ s. s.weight) (map_at shape_in shapes g no_generator x lt here))
 
 module _ (T : PlainTable) (w g : ℕ) where
@@ -48,7 +50,8 @@ module _ (T : PlainTable) (w g : ℕ) where
   generator_yes is = joined_one g (generator_cell T w) ∙ ap (λ c. joined g (generator_cell T w) ++ c) (grind (arith, nat_tests))
 
   pub generator_no : (generator_at T g).weight ≢ w → joined (g + 1) (generator_cell T w) ≡ joined g (generator_cell T w)
-  generator_no not = joined_one g (generator_cell T w) ∙ ap (λ c. joined g (generator_cell T w) ++ c) (grind (arith, nat_tests)) ∙ append-nil (joined g (generator_cell T w))
+  generator_no not = joined_one g (generator_cell T w) ∙ ap (λ c. joined g (generator_cell T w) ++ c) (grind (arith, nat_tests)) ∙
+      append-nil (joined g (generator_cell T w))
 
 first_small : (b : Bool) (i n : ℕ) → i < n → cond b i (i + 1) ≤ n
 first_small true i n lt = omega arith
@@ -68,11 +71,13 @@ module _ (T : PlainTable) (shape : HasShape T) (w i : ℕ) (lti : i < length T.b
   before_other j ltj below =
       elim (nat_split j (first_partner T i)) [
         | inl small ↦ inl small
-        | inr large ↦ inr (λ is. let h : (plain_basis T j).weight ≤ w - (plain_basis T i).weight - 1 = through_below T shape (w - (plain_basis T i).weight - 1) j (omega arith) in omega arith)
+        | inr large ↦ inr (λ is. let h : (plain_basis T j).weight ≤ w - (plain_basis T i).weight - 1 =
+            through_below T shape (w - (plain_basis T i).weight - 1) j (omega arith) in omega arith)
       ]
 
   pub after_other : (j : ℕ) → j < length T.basis → through T (w - (plain_basis T i).weight) ≤ j → (plain_basis T i).weight + (plain_basis T j).weight ≢ w
-  after_other j ltj from is = let h : j < through T (w - (plain_basis T i).weight) = through_above T shape (w - (plain_basis T i).weight) j ltj (omega arith) in omega arith
+  after_other j ltj from is = let h : j < through T (w - (plain_basis T i).weight) = through_above T shape (w - (plain_basis T i).weight) j ltj
+      (omega arith) in omega arith
 
   pub within_is : (j : ℕ) → partner_from T i w ≤ j → j < through T (w - (plain_basis T i).weight) → (plain_basis T i).weight + (plain_basis T j).weight ≡ w
   within_is j from below =
@@ -106,7 +111,8 @@ module _ (T : PlainTable) (shape : HasShape T) (w i : ℕ) (lti : i < length T.b
       let same : j + (length T.basis - j) ≡ length T.basis = omega arith in
       rw (← same) (joined_skip (pair_cell T w i) j (length T.basis - j) (λ k from below. cell_after k (omega arith) (omega arith)))
 
-  pub row_more : (j : ℕ) → partner_from T i w ≤ j → j < through T (w - (plain_basis T i).weight) → joined (j + 1) (pair_cell T w i) ≡ joined j (pair_cell T w i) ++ of_pair i j ∷ []
+  pub row_more : (j : ℕ) → partner_from T i w ≤ j → j < through T (w - (plain_basis T i).weight) →
+      joined (j + 1) (pair_cell T w i) ≡ joined j (pair_cell T w i) ++ of_pair i j ∷ []
   row_more j from below = joined_one j (pair_cell T w i) ∙ ap (λ c. joined j (pair_cell T w i) ++ c) (cell_within j from below)
 
   -- how many pairs of weight w there are with b_i first
@@ -115,15 +121,20 @@ module _ (T : PlainTable) (shape : HasShape T) (w i : ℕ) (lti : i < length T.b
       let to_all : through T (w - (plain_basis T i).weight) ≤ length T.basis = through_within T shape (w - (plain_basis T i).weight) in
       elim (nat_split (partner_from T i w) (through T (w - (plain_basis T i).weight))) [
         | inl few ↦
-            let same : partner_from T i w + (through T (w - (plain_basis T i).weight) - partner_from T i w) ≡ through T (w - (plain_basis T i).weight) = omega arith in
-            let all : pair_cells T w i ≡ joined (through T (w - (plain_basis T i).weight)) (pair_cell T w i) = row_after (through T (w - (plain_basis T i).weight)) (omega arith) to_all in
-            let ones = joined_ones (pair_cell T w i) (of_pair i) (partner_from T i w) (through T (w - (plain_basis T i).weight) - partner_from T i w) (λ j from below. cell_within j from (omega arith)) in
+            let same : partner_from T i w + (through T (w - (plain_basis T i).weight) - partner_from T i w) ≡
+            through T (w - (plain_basis T i).weight) = omega arith in
+            let all : pair_cells T w i ≡ joined (through T (w - (plain_basis T i).weight)) (pair_cell T w i) =
+            row_after (through T (w - (plain_basis T i).weight)) (omega arith) to_all in
+            let ones = joined_ones (pair_cell T w i) (of_pair i) (partner_from T i w) (through T (w - (plain_basis T i).weight) - partner_from T i w)
+            (λ j from below. cell_within j from (omega arith)) in
             let none : joined (partner_from T i w) (pair_cell T w i) ≡ [] = row_before (partner_from T i w) (omega arith) (omega arith) in
             let count = rw (same, none) at ones in
             rw all (count ∙ omega arith)
         | inr none ↦
-            let all : pair_cells T w i ≡ joined (through T (w - (plain_basis T i).weight)) (pair_cell T w i) = row_after (through T (w - (plain_basis T i).weight)) (omega arith) to_all in
-            let empty : joined (through T (w - (plain_basis T i).weight)) (pair_cell T w i) ≡ [] = row_before (through T (w - (plain_basis T i).weight)) none to_all in
+            let all : pair_cells T w i ≡ joined (through T (w - (plain_basis T i).weight)) (pair_cell T w i) =
+            row_after (through T (w - (plain_basis T i).weight)) (omega arith) to_all in
+            let empty : joined (through T (w - (plain_basis T i).weight)) (pair_cell T w i) ≡ [] =
+            row_before (through T (w - (plain_basis T i).weight)) none to_all in
             rw (all, empty) (omega arith)
       ]
 
@@ -139,7 +150,8 @@ module _ (T : PlainTable) (shape : HasShape T) (w : ℕ) where
   pub pairs_more : (i : ℕ) → pairs_to T w (i + 1) ≡ pairs_to T w i ++ pair_cells T w i
   pairs_more i = joined_one i (pair_cells T w)
 
-  pub pairs_last : (i : ℕ) → through T (w - 1) ≤ i → i ≤ length T.basis → 1 ≤ w → symbols_of (shell_in T.kind T) (table_in T.kind T) w ≡ generator_cells T w ++ pairs_to T w i
+  pub pairs_last : (i : ℕ) → through T (w - 1) ≤ i → i ≤ length T.basis → 1 ≤ w → symbols_of (shell_in T.kind T) (table_in T.kind T) w ≡
+      generator_cells T w ++ pairs_to T w i
   unfolding symbols_of
   pairs_last i from le positive =
       let same : i + (length T.basis - i) ≡ length T.basis = omega arith in

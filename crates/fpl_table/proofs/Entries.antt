@@ -10,7 +10,8 @@ use Rattle.fpl_table.proofs.Weights.{through_above, through_heavier, through_wit
 abbrev pair_weight : PlainTable → ℕ → ℕ → ℕ
 pair_weight T i j = (plain_basis T i).weight + (plain_basis T j).weight
 
-module _ (T : PlainTable) (shape : HasShape T) (i j : ℕ) (lti : i < length T.basis) (ltj : j < length T.basis) (regular : first_partner T i ≤ j) (reached : pair_weight T i j ≤ T.weight) where
+module _ (T : PlainTable) (shape : HasShape T) (i j : ℕ) (lti : i < length T.basis) (ltj : j < length T.basis) (regular : first_partner T i ≤ j)
+    (reached : pair_weight T i j ≤ T.weight) where
   pub weight_place : pair_weight T i j - 1 < T.weight
   weight_place = let h : 1 ≤ (plain_basis T i).weight = shape.heavy i lti in omega arith
 
@@ -20,12 +21,14 @@ module _ (T : PlainTable) (shape : HasShape T) (i j : ℕ) (lti : i < length T.b
   pub partner_starts : partner_from T i (pair_weight T i j) ≤ j
   partner_starts =
       let h : 1 ≤ (plain_basis T j).weight = shape.heavy j ltj in
-      let k : through T (pair_weight T i j - (plain_basis T i).weight - 1) ≤ j = through_heavier T shape (pair_weight T i j - (plain_basis T i).weight - 1) j (omega arith) in
+      let k : through T (pair_weight T i j - (plain_basis T i).weight - 1) ≤ j = through_heavier T shape
+      (pair_weight T i j - (plain_basis T i).weight - 1) j (omega arith) in
       omega arith
 
   pub partner_place : j - partner_from T i (pair_weight T i j) < partners T i (pair_weight T i j)
   partner_place =
-      let h : j < through T (pair_weight T i j - (plain_basis T i).weight) = through_above T shape (pair_weight T i j - (plain_basis T i).weight) j ltj (omega arith) in
+      let h : j < through T (pair_weight T i j - (plain_basis T i).weight) = through_above T shape
+      (pair_weight T i j - (plain_basis T i).weight) j ltj (omega arith) in
       let k : partner_from T i (pair_weight T i j) ≤ j = partner_starts in
       omega arith
 
@@ -77,7 +80,8 @@ module _ (T : PlainTable) (shape : HasShape T) (i j : ℕ) (lti : i < length T.b
           sym (ap (λ rows. get_or rows (j - partner_from T i (pair_weight T i j)) []) left_is
           ∙ at_default (items v) (j - partner_from T i (pair_weight T i j)) [] row partner_within at_partner)
 
-pub image_row_within : (T : PlainTable) → HasShape T → (g : ℕ) → g < length T.generators → (generator_at T g).weight ≤ T.weight → IsRowUpTo T.kind (length T.basis) (image_row T g)
+pub image_row_within : (T : PlainTable) → HasShape T → (g : ℕ) → g < length T.generators → (generator_at T g).weight ≤ T.weight →
+    IsRowUpTo T.kind (length T.basis) (image_row T g)
 image_row_within T shape g lt reached =
     let h : 1 ≤ (generator_at T g).weight = (shape.weights g lt).0 in
     let row = shape.image_rows ((generator_at T g).weight - 1) g (omega arith) lt in
@@ -88,7 +92,8 @@ module _ (T : PlainTable) (shape : HasShape T) (g : ℕ) (lt : g < length T.gene
   image_place : (generator_at T g).weight - 1 < T.weight
   image_place = let h : 1 ≤ (generator_at T g).weight = (shape.weights g lt).0 in omega arith
 
-  module _ {L : Type 0} (levels : List L) (images : L → List (List Num)) (is : map images levels ≡ T.images) (level : L) (at_level : level ≡ get_or levels ((generator_at T g).weight - 1) level) where
+  module _ {L : Type 0} (levels : List L) (images : L → List (List Num)) (is : map images levels ≡ T.images) (level : L)
+      (at_level : level ≡ get_or levels ((generator_at T g).weight - 1) level) where
     images_are : images_at T ((generator_at T g).weight - 1) ≡ images level
     images_are =
         let h : length levels ≡ T.weight = sym (length-map levels images) ∙ ap length is ∙ shape.images_length in

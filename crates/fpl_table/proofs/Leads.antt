@@ -45,18 +45,22 @@ module _ (rows : List (List Num)) (n : ℕ) (leads : List ℕ) (k : ℕ) (lt : k
       let place : lead_place (get_or rows k []) ≡ pivot_of (get_or rows k []) = lead_place_is (get_or rows k []) in
       rw (add-one, rows_from) (grind (arith, nat_tests))
 
-  pub lead_set : (p : ℕ) → p < n → p ≡ pivot_of (get_or rows k []) → (s : ℕ) → s < n → row_by rows (get_or (set leads p (k + 1)) s 0) ≡ row_with_lead (drop k rows) s
+  pub lead_set : (p : ℕ) → p < n → p ≡ pivot_of (get_or rows k []) → (s : ℕ) → s < n → row_by rows (get_or (set leads p (k + 1)) s 0) ≡
+      row_with_lead (drop k rows) s
   lead_set p ltp is s lts =
       elim (nat_same s p) [
-        | inl e ↦ ap (λ x. row_by rows x) (ap (λ x. get_or (set leads p (k + 1)) x 0) e ∙ get_or-set_same leads p (k + 1) 0 (omega arith)) ∙ lead_here s (sym is ∙ sym e)
+        | inl e ↦ ap (λ x. row_by rows x) (ap (λ x. get_or (set leads p (k + 1)) x 0) e ∙ get_or-set_same leads p (k + 1) 0 (omega arith)) ∙
+            lead_here s (sym is ∙ sym e)
         | inr ne ↦ ap (λ x. row_by rows x) (get_or-set_other leads p s (k + 1) 0 ne) ∙ lead_other s lts (λ e. ne (sym e ∙ sym is))
       ]
 
   pub lead_within : (p : ℕ) → p < n → ((s : ℕ) → s < n → get_or leads s 0 ≤ length rows) → (s : ℕ) → s < n → get_or (set leads p (k + 1)) s 0 ≤ length rows
   lead_within p ltp within s lts =
       elim (nat_same s p) [
-        | inl e ↦ let h : get_or (set leads p (k + 1)) s 0 ≡ k + 1 = ap (λ x. get_or (set leads p (k + 1)) x 0) e ∙ get_or-set_same leads p (k + 1) 0 (omega arith) in omega arith
-        | inr ne ↦ let h : get_or (set leads p (k + 1)) s 0 ≡ get_or leads s 0 = get_or-set_other leads p s (k + 1) 0 ne in let g : get_or leads s 0 ≤ length rows = within s lts in omega arith
+        | inl e ↦ let h : get_or (set leads p (k + 1)) s 0 ≡ k + 1 = ap (λ x. get_or (set leads p (k + 1)) x 0) e ∙
+            get_or-set_same leads p (k + 1) 0 (omega arith) in omega arith
+        | inr ne ↦ let h : get_or (set leads p (k + 1)) s 0 ≡ get_or leads s 0 = get_or-set_other leads p s (k + 1) 0 ne in
+            let g : get_or leads s 0 ≤ length rows = within s lts in omega arith
       ]
 
 -- a place is free where it leads no row
@@ -64,7 +68,8 @@ lead_found : (rows : List (List Num)) (s : ℕ) → row_with_lead rows s ≡ Non
 lead_found [] s e = refl
 lead_found (row ∷ rows) s e = go (nat_eq (lead_place row) s) (lead_found rows s) e
   where
-    go : (b : Bool) → (row_with_lead rows s ≡ None → is_lead rows s ≡ false) → cond b (Some row) (row_with_lead rows s) ≡ None → cond b true (is_lead rows s) ≡ false
+    go : (b : Bool) → (row_with_lead rows s ≡ None → is_lead rows s ≡ false) → cond b (Some row) (row_with_lead rows s) ≡ None →
+        cond b true (is_lead rows s) ≡ false
     go true h e = cc
     go false h e = h e
 
@@ -72,7 +77,8 @@ lead_lost : (rows : List (List Num)) (s : ℕ) (row : List Num) → row_with_lea
 lead_lost [] s row e = cc
 lead_lost (x ∷ rows) s row e = go (nat_eq (lead_place x) s) (lead_lost rows s row) e
   where
-    go : (b : Bool) → (row_with_lead rows s ≡ Some row → is_lead rows s ≡ true) → cond b (Some x) (row_with_lead rows s) ≡ Some row → cond b true (is_lead rows s) ≡ true
+    go : (b : Bool) → (row_with_lead rows s ≡ Some row → is_lead rows s ≡ true) → cond b (Some x) (row_with_lead rows s) ≡ Some row →
+        cond b true (is_lead rows s) ≡ true
     go true h e = refl
     go false h e = h e
 
@@ -100,7 +106,8 @@ pub rank_at : (rows : List (List Num)) (n : ℕ) (ranks : List ℕ) → AreRanks
 rank_at rows n ranks are s r lt is = is ∙ get_or_default ranks s r 0 (omega (arith, lt, are.count)) ∙ are.ranks_are s lt
 
 -- the rank of one place more
-pub ranks_more : (rows : List (List Num)) (s : ℕ) (ranks : List ℕ) (rank : ℕ) → length ranks ≡ s → rank ≡ length (free_in rows s) → ((t : ℕ) → t < s → get_or ranks t 0 ≡ length (free_in rows t)) →
+pub ranks_more : (rows : List (List Num)) (s : ℕ) (ranks : List ℕ) (rank : ℕ) → length ranks ≡ s → rank ≡ length (free_in rows s) →
+    ((t : ℕ) → t < s → get_or ranks t 0 ≡ length (free_in rows t)) →
     (t : ℕ) → t < s + 1 → get_or (ranks ++ rank ∷ []) t 0 ≡ length (free_in rows t)
 ranks_more rows s ranks rank count is are t lt =
     elim (nat_same t s) [
@@ -114,9 +121,11 @@ unfolding free_in
 free_below rows zero i d lt = absurd (omega (arith, lt))
 free_below rows (suc m) i d lt = go (is_lead rows m) (λ j e below. free_below rows m j e below) lt
   where
-    go : (b : Bool) → ((j e : ℕ) → j < length (free_in rows m) → get_or (free_in rows m) j e < m) → i < length (cond b (free_in rows m) (free_in rows m ++ m ∷ [])) → get_or (cond b (free_in rows m) (free_in rows m ++ m ∷ [])) i d < suc m
+    go : (b : Bool) → ((j e : ℕ) → j < length (free_in rows m) → get_or (free_in rows m) j e < m) →
+        i < length (cond b (free_in rows m) (free_in rows m ++ m ∷ [])) → get_or (cond b (free_in rows m) (free_in rows m ++ m ∷ [])) i d < suc m
     go true h below = let k : get_or (free_in rows m) i d < m = h i d below in omega arith
-    go false h below = all_push (λ t. t < suc m) (free_in rows m) m (λ j e within. let k : get_or (free_in rows m) j e < m = h j e within in omega arith) (omega arith) i d below
+    go false h below = all_push (λ t. t < suc m) (free_in rows m) m (λ j e within. let k : get_or (free_in rows m) j e < m = h j e within in
+        omega arith) (omega arith) i d below
 
 pub free_few : (rows : List (List Num)) (m : ℕ) → length (free_in rows m) ≤ m
 unfolding free_in

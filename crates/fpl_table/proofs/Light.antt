@@ -39,7 +39,8 @@ module _ (k : Kind) (P : Presentation (Number k)) where
     weigh_same end = refl
     weigh_same (more e es) = ap₂ (of_both nat_eq) (weighs_same e) (weigh_same es)
 
-pub light_by : (T : PlainTable) (p : declared.Presentation) (t : Tree Num) → Agrees T p → is_light T t ≡ is_weight_light T.weight (weight_of (presentation_in p) (in_field p.field t))
+pub light_by : (T : PlainTable) (p : declared.Presentation) (t : Tree Num) → Agrees T p → is_light T t ≡
+    is_weight_light T.weight (weight_of (presentation_in p) (in_field p.field t))
 light_by T p t agrees =
     ap (is_weight_light T.weight) (weighs_same T.kind (shell_in T.kind T) t ∙ ap (λ gs. weighs gs t) agrees.1 ∙ sym (weighs_same p.field (presentation_in p) t))
 

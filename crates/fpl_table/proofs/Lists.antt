@@ -30,7 +30,8 @@ at_default (y ∷ ys) zero d x lt is = sym is
 at_default (y ∷ ys) (suc i) d x lt is = at_default ys i d x (omega (arith, lt)) is
 
 -- one element more
-pub all_push : {A : Type 0} (P : A → Type 0) (xs : List A) (x : A) → All P xs → P x → (k : ℕ) (d : A) → k < length (xs ++ x ∷ []) → P (get_or (xs ++ x ∷ []) k d)
+pub all_push : {A : Type 0} (P : A → Type 0) (xs : List A) (x : A) → All P xs → P x → (k : ℕ) (d : A) → k < length (xs ++ x ∷ []) →
+    P (get_or (xs ++ x ∷ []) k d)
 all_push P [] x h p zero d lt = p
 all_push P [] x h p (suc k) d lt = absurd (omega (arith, lt))
 all_push P (y ∷ ys) x h p zero d lt = h zero d (omega arith)

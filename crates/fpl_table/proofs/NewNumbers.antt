@@ -56,12 +56,14 @@ module _ (n : ℕ) (number : ℕ → Num) where
     pub tells_number : (x : Num) → x ≡ number t → Tells n number (free ++ t ∷ []) (ps ++ (n + length free) ∷ []) (xs ++ x ∷ [])
     tells_number x is = record {
       packing = subst (λ k. IsPacking k (ps ++ (n + length free) ∷ []) (length (xs ++ x ∷ []))) (sym one_more)
-          (subst (λ k. IsPacking (suc (n + length free)) (ps ++ (n + length free) ∷ []) k) (sym (length-append xs (x ∷ []) ∙ add-one (length xs))) (packing_more (n + length free) ps (length xs) h.packing));
+          (subst (λ k. IsPacking (suc (n + length free)) (ps ++ (n + length free) ∷ []) k) (sym (length-append xs (x ∷ []) ∙ add-one (length xs)))
+          (packing_more (n + length free) ps (length xs) h.packing));
       value = ap (λ k. spread k (ps ++ (n + length free) ∷ []) (xs ++ x ∷ [])) one_more ∙ spread_more (n + length free) ps xs x h.packing.same h.packing.within
           ∙ ap (λ ys. ys ++ x ∷ []) h.value ∙ ap (λ y. (zero_row n ++ map number free) ++ y ∷ []) is ∙ numbers_more;
     }
 
-  tells_step : (rows : List (List Num)) (ps : List ℕ) (xs : List Num) (t : ℕ) → number t ≡ residue 0 → Tells n number (free_in rows t) ps xs → Tells n number (free_in rows (suc t)) ps xs
+  tells_step : (rows : List (List Num)) (ps : List ℕ) (xs : List Num) (t : ℕ) → number t ≡ residue 0 → Tells n number (free_in rows t) ps xs →
+      Tells n number (free_in rows (suc t)) ps xs
   unfolding free_in
   tells_step rows ps xs t z k = go (is_lead rows t)
     where
@@ -83,7 +85,8 @@ module _ (n : ℕ) (number : ℕ → Num) where
           (tells_step rows ps xs (from + k) (none (from + k) (omega arith) (omega arith)) (on k (λ u a b. none u a (omega (arith, b)))))
 
 -- the row that they tell
-module _ {E : Type 0} (f : E → Num) (n : ℕ) (number : ℕ → Num) (free ps : List ℕ) (ys : List E) (size : ℕ) (is : size ≡ n + length free) (h : Tells n number free ps (map f ys)) where
+module _ {E : Type 0} (f : E → Num) (n : ℕ) (number : ℕ → Num) (free ps : List ℕ) (ys : List E) (size : ℕ) (is : size ≡ n + length free)
+    (h : Tells n number free ps (map f ys)) where
   pub told_packing : IsPacking size ps (length ys)
   told_packing = subst (λ k. IsPacking k ps (length ys)) (sym is) (subst (λ k. IsPacking (n + length free) ps k) (length-map ys f) h.packing)
 
@@ -95,13 +98,16 @@ module _ (n : ℕ) (rows : List (List Num)) (s : ℕ) where
   abbrev pub unit_at : ℕ → Num
   unit_at t = cond (nat_eq t s) (residue 1) (residue 0)
 
-  pub unit_told : (m : ℕ) → s < m → row_with_lead rows s ≡ None → (p : ℕ) (x : Num) → p ≡ n + length (free_in rows s) → x ≡ residue 1 → Tells n unit_at (free_in rows m) (p ∷ []) (x ∷ [])
+  pub unit_told : (m : ℕ) → s < m → row_with_lead rows s ≡ None → (p : ℕ) (x : Num) → p ≡ n + length (free_in rows s) → x ≡ residue 1 →
+      Tells n unit_at (free_in rows m) (p ∷ []) (x ∷ [])
   unfolding free_in
   unit_told m lt none p x at is =
-      let before : Tells n unit_at (free_in rows s) [] [] = tells_past n unit_at rows [] [] 0 s (omega arith) (λ u from below. grind (arith, nat_tests)) (tells_none n unit_at) in
+      let before : Tells n unit_at (free_in rows s) [] [] = tells_past n unit_at rows [] [] 0 s (omega arith)
+      (λ u from below. grind (arith, nat_tests)) (tells_none n unit_at) in
       let here : x ≡ unit_at s = is ∙ grind (arith, nat_tests) in
       let one : Tells n unit_at (free_in rows (s + 1)) ((n + length (free_in rows s)) ∷ []) (x ∷ []) =
-      subst (λ free. Tells n unit_at free ((n + length (free_in rows s)) ∷ []) (x ∷ [])) (sym (free_more rows s none)) (tells_number n unit_at (free_in rows s) [] [] s before x here) in
+      subst (λ free. Tells n unit_at free ((n + length (free_in rows s)) ∷ []) (x ∷ [])) (sym (free_more rows s none))
+      (tells_number n unit_at (free_in rows s) [] [] s before x here) in
       tells_past n unit_at rows (p ∷ []) (x ∷ []) (s + 1) m (omega (arith, lt)) (λ u from below. grind (arith, nat_tests))
       (subst (λ k. Tells n unit_at (free_in rows (s + 1)) (k ∷ []) (x ∷ [])) (sym at) one)
 
@@ -110,7 +116,8 @@ module _ (n : ℕ) (kind : Kind) (rows : List (List Num)) (m : ℕ) (leads : Lis
   abbrev negated : ℕ → Num
   negated u = negative_of kind (get_or row u (residue 0))
 
-  none_between : (from to : ℕ) → to ≤ length row → ((u : ℕ) → from ≤ u → u < to → is_nought (get_or row u (residue 0)) ≡ true) → (u : ℕ) → from ≤ u → u < to → negated u ≡ residue 0
+  none_between : (from to : ℕ) → to ≤ length row → ((u : ℕ) → from ≤ u → u < to → is_nought (get_or row u (residue 0)) ≡ true) → (u : ℕ) → from ≤ u →
+      u < to → negated u ≡ residue 0
   none_between from to le h u a b = negative_nought kind (get_or row u (residue 0)) (is.elements u (residue 0) (omega (arith, le, b))) (h u a b)
 
   module _ (ps : List ℕ) (xs : List Num) (after s : ℕ) (next : Some s ≡ next_of row after) (h : Tells n negated (free_in rows after) ps xs) where
@@ -130,13 +137,16 @@ module _ (n : ℕ) (kind : Kind) (rows : List (List Num)) (m : ℕ) (leads : Lis
         subst (λ t. Tells n negated (free_in rows t) ps xs) same
         (subst (λ free. Tells n negated free ps xs) (sym (free_not rows m leads are (s - 1) place ne)) before)
 
-    pub number_told : get_or leads (s - 1) 0 ≡ 0 → (p : ℕ) (x : Num) → p ≡ n + length (free_in rows (s - 1)) → x ≡ negated (s - 1) → Tells n negated (free_in rows s) (ps ++ p ∷ []) (xs ++ x ∷ [])
+    pub number_told : get_or leads (s - 1) 0 ≡ 0 → (p : ℕ) (x : Num) → p ≡ n + length (free_in rows (s - 1)) → x ≡ negated (s - 1) →
+        Tells n negated (free_in rows s) (ps ++ p ∷ []) (xs ++ x ∷ [])
     number_told e p x at value =
         subst (λ k. Tells n negated (free_in rows s) (ps ++ k ∷ []) (xs ++ x ∷ [])) (sym at)
         (subst (λ t. Tells n negated (free_in rows t) (ps ++ (n + length (free_in rows (s - 1))) ∷ []) (xs ++ x ∷ [])) same
         (subst (λ free. Tells n negated free (ps ++ (n + length (free_in rows (s - 1))) ∷ []) (xs ++ x ∷ [])) (sym (free_here rows m leads are (s - 1) place e))
         (tells_number n negated (free_in rows (s - 1)) ps xs (s - 1) before x value)))
 
-  pub all_told : (ps : List ℕ) (xs : List Num) (after : ℕ) → after ≤ length row → None ≡ next_of row after → Tells n negated (free_in rows after) ps xs → Tells n negated (free_in rows m) ps xs
+  pub all_told : (ps : List ℕ) (xs : List Num) (after : ℕ) → after ≤ length row → None ≡ next_of row after →
+      Tells n negated (free_in rows after) ps xs → Tells n negated (free_in rows m) ps xs
   all_told ps xs after le none h =
-      tells_past n negated rows ps xs after m (omega (arith, le, is.length_is)) (none_between after m (omega (arith, is.length_is)) (λ u a b. next_is_none row after none u a (omega (arith, b, is.length_is)))) h
+      tells_past n negated rows ps xs after m (omega (arith, le, is.length_is)) (none_between after m (omega (arith, is.length_is))
+      (λ u a b. next_is_none row after none u a (omega (arith, b, is.length_is)))) h

@@ -27,7 +27,8 @@ module _ (c : Num) (fit : Fits Rational c) where
       omega (arith, product, at_most)
 
   both_small : unsigned_abs (both_parts (residue 0) c) ≤ most_number
-  both_small = (let h = abs-sum-le (left_part (residue 0) c) (right_part (residue 0) c) in let l = left_small in let r = right_small in let f = fit.0 in omega (arith, h, l, r, f))
+  both_small = (let h = abs-sum-le (left_part (residue 0) c) (right_part (residue 0) c) in let l = left_small in let r = right_small in let f =
+      fit.0 in omega (arith, h, l, r, f))
 
   below_small : sum_below (residue 0) c ≤ unsigned_abs c.denominator
   below_small =
@@ -36,10 +37,13 @@ module _ (c : Num) (fit : Fits Rational c) where
 
   fraction_nought : fraction_fits Add (residue 0) c ≡ true
   fraction_nought =
-      let left : is_within (left_part (residue 0) c) ≡ true = within (unsigned_abs (left_part (residue 0) c)) most_number (let l = left_small in omega (arith, l)) in
-      let right : is_within (right_part (residue 0) c) ≡ true = within (unsigned_abs (right_part (residue 0) c)) most_number (let r = right_small in let f = fit.0 in omega (arith, r, f)) in
+      let left : is_within (left_part (residue 0) c) ≡ true = within (unsigned_abs (left_part (residue 0) c)) most_number
+      (let l = left_small in omega (arith, l)) in
+      let right : is_within (right_part (residue 0) c) ≡ true = within (unsigned_abs (right_part (residue 0) c)) most_number
+      (let r = right_small in let f = fit.0 in omega (arith, r, f)) in
       let both : is_within (both_parts (residue 0) c) ≡ true = within (unsigned_abs (both_parts (residue 0) c)) most_number both_small in
-      let below : nat_le (sum_below (residue 0) c) most_number ≡ true = within (sum_below (residue 0) c) most_number (let s = below_small in let f = fit.1 in omega (arith, s, f)) in
+      let below : nat_le (sum_below (residue 0) c) most_number ≡ true = within (sum_below (residue 0) c) most_number
+      (let s = below_small in let f = fit.1 in omega (arith, s, f)) in
       ap (λ a. a && is_within (right_part (residue 0) c) && is_within (both_parts (residue 0) c) && nat_le (sum_below (residue 0) c) most_number) left
       ∙ ap (λ a. a && is_within (both_parts (residue 0) c) && nat_le (sum_below (residue 0) c) most_number) right
       ∙ ap (λ a. a && nat_le (sum_below (residue 0) c) most_number) both

@@ -25,7 +25,8 @@ IsNumberFrom s xs x None = place_of x xs ≡ length xs
 IsNumberFrom s xs x (Some r) = (s + 1 ≤ r) × (r ≤ s + length xs) × (place_of x xs ≡ r - (s + 1))
 
 module _ (x : code.Symbol) (numbered : IsNumbered x) where
-  one_more : (y : code.Symbol) (ys : List Symbol) (s : ℕ) (rest : Option ℕ) (test : Bool) → same_symbol (symbol_in x) (symbol_in y) ≡ test → IsNumberFrom (s + 1) ys (symbol_in x) rest →
+  one_more : (y : code.Symbol) (ys : List Symbol) (s : ℕ) (rest : Option ℕ) (test : Bool) → same_symbol (symbol_in x) (symbol_in y) ≡ test →
+      IsNumberFrom (s + 1) ys (symbol_in x) rest →
       IsNumberFrom s (symbol_in y ∷ ys) (symbol_in x) (cond test (Some (s + 1)) rest)
   unfolding place_of
   one_more y ys s rest true e h = (omega arith, omega arith, rw e (omega arith))
@@ -37,13 +38,15 @@ module _ (x : code.Symbol) (numbered : IsNumbered x) where
   placed [] s all = refl
   placed (y ∷ ys) s all =
       let same = same_code x y numbered (all 0 y (omega arith)) in
-      rw same (one_more y (map symbol_in ys) s (number_from eq-value.it (s + 1) ys x) (same_symbol (symbol_in x) (symbol_in y)) refl (placed ys (s + 1) (λ k d lt. all (suc k) d (omega arith))))
+      rw same (one_more y (map symbol_in ys) s (number_from eq-value.it (s + 1) ys x) (same_symbol (symbol_in x) (symbol_in y)) refl
+      (placed ys (s + 1) (λ k d lt. all (suc k) d (omega arith))))
 
 is_number : (xs : List Symbol) (x : Symbol) (r : Option ℕ) → IsNumberFrom 0 xs x r → IsNumberOf xs x r
 is_number xs x None h = h
 is_number xs x (Some r) h = (let a = h.0 in omega arith, let b = h.1 in omega arith, h.2 ∙ (let e : r - (0 + 1) ≡ r - 1 = omega arith in e))
 
-pub number_is : (list : List code.Symbol) (x : code.Symbol) (r : Option ℕ) → All IsNumbered list → IsNumbered x → r ≡ number_from eq-value.it 0 list x → IsNumberOf (map symbol_in list) (symbol_in x) r
+pub number_is : (list : List code.Symbol) (x : code.Symbol) (r : Option ℕ) → All IsNumbered list → IsNumbered x →
+    r ≡ number_from eq-value.it 0 list x → IsNumberOf (map symbol_in list) (symbol_in x) r
 number_is list x r all numbered e = rw e (is_number (map symbol_in list) (symbol_in x) (number_from eq-value.it 0 list x) (placed x numbered list 0 all))
 
 at : (list : List code.Symbol) (t n : ℕ) (x d : code.Symbol) → t < length list →
@@ -63,7 +66,8 @@ one_before list s x d l m =
     ∙ ap (λ t. cond (eq-value.it (get_or list (s - 1) d) x) (Some s) (number_from eq-value.it s (drop t list) x)) place
 
 -- one symbol put into a map of numbers
-pub one_put : (list : List code.Symbol) (s : ℕ) (x d : code.Symbol) (old : Option ℕ) → 0 < s → s ≤ length list → old ≡ number_from eq-value.it s (drop s list) x →
+pub one_put : (list : List code.Symbol) (s : ℕ) (x d : code.Symbol) (old : Option ℕ) → 0 < s → s ≤ length list →
+    old ≡ number_from eq-value.it s (drop s list) x →
     cond (eq-value.it (get_or list (s - 1) d) x) (Some s) old ≡ number_from eq-value.it (s - 1) (drop (s - 1) list) x
 one_put list s x d old l m e = ap (cond (eq-value.it (get_or list (s - 1) d) x) (Some s)) e ∙ sym (one_before list s x d l m)
 

@@ -26,14 +26,16 @@ module _ (T : PlainTable) (before : List Symbol) (x : Symbol) (at : StandsAfter 
   symbol_here = rw at.all (at_middle before x at.after no_symbol)
 
   pub place_here : place_of x (symbols_in T) ≡ length before
-  place_here = ap (λ y. place_of y (symbols_in T)) (sym symbol_here) ∙ place_number (field_of T.kind) (shell_in T.kind T) (table_in T.kind T) (length before) place_within
+  place_here = ap (λ y. place_of y (symbols_in T)) (sym symbol_here) ∙ place_number (field_of T.kind) (shell_in T.kind T) (table_in T.kind T)
+      (length before) place_within
 
 pub joined_split : (f : ℕ → List Symbol) (n i : ℕ) → i < n → (tail : List Symbol) × (joined n f ≡ joined i f ++ (f i ++ tail))
 unfolding joined
 joined_split f zero i lt = absurd (omega (arith, lt))
 joined_split f (suc n) i lt =
     elim (nat_split i n) [
-      | inl below ↦ let r = joined_split f n i below in (r.0 ++ f n, rw r.1 (append_assoc (joined i f) (f i ++ r.0) (f n) ∙ ap (λ l. joined i f ++ l) (append_assoc (f i) r.0 (f n))))
+      | inl below ↦ let r = joined_split f n i below in
+          (r.0 ++ f n, rw r.1 (append_assoc (joined i f) (f i ++ r.0) (f n) ∙ ap (λ l. joined i f ++ l) (append_assoc (f i) r.0 (f n))))
       | inr above ↦ let same : n ≡ i = omega arith in ([], ap (λ k. joined k f ++ f k) same ∙ ap (λ l. joined i f ++ l) (sym (append-nil (f i))))
     ]
 
@@ -41,7 +43,8 @@ regroup : (a b c : List Symbol) (x : Symbol) (d e : List Symbol) → a ++ (b ++ 
 regroup a b c x d e = simp append_assoc
 
 module _ (T : PlainTable) where
-  generator_stands : (g : ℕ) → g < length T.generators → (generator_at T g).weight ≡ suc T.weight → StandsAfter T (joined g (generator_cell T (suc T.weight))) (of_generator g)
+  generator_stands : (g : ℕ) → g < length T.generators → (generator_at T g).weight ≡ suc T.weight →
+      StandsAfter T (joined g (generator_cell T (suc T.weight))) (of_generator g)
   unfolding symbols symbols_of
   generator_stands g lt is =
       let r = joined_split (generator_cell T (suc T.weight)) (length T.generators) g lt in
@@ -52,10 +55,12 @@ module _ (T : PlainTable) where
             ∙ append_assoc (joined g (generator_cell T (suc T.weight))) (of_generator g ∷ r.0) (pairs_of (table_in T.kind T) (suc T.weight));
       }
 
-  pub generator_within : (g : ℕ) → g < length T.generators → (generator_at T g).weight ≡ suc T.weight → length (joined g (generator_cell T (suc T.weight))) < length (symbols_in T)
+  pub generator_within : (g : ℕ) → g < length T.generators → (generator_at T g).weight ≡ suc T.weight →
+      length (joined g (generator_cell T (suc T.weight))) < length (symbols_in T)
   generator_within g lt is = place_within T _ _ (generator_stands g lt is)
 
-  pub generator_place : (g : ℕ) → g < length T.generators → (generator_at T g).weight ≡ suc T.weight → place_of (of_generator g) (symbols_in T) ≡ length (joined g (generator_cell T (suc T.weight)))
+  pub generator_place : (g : ℕ) → g < length T.generators → (generator_at T g).weight ≡ suc T.weight →
+      place_of (of_generator g) (symbols_in T) ≡ length (joined g (generator_cell T (suc T.weight)))
   generator_place g lt is = place_here T _ _ (generator_stands g lt is)
 
 module _ (T : PlainTable) (shape : HasShape T) (i : ℕ) (lti : i < length T.basis) where
@@ -73,10 +78,12 @@ module _ (T : PlainTable) (shape : HasShape T) (i : ℕ) (lti : i < length T.bas
         let r = joined_split (pair_cells T (suc T.weight)) (length T.basis) i lti in
         let q = joined_split (pair_cell T (suc T.weight) i) (length T.basis) j (omega arith) in
         let one : pair_cell T (suc T.weight) i j ≡ of_pair i j ∷ [] = cell_within T shape (suc T.weight) i lti above j from to in
-        let row : pair_cells T (suc T.weight) i ≡ joined j (pair_cell T (suc T.weight) i) ++ of_pair i j ∷ q.0 = q.1 ∙ ap (λ c. joined j (pair_cell T (suc T.weight) i) ++ (c ++ q.0)) one in
+        let row : pair_cells T (suc T.weight) i ≡ joined j (pair_cell T (suc T.weight) i) ++ of_pair i j ∷ q.0 =
+        q.1 ∙ ap (λ c. joined j (pair_cell T (suc T.weight) i) ++ (c ++ q.0)) one in
         record {
           after = q.0 ++ r.0;
-          all = ap (λ l. generator_cells T (suc T.weight) ++ l) (r.1 ∙ ap (λ c. pairs_to T (suc T.weight) i ++ (c ++ r.0)) row) ∙ regroup (generator_cells T (suc T.weight)) (pairs_to T (suc T.weight) i) (joined j (pair_cell T (suc T.weight) i)) (of_pair i j) q.0 r.0;
+          all = ap (λ l. generator_cells T (suc T.weight) ++ l) (r.1 ∙ ap (λ c. pairs_to T (suc T.weight) i ++ (c ++ r.0)) row) ∙
+              regroup (generator_cells T (suc T.weight)) (pairs_to T (suc T.weight) i) (joined j (pair_cell T (suc T.weight) i)) (of_pair i j) q.0 r.0;
         }
 
     length_before : length before ≡ length (generator_cells T (suc T.weight)) + length (pairs_to T (suc T.weight) i) + (j - partner_from T i (suc T.weight))
@@ -90,10 +97,12 @@ module _ (T : PlainTable) (shape : HasShape T) (i : ℕ) (lti : i < length T.bas
         let count = rw (same, none) at ones in
         rw (length-append, length-append) (omega (arith, count))
 
-    pub pair_within : length (generator_cells T (suc T.weight)) + length (pairs_to T (suc T.weight) i) + (j - partner_from T i (suc T.weight)) < length (symbols_in T)
+    pub pair_within : length (generator_cells T (suc T.weight)) + length (pairs_to T (suc T.weight) i) +
+        (j - partner_from T i (suc T.weight)) < length (symbols_in T)
     pair_within = rw (← length_before) (place_within T _ _ pair_stands)
 
-    pub pair_place : place_of (of_pair i j) (symbols_in T) ≡ length (generator_cells T (suc T.weight)) + length (pairs_to T (suc T.weight) i) + (j - partner_from T i (suc T.weight))
+    pub pair_place : place_of (of_pair i j) (symbols_in T) ≡ length (generator_cells T (suc T.weight)) +
+        length (pairs_to T (suc T.weight) i) + (j - partner_from T i (suc T.weight))
     pair_place = place_here T _ _ pair_stands ∙ length_before
 
 of_table : (T : PlainTable) (x : Symbol) → IsSymbol (shell_in T.kind T) (table_in T.kind T) x → IsOfTable T x

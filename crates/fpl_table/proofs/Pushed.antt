@@ -22,7 +22,8 @@ length-entries : (T : PlainTable) (rows : List (List Num)) (i : ℕ) (bs : List 
 length-entries T rows i [] = refl
 length-entries T rows i (b ∷ bs) = ap suc (length-entries T rows (i + 1) bs)
 
-entries_at_place : (T : PlainTable) (rows : List (List Num)) (k : ℕ) (bs : List Basis) (i : ℕ) → i < length bs → get_or (new_entries T rows k bs) i [] ≡ new_partners T rows (k + i) 0 T.basis
+entries_at_place : (T : PlainTable) (rows : List (List Num)) (k : ℕ) (bs : List Basis) (i : ℕ) → i < length bs →
+    get_or (new_entries T rows k bs) i [] ≡ new_partners T rows (k + i) 0 T.basis
 entries_at_place T rows k [] i lt = absurd (omega (arith, lt))
 entries_at_place T rows k (b ∷ bs) zero lt = let same : k ≡ k + 0 = omega arith in ap (λ j. new_partners T rows j 0 T.basis) same
 entries_at_place T rows k (b ∷ bs) (suc i) lt =
@@ -34,7 +35,8 @@ map_place T [] q lt = absurd (omega (arith, lt))
 map_place T (t ∷ ts) zero lt = refl
 map_place T (t ∷ ts) (suc q) lt = map_place T ts q (omega (arith, lt))
 
-length-partners : (T : PlainTable) → HasShape T → (rows : List (List Num)) (i : ℕ) → i < length T.basis → length (new_partners T rows i 0 T.basis) ≡ partners T i (suc T.weight)
+length-partners : (T : PlainTable) → HasShape T → (rows : List (List Num)) (i : ℕ) → i < length T.basis →
+    length (new_partners T rows i 0 T.basis) ≡ partners T i (suc T.weight)
 length-partners T shape rows i lt = partners_length T rows shape i lt
 
 module _ (T : PlainTable) (rows : List (List Num)) (shape : HasShape T) (below : T.weight < 1000) (few : length (symbols_in T) ≤ 2000000) where
@@ -53,8 +55,10 @@ module _ (T : PlainTable) (rows : List (List Num)) (shape : HasShape T) (below :
   fresh_basis : (q : ℕ) → q < length (free_of T rows) → plain_basis (push_of T rows) (length T.basis + q) ≡ new_basis T (get_or (free_of T rows) q 0)
   fresh_basis q lt = get_or-append-add T.basis (map (new_basis T) (free_of T rows)) q no_basis ∙ map_place T (free_of T rows) q lt
 
-  fresh_heavy : (w : ℕ) → w < suc T.weight → (i : ℕ) → i < length (map (new_basis T) (free_of T rows)) → w < (get_or (map (new_basis T) (free_of T rows)) i no_basis).weight
-  fresh_heavy w lt i within = let h : (get_or (map (new_basis T) (free_of T rows)) i no_basis).weight ≡ suc T.weight = ap (λ b. b.weight) (map_place T (free_of T rows) i (rw (← fresh_length) within)) in omega arith
+  fresh_heavy : (w : ℕ) → w < suc T.weight → (i : ℕ) → i < length (map (new_basis T) (free_of T rows)) →
+      w < (get_or (map (new_basis T) (free_of T rows)) i no_basis).weight
+  fresh_heavy w lt i within = let h : (get_or (map (new_basis T) (free_of T rows)) i no_basis).weight ≡ suc T.weight =
+      ap (λ b. b.weight) (map_place T (free_of T rows) i (rw (← fresh_length) within)) in omega arith
 
   -- where a basis element stands
   data Place (i : ℕ) : Type 0 where
@@ -84,7 +88,8 @@ module _ (T : PlainTable) (rows : List (List Num)) (shape : HasShape T) (below :
   weight_up i lt = go (place i lt)
     where
       go : Place i → (plain_basis (push_of T rows) i).weight ≤ suc T.weight
-      go (old within) = let h : (plain_basis T i).weight ≤ T.weight = shape.light i within in let e : (plain_basis (push_of T rows) i).weight ≡ (plain_basis T i).weight = old_weight i within in omega arith
+      go (old within) = let h : (plain_basis T i).weight ≤ T.weight = shape.light i within in
+          let e : (plain_basis (push_of T rows) i).weight ≡ (plain_basis T i).weight = old_weight i within in omega arith
       go (new q ltq is) = let e : (plain_basis (push_of T rows) i).weight ≡ suc T.weight = new_weight q i ltq is in omega arith
 
   pub through_new : through (push_of T rows) (suc T.weight) ≡ length T.basis + length (free_of T rows)
@@ -101,7 +106,8 @@ module _ (T : PlainTable) (rows : List (List Num)) (shape : HasShape T) (below :
   weights_ascend i j le lt = go (place j lt)
     where
       go : Place j → (plain_basis (push_of T rows) i).weight ≤ (plain_basis (push_of T rows) j).weight
-      go (old within) = let h : (plain_basis T i).weight ≤ (plain_basis T j).weight = shape.ascend i j le within in rw (old_weight i (omega arith), old_weight j within) h
+      go (old within) = let h : (plain_basis T i).weight ≤ (plain_basis T j).weight = shape.ascend i j le within in
+          rw (old_weight i (omega arith), old_weight j within) h
       go (new q ltq is) = rw (new_weight q j ltq is) (weight_up i (omega arith))
 
   grows : (x : Symbol) → IsOfTable T x → IsOfTable (push_of T rows) x
@@ -116,7 +122,8 @@ module _ (T : PlainTable) (rows : List (List Num)) (shape : HasShape T) (below :
       go (new q ltq is) =
           let at : get_or (free_of T rows) q 0 < length (symbols_in T) = free_below rows (length (symbols_in T)) q 0 ltq in
           grows (plain_basis (push_of T rows) i).symbol
-          (subst (λ b. IsOfTable T b.symbol) (sym (ap (plain_basis (push_of T rows)) (sym is) ∙ fresh_basis q ltq)) (symbol_of_table T (get_or (free_of T rows) q 0) at))
+          (subst (λ b. IsOfTable T b.symbol) (sym (ap (plain_basis (push_of T rows)) (sym is) ∙ fresh_basis q ltq))
+          (symbol_of_table T (get_or (free_of T rows) q 0) at))
 
   before_more : (m n : ℕ) (x : Symbol) → m ≤ n → IsBefore m x → IsBefore n x
   before_more m n (of_generator g) le h = tt
@@ -151,7 +158,8 @@ module _ (T : PlainTable) (rows : List (List Num)) (shape : HasShape T) (below :
       ap₂ (λ a b. a - b) here (ap₂ max (first_old i lt) less)
 
   -- what stands at a weight of the table, and at the new one
-  level_old : {A : Type 0} (levels : List (List A)) (l : List A) (v : ℕ) → length levels ≡ T.weight → v < T.weight → get_or (levels ++ l ∷ []) v [] ≡ get_or levels v []
+  level_old : {A : Type 0} (levels : List (List A)) (l : List A) (v : ℕ) → length levels ≡ T.weight → v < T.weight →
+      get_or (levels ++ l ∷ []) v [] ≡ get_or levels v []
   level_old levels l v is lt = get_or_append_left levels (l ∷ []) [] v (omega arith)
 
   level_new : {A : Type 0} (levels : List (List A)) (l : List A) (v : ℕ) → length levels ≡ T.weight → T.weight ≡ v → get_or (levels ++ l ∷ []) v [] ≡ l
@@ -173,15 +181,18 @@ module _ (T : PlainTable) (rows : List (List Num)) (shape : HasShape T) (below :
         | inr here ↦ ap length (level_new T.images (new_images T rows 0 T.generators) v shape.images_length here) ∙ length-images T rows 0 T.generators
       ]
 
-  image_whole : All (IsRowUpTo T.kind (length T.basis + length (free_of T rows))) (new_images T rows 0 T.generators) → (v g : ℕ) → v < suc T.weight → g < length T.generators →
+  image_whole : All (IsRowUpTo T.kind (length T.basis + length (free_of T rows))) (new_images T rows 0 T.generators) → (v g : ℕ) → v < suc T.weight →
+      g < length T.generators →
       IsRowUpTo T.kind (through (push_of T rows) (suc v)) (get_or (images_at (push_of T rows) v) g [])
   image_whole whole v g lt ltg =
       elim (weight_split v lt) [
         | inl below ↦
-            subst (λ l. IsRowUpTo T.kind (through (push_of T rows) (suc v)) (get_or l g [])) (sym (level_old T.images (new_images T rows 0 T.generators) v shape.images_length below))
+            subst (λ l. IsRowUpTo T.kind (through (push_of T rows) (suc v)) (get_or l g []))
+            (sym (level_old T.images (new_images T rows 0 T.generators) v shape.images_length below))
             (wider _ _ (get_or (images_at T v) g []) (through_at v below) (shape.image_rows v g below ltg))
         | inr here ↦
-            subst (λ l. IsRowUpTo T.kind (through (push_of T rows) (suc v)) (get_or l g [])) (sym (level_new T.images (new_images T rows 0 T.generators) v shape.images_length here))
+            subst (λ l. IsRowUpTo T.kind (through (push_of T rows) (suc v)) (get_or l g []))
+            (sym (level_new T.images (new_images T rows 0 T.generators) v shape.images_length here))
             (wider _ _ (get_or (new_images T rows 0 T.generators) g []) (sym through_new ∙ ap (λ k. through (push_of T rows) (suc k)) here)
             (whole g [] (let many : length (new_images T rows 0 T.generators) ≡ length T.generators = length-images T rows 0 T.generators in omega arith)))
       ]
@@ -189,31 +200,38 @@ module _ (T : PlainTable) (rows : List (List Num)) (shape : HasShape T) (below :
   entry_count : (v : ℕ) → v < suc T.weight → length (entries_at (push_of T rows) v) ≡ through (push_of T rows) v
   entry_count v lt =
       elim (weight_split v lt) [
-        | inl below ↦ ap length (level_old T.entries (new_entries T rows 0 T.basis) v shape.entries_length below) ∙ shape.entry_lengths v below ∙ sym (through_old v (omega arith))
+        | inl below ↦ ap length (level_old T.entries (new_entries T rows 0 T.basis) v shape.entries_length below) ∙ shape.entry_lengths v below ∙
+            sym (through_old v (omega arith))
         | inr here ↦
-            ap length (level_new T.entries (new_entries T rows 0 T.basis) v shape.entries_length here) ∙ length-entries T rows 0 T.basis ∙ sym through_weight ∙ ap (through T) here ∙ sym (through_old v (omega arith))
+            ap length (level_new T.entries (new_entries T rows 0 T.basis) v shape.entries_length here) ∙ length-entries T rows 0 T.basis ∙
+            sym through_weight ∙ ap (through T) here ∙ sym (through_old v (omega arith))
       ]
 
   old_place : (v i : ℕ) → v ≤ T.weight → i < through (push_of T rows) v → i < length T.basis
-  old_place v i le lt = let h : through (push_of T rows) v ≡ through T v = through_old v le in let k : through T v ≤ length T.basis = leading_within T.basis v in omega arith
+  old_place v i le lt = let h : through (push_of T rows) v ≡ through T v = through_old v le in let k : through T v ≤ length T.basis =
+      leading_within T.basis v in omega arith
 
   entries_new : (v i : ℕ) → T.weight ≡ v → i < length T.basis → get_or (entries_at (push_of T rows) v) i [] ≡ new_partners T rows i 0 T.basis
   entries_new v i here lt =
       let same : 0 + i ≡ i = omega arith in
-      ap (λ l. get_or l i []) (level_new T.entries (new_entries T rows 0 T.basis) v shape.entries_length here) ∙ entries_at_place T rows 0 T.basis i lt ∙ ap (λ k. new_partners T rows k 0 T.basis) same
+      ap (λ l. get_or l i []) (level_new T.entries (new_entries T rows 0 T.basis) v shape.entries_length here) ∙
+      entries_at_place T rows 0 T.basis i lt ∙ ap (λ k. new_partners T rows k 0 T.basis) same
 
-  partner_count : (v i : ℕ) → v < suc T.weight → i < through (push_of T rows) v → length (get_or (entries_at (push_of T rows) v) i []) ≡ partners (push_of T rows) i (suc v)
+  partner_count : (v i : ℕ) → v < suc T.weight → i < through (push_of T rows) v → length (get_or (entries_at (push_of T rows) v) i []) ≡
+      partners (push_of T rows) i (suc v)
   partner_count v i lt lti =
       let within : i < length T.basis = old_place v i (omega arith) lti in
       let same : partners (push_of T rows) i (suc v) ≡ partners T i (suc v) = partners_old i (suc v) within (omega arith) (omega arith) in
       elim (weight_split v lt) [
         | inl below ↦
             let h : through (push_of T rows) v ≡ through T v = through_old v (omega arith) in
-            ap (λ l. length (get_or l i [])) (level_old T.entries (new_entries T rows 0 T.basis) v shape.entries_length below) ∙ shape.partner_lengths v i below (omega arith) ∙ sym same
+            ap (λ l. length (get_or l i [])) (level_old T.entries (new_entries T rows 0 T.basis) v shape.entries_length below) ∙
+            shape.partner_lengths v i below (omega arith) ∙ sym same
         | inr here ↦ ap length (entries_new v i here within) ∙ length-partners T shape rows i within ∙ ap (λ w. partners T i (suc w)) here ∙ sym same
       ]
 
-  entry_whole : All (λ l. All (IsRowUpTo T.kind (length T.basis + length (free_of T rows))) l) (new_entries T rows 0 T.basis) → (v i q : ℕ) → v < suc T.weight → i < through (push_of T rows) v →
+  entry_whole : All (λ l. All (IsRowUpTo T.kind (length T.basis + length (free_of T rows))) l) (new_entries T rows 0 T.basis) → (v i q : ℕ) →
+      v < suc T.weight → i < through (push_of T rows) v →
       q < partners (push_of T rows) i (suc v) → IsRowUpTo T.kind (through (push_of T rows) (suc v)) (get_or (get_or (entries_at (push_of T rows) v) i []) q [])
   entry_whole whole v i q lt lti ltq =
       let within : i < length T.basis = old_place v i (omega arith) lti in
@@ -222,14 +240,18 @@ module _ (T : PlainTable) (rows : List (List Num)) (shape : HasShape T) (below :
       elim (weight_split v lt) [
         | inl below ↦
             let h : through (push_of T rows) v ≡ through T v = through_old v (omega arith) in
-            subst (λ l. IsRowUpTo T.kind (through (push_of T rows) (suc v)) (get_or (get_or l i []) q [])) (sym (level_old T.entries (new_entries T rows 0 T.basis) v shape.entries_length below))
+            subst (λ l. IsRowUpTo T.kind (through (push_of T rows) (suc v)) (get_or (get_or l i []) q []))
+            (sym (level_old T.entries (new_entries T rows 0 T.basis) v shape.entries_length below))
             (wider _ _ (get_or (get_or (entries_at T v) i []) q []) (through_at v below) (shape.entry_rows v i q below (omega arith) (omega arith)))
         | inr here ↦
-            let level : entries_at (push_of T rows) v ≡ new_entries T rows 0 T.basis = level_new T.entries (new_entries T rows 0 T.basis) v shape.entries_length here in
+            let level : entries_at (push_of T rows) v ≡ new_entries T rows 0 T.basis = level_new T.entries
+            (new_entries T rows 0 T.basis) v shape.entries_length here in
             let many : length (new_entries T rows 0 T.basis) ≡ length T.basis = length-entries T rows 0 T.basis in
-            let long : length (get_or (new_entries T rows 0 T.basis) i []) ≡ partners (push_of T rows) i (suc v) = ap (λ l. length (get_or l i [])) (sym level) ∙ count in
+            let long : length (get_or (new_entries T rows 0 T.basis) i []) ≡ partners (push_of T rows) i (suc v) =
+            ap (λ l. length (get_or l i [])) (sym level) ∙ count in
             subst (λ l. IsRowUpTo T.kind (through (push_of T rows) (suc v)) (get_or (get_or l i []) q [])) (sym level)
-            (wider _ _ (get_or (get_or (new_entries T rows 0 T.basis) i []) q []) (sym through_new ∙ ap (λ k. through (push_of T rows) (suc k)) here) (whole i [] (omega arith) q [] (omega arith)))
+            (wider _ _ (get_or (get_or (new_entries T rows 0 T.basis) i []) q []) (sym through_new ∙ ap (λ k. through (push_of T rows) (suc k)) here)
+            (whole i [] (omega arith) q [] (omega arith)))
       ]
 
   small_enough : length (push_of T rows).basis ≤ 2000000 * suc T.weight
@@ -243,8 +265,11 @@ module _ (T : PlainTable) (rows : List (List Num)) (shape : HasShape T) (below :
       elim (nat_split T.weight w) [
         | inl above ↦
             let here : w ≡ suc T.weight = omega arith in
-            subst (λ v. through (push_of T rows) v ≤ 2000000 * v) (sym here) (let h : through (push_of T rows) (suc T.weight) ≡ length (push_of T rows).basis = through_new ∙ sym basis_length in omega (arith, h, small_enough))
-        | inr within ↦ let h : through (push_of T rows) w ≡ through T w = through_old w within in let k : through T w ≤ 2000000 * w = shape.small_parts w within in omega arith
+            subst (λ v. through (push_of T rows) v ≤ 2000000 * v) (sym here) (let h : through (push_of T rows) (suc T.weight) ≡
+            length (push_of T rows).basis = through_new ∙ sym basis_length in
+            omega (arith, h, small_enough))
+        | inr within ↦ let h : through (push_of T rows) w ≡ through T w = through_old w within in let k : through T w ≤ 2000000 * w =
+            shape.small_parts w within in omega arith
       ]
 
   pub push_shape : All (IsRowUpTo T.kind (length T.basis + length (free_of T rows))) (new_images T rows 0 T.generators) →

@@ -12,7 +12,8 @@ use Rattle.fpl_table.specs.Shape.{grown}
 use Rattle.fpl_table.specs.Whole.{IsWhole}
 
 -- the bounds of a presentation's weights are those of its generators in a table
-weights_within : (gs : List declared.Generator) → HaveWeights gs → (g : ℕ) → g < length (map generator_in gs) → (1 ≤ (get_or (map generator_in gs) g no_generator).weight) × ((get_or (map generator_in gs) g no_generator).weight ≤ 1000)
+weights_within : (gs : List declared.Generator) → HaveWeights gs → (g : ℕ) → g < length (map generator_in gs) →
+    (1 ≤ (get_or (map generator_in gs) g no_generator).weight) × ((get_or (map generator_in gs) g no_generator).weight ≤ 1000)
 weights_within [] h g lt = absurd (omega (arith, lt))
 weights_within (x ∷ xs) h zero lt = h zero x (omega arith)
 weights_within (x ∷ xs) h (suc g) lt = weights_within xs (λ k d below. h (suc k) d (omega (arith, below))) g (omega (arith, lt))

@@ -21,11 +21,14 @@ unfolding leading
 leading_take [] d v l = refl
 leading_take (b ∷ bs) d v l = go (dec_le b.weight d) (leading_take bs d v l)
   where
-    go : Dec (b.weight ≤ d) → leading (take (leading bs d) bs) v ≡ leading bs v → leading (take (cond (nat_le b.weight d) (suc (leading bs d)) 0) (b ∷ bs)) v ≡ cond (nat_le b.weight v) (suc (leading bs v)) 0
+    go : Dec (b.weight ≤ d) → leading (take (leading bs d) bs) v ≡ leading bs v →
+        leading (take (cond (nat_le b.weight d) (suc (leading bs d)) 0) (b ∷ bs)) v ≡ cond (nat_le b.weight v) (suc (leading bs v)) 0
     go (yes h) r =
-        ap (λ n. leading (take n (b ∷ bs)) v) (let e : cond (nat_le b.weight d) (suc (leading bs d)) 0 ≡ suc (leading bs d) = grind arith in e) ∙ ap (λ n. cond (nat_le b.weight v) (suc n) 0) r
+        ap (λ n. leading (take n (b ∷ bs)) v) (let e : cond (nat_le b.weight d) (suc (leading bs d)) 0 ≡ suc (leading bs d) = grind arith in e) ∙
+        ap (λ n. cond (nat_le b.weight v) (suc n) 0) r
     go (no h) r =
-        ap (λ n. leading (take n (b ∷ bs)) v) (let e : cond (nat_le b.weight d) (suc (leading bs d)) 0 ≡ 0 = grind arith in e) ∙ (let e : 0 ≡ cond (nat_le b.weight v) (suc (leading bs v)) 0 = grind arith in e)
+        ap (λ n. leading (take n (b ∷ bs)) v) (let e : cond (nat_le b.weight d) (suc (leading bs d)) 0 ≡ 0 = grind arith in e)
+        ∙ (let e : 0 ≡ cond (nat_le b.weight v) (suc (leading bs v)) 0 = grind arith in e)
 
 module _ (T : PlainTable) (shape : HasShape T) (d : ℕ) (within : d ≤ T.weight) where
   pub basis_long : length (truncate_of T d).basis ≡ through T d
@@ -104,14 +107,21 @@ module _ (T : PlainTable) (shape : HasShape T) (d : ℕ) (within : d ≤ T.weigh
     entry_rows = λ v i q l k m.
         subst (λ n. IsRowUpTo T.kind n (get_or (get_or (entries_at (truncate_of T d) v) i []) q [])) (sym (through_kept (suc v) (omega (arith, l))))
         (subst (λ rows. IsRowUpTo T.kind (through T (suc v)) (get_or (get_or rows i []) q [])) (sym (entries_kept v l))
-        (shape.entry_rows v i q (omega (arith, l, within)) (old_place v i l k) (omega (arith, m, partners_kept i (suc v) (low_place v i l k) (omega (arith, l))))));
+        (shape.entry_rows v i q (omega (arith, l, within)) (old_place v i l k) (omega (
+          arith,
+          m,
+          partners_kept i (suc v) (low_place v i l k) (omega (arith, l)),
+        ))));
   }
 
 -- trees grow behind those that are there
 pub grows : (ts : List (Tree Num)) (bs : List Basis) → (us : List (Tree Num)) × (grown ts bs ≡ ts ++ us)
 unfolding grown
 grows ts [] = ([], sym (append-nil ts))
-grows ts (b ∷ bs) = let r = grows (ts ++ symbol_tree_in ts b.symbol ∷ []) bs in (symbol_tree_in ts b.symbol ∷ r.0, r.1 ∙ append_assoc ts (symbol_tree_in ts b.symbol ∷ []) r.0)
+grows ts (b ∷ bs) = let r = grows (ts ++ symbol_tree_in ts b.symbol ∷ []) bs in (
+  symbol_tree_in ts b.symbol ∷ r.0,
+  r.1 ∙ append_assoc ts (symbol_tree_in ts b.symbol ∷ []) r.0,
+)
 
 grown_none : grown [] [] ≡ []
 unfolding grown
@@ -122,7 +132,8 @@ pub grown_take : (n : ℕ) (bs : List Basis) → n ≤ length bs → grown [] (t
 grown_take n bs le =
     let long : length (grown [] (take n bs)) ≡ n = omega (arith, length-grown [] (take n bs), length-take-le n bs le) in
     let r = grows (grown [] (take n bs)) (drop n bs) in
-    sym (ap (λ l. take n (grown [] l)) (sym (take-append-drop n bs)) ∙ ap (take n) (grown_more [] (take n bs) (drop n bs) ∙ r.1) ∙ take_at (grown [] (take n bs)) r.0 n long)
+    sym (ap (λ l. take n (grown [] l)) (sym (take-append-drop n bs)) ∙ ap (take n) (grown_more [] (take n bs) (drop n bs) ∙ r.1) ∙
+    take_at (grown [] (take n bs)) r.0 n long)
 
 all_take : {A : Type 0} (P : A → Type 0) (n : ℕ) (xs : List A) → All P xs → All P (take n xs)
 all_take P zero xs h i d lt = absurd (omega (arith, lt))
@@ -131,28 +142,46 @@ all_take P (suc n) (x ∷ xs) h zero d lt = h 0 d (omega arith)
 all_take P (suc n) (x ∷ xs) h (suc i) d lt = all_take P n xs (λ k e l. h (suc k) e (omega (arith, l))) i d (omega (arith, lt))
 
 -- all that the fields of a table keep, of its part
-pub truncate_whole : (T : PlainTable) (d : ℕ) (counts : List ℕ) (trees : List (Tree Num)) (codes : List code.Symbol) → d ≤ T.weight → IsWhole T counts trees codes →
+pub truncate_whole : (T : PlainTable) (d : ℕ) (counts : List ℕ) (trees : List (Tree Num)) (codes : List code.Symbol) → d ≤ T.weight →
+    IsWhole T counts trees codes →
     IsWhole (truncate_of T d) (take d counts) (take (through T d) trees) (take (through T d) codes)
 truncate_whole T d counts trees codes within whole = record {
   shape = truncate_shape T whole.shape d within;
-  counts_are = λ v l. get_or-take d counts v 0 l ∙ whole.counts_are v (omega (arith, l, within)) ∙ sym (through_kept T whole.shape d within (suc v) (omega (arith, l)));
+  counts_are = λ v l. get_or-take d counts v 0 l ∙ whole.counts_are v (omega (arith, l, within)) ∙
+      sym (through_kept T whole.shape d within (suc v) (omega (arith, l)));
   trees_are = ap (take (through T d)) whole.trees_are ∙ sym (grown_take (through T d) T.basis (through_within T whole.shape d));
   numbered = all_take IsNumbered (through T d) codes whole.numbered;
 }
 
 -- the part of a table whose fields are lists of levels and of elements
-module _ {L E : Type 0} (kind : Kind) (generators : List Generator) (through_of : L → ℕ) (images : L → List (List Num)) (entries : L → List (List (List Num))) (basis : E → Basis) (tree : E → Tree Num) (code_of : E → code.Symbol) where
+module _ {L E : Type 0} (kind : Kind) (generators : List Generator) (through_of : L → ℕ) (images : L → List (List Num))
+    (entries : L → List (List (List Num))) (basis : E → Basis) (tree : E → Tree Num) (code_of : E → code.Symbol) where
   abbrev view : List L → List E → PlainTable
-  view levels elements = record { kind = kind; generators = generators; weight = length levels; basis = map basis elements; images = map images levels; entries = map entries levels }
+  view levels elements = record {
+    kind = kind;
+    generators = generators;
+    weight = length levels;
+    basis = map basis elements;
+    images =
+        map images levels;
+    entries = map entries levels;
+  }
 
   abbrev Whole : List L → List E → Type 0
   Whole levels elements = IsWhole (view levels elements) (map through_of levels) (map tree elements) (map code_of elements)
 
-  view_part : (levels : List L) (elements : List E) (d : ℕ) → d ≤ length levels → view (take d levels) (take (through (view levels elements) d) elements) ≡ truncate_of (view levels elements) d
+  view_part : (levels : List L) (elements : List E) (d : ℕ) → d ≤ length levels → view (take d levels)
+      (take (through (view levels elements) d) elements) ≡ truncate_of (view levels elements) d
   view_part levels elements d le =
-      rw (length-take-le d levels le, ← take-map basis (through (view levels elements) d) elements, ← take-map images d levels, ← take-map entries d levels) refl
+      rw (
+        length-take-le d levels le,
+        ← take-map basis (through (view levels elements) d) elements,
+        ← take-map images d levels,
+        ← take-map entries d levels,
+      ) refl
 
-  whole_part : (levels : List L) (elements : List E) (d : ℕ) → d ≤ length levels → Whole levels elements → Whole (take d levels) (take (through (view levels elements) d) elements)
+  whole_part : (levels : List L) (elements : List E) (d : ℕ) → d ≤ length levels → Whole levels elements →
+      Whole (take d levels) (take (through (view levels elements) d) elements)
   whole_part levels elements d le whole =
       rw (
         view_part levels elements d le,
@@ -162,17 +191,21 @@ module _ {L E : Type 0} (kind : Kind) (generators : List Generator) (through_of 
       )
       (truncate_whole (view levels elements) d (map through_of levels) (map tree elements) (map code_of elements) le whole)
 
-  same_view : (levels later : List L) (elements all : List E) → length later ≡ length levels → map images later ≡ map images levels → map entries later ≡ map entries levels → map basis all ≡ map basis elements → view later all ≡ view levels elements
+  same_view : (levels later : List L) (elements all : List E) → length later ≡ length levels → map images later ≡ map images levels →
+      map entries later ≡ map entries levels → map basis all ≡ map basis elements → view later all ≡ view levels elements
   same_view levels later elements all long i e b = rw (long, i, e, b) refl
 
-  pub truncated_fields : (levels later : List L) (elements all : List E) (T : PlainTable) (d n : ℕ) → view levels elements ≡ T → d ≤ T.weight → n ≡ through T d → Whole levels elements →
+  pub truncated_fields : (levels later : List L) (elements all : List E) (T : PlainTable) (d n : ℕ) → view levels elements ≡ T → d ≤ T.weight →
+      n ≡ through T d → Whole levels elements →
       map through_of later ≡ map through_of (take d levels) → map images later ≡ map images (take d levels) → map entries later ≡ map entries (take d levels) →
-      map basis all ≡ map basis (take n elements) → map tree all ≡ map tree (take n elements) → map code_of all ≡ map code_of (take n elements) → Whole later all × (view later all ≡ truncate_of T d)
+      map basis all ≡ map basis (take n elements) → map tree all ≡ map tree (take n elements) → map code_of all ≡ map code_of (take n elements) →
+      Whole later all × (view later all ≡ truncate_of T d)
   truncated_fields levels later elements all T d n is within count whole t i e b r c =
       let le : d ≤ length levels = omega (arith, within, ap (λ U. U.weight) is) in
       let here : n ≡ through (view levels elements) d = count ∙ ap (λ U. through U d) (sym is) in
       let long : length later ≡ length (take d levels) = sym (length-map later through_of) ∙ ap length t ∙ length-map (take d levels) through_of in
       let same : view later all ≡ view (take d levels) (take n elements) = same_view (take d levels) later (take n elements) all long i e b in (
         rw (same, t, r, c) (subst (λ m. Whole (take d levels) (take m elements)) (sym here) (whole_part levels elements d le whole)),
-        same ∙ subst (λ m. view (take d levels) (take m elements) ≡ truncate_of (view levels elements) d) (sym here) (view_part levels elements d le) ∙ ap (λ U. truncate_of U d) is,
+        same ∙ subst (λ m. view (take d levels) (take m elements) ≡ truncate_of (view levels elements) d) (sym here) (view_part levels elements d le)
+            ∙ ap (λ U. truncate_of U d) is,
       )

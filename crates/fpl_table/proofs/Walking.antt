@@ -14,7 +14,8 @@ use Rattle.fpl_rows.proofs.Firsts.{next_is_at, next_is_none}
 use Rattle.fpl_table.specs.Sums.{add_each}
 
 module _ (add : ℕ → Num → List Num → Result (List Num) Unfit) where
-  pass : (xs : List Num) (t k : ℕ) (v : List Num) → k ≤ length xs → ((i : ℕ) → i < k → is_nought (get_or xs i (residue 0)) ≡ true) → add_each add t xs v ≡ add_each add (t + k) (drop k xs) v
+  pass : (xs : List Num) (t k : ℕ) (v : List Num) → k ≤ length xs → ((i : ℕ) → i < k → is_nought (get_or xs i (residue 0)) ≡ true) →
+      add_each add t xs v ≡ add_each add (t + k) (drop k xs) v
   pass xs t zero v l h = ap (λ n. add_each add n xs v) (let q : t ≡ t + 0 = omega arith in q)
   pass [] t (suc k) v l h = absurd (omega arith)
   pass (c ∷ cs) t (suc k) v l h =
@@ -23,7 +24,8 @@ module _ (add : ℕ → Num → List Num → Result (List Num) Unfit) where
       ∙ pass cs (t + 1) k v (omega arith) (λ i m. h (suc i) (omega arith))
       ∙ ap (λ n. add_each add n (drop k cs) v) (let q : t + 1 + k ≡ t + suc k = omega arith in q)
 
-  past : (row : List Num) (after k : ℕ) (v : List Num) → after + k ≤ length row → ((t : ℕ) → after ≤ t → t < after + k → is_nought (get_or row t (residue 0)) ≡ true) →
+  past : (row : List Num) (after k : ℕ) (v : List Num) → after + k ≤ length row → ((t : ℕ) → after ≤ t → t < after + k →
+      is_nought (get_or row t (residue 0)) ≡ true) →
       add_each add after (drop after row) v ≡ add_each add (after + k) (drop (after + k) row) v
   past row after k v l h =
       let long = length-drop after row in
@@ -44,7 +46,8 @@ module _ (add : ℕ → Num → List Num → Result (List Num) Unfit) where
       past row after (s - 1 - after) v (omega arith) (λ t l m. h.before t l (omega arith))
       ∙ ap (λ n. add_each add n (drop n row) v) sum
       ∙ ap (λ xs. add_each add (s - 1) xs v) (drop-cons row (s - 1) (residue 0) (omega arith))
-      ∙ ap (λ b. and_then (λ w. add_each add (s - 1 + 1) (drop (suc (s - 1)) row) w) (if b then Ok v else add (s - 1) (get_or row (s - 1) (residue 0)) v)) h.filled
+      ∙ ap (λ b. and_then (λ w. add_each add (s - 1 + 1) (drop (suc (s - 1)) row) w) (if b then Ok v else
+      add (s - 1) (get_or row (s - 1) (residue 0)) v)) h.filled
       ∙ ap₂ (λ m n. and_then (λ w. add_each add m (drop n row) w) (add (s - 1) (get_or row (s - 1) (residue 0)) v)) one next
 
   -- past the last nothing is
@@ -56,6 +59,7 @@ module _ (add : ℕ → Num → List Num → Result (List Num) Unfit) where
       ∙ ap (λ xs. add_each add (length row) xs v) (drop_of_length-le row (omega arith))
 
 -- a fault in adding a number is one of the whole
-pub fault_next : {U : Type 0} (f : List Num → Result U Unfit) (fault : Fault) (r : Result (List Num) Unfit) (e : Result U Unfit) → e ≡ and_then f r → IsFault fault r → IsFault fault e
+pub fault_next : {U : Type 0} (f : List Num → Result U Unfit) (fault : Fault) (r : Result (List Num) Unfit) (e : Result U Unfit) → e ≡ and_then f r →
+    IsFault fault r → IsFault fault e
 fault_next f (Unfits u) r e is h = is ∙ ap (and_then f) h
 fault_next f NoMemory r e is h = tt

@@ -22,7 +22,8 @@ unfolding leading
 leading_above [] w i up lt le = absurd (omega (arith, lt))
 leading_above (b ∷ bs) w zero up lt le = grind (arith, nat_tests)
 leading_above (b ∷ bs) w (suc i) up lt le =
-    let h : i < leading bs w = leading_above bs w i (λ j k below within. up (suc j) (suc k) (omega (arith, below)) (omega (arith, within))) (omega (arith, lt)) le in
+    let h : i < leading bs w = leading_above bs w i (λ j k below within. up (suc j) (suc k) (omega (arith, below)) (omega (arith, within)))
+    (omega (arith, lt)) le in
     let first : b.weight ≤ (get_or bs i no_basis).weight = up 0 (suc i) (omega arith) lt in
     grind (arith, nat_tests)
 

@@ -37,8 +37,10 @@ fn run_uncounted<L: Ledger, I: Source, O: Sink, E: Sink>(
     requires parts { blank.parts ≡ L.parts }
     requires some { 0 < blank.parts }
     ensures usage { (result ≡ Status.Usage) ↔ IsNoCommand (spelled words.now.items) }
-    ensures answer { IfSome (I.left input.old) (λ bytes. IsAnswered (Answers (spelled words.now.items) bytes) (Fronts (spelled words.now.items) bytes) result (O.taken out.old) (O.taken out.new) (E.taken err.old) (E.taken err.new) (E.faults err.old) (E.faults err.new)) }
-    ensures means { result ≡ Status.Done → IfSome (I.left input.old) (λ bytes. (c : Command) (v : Shown) → IsCommand (spelled words.now.items) c → way_of c.view ≡ Some (Show v) → (text : List ℕ) × Takes (O.taken out.old) (O.taken out.new) text × Means c bytes v text) }
+    ensures answer { IfSome (I.left input.old) (λ bytes. IsAnswered (Answers (spelled words.now.items) bytes) (Fronts (spelled words.now.items) bytes) result
+        (O.taken out.old) (O.taken out.new) (E.taken err.old) (E.taken err.new) (E.faults err.old) (E.faults err.new)) }
+    ensures means { result ≡ Status.Done → IfSome (I.left input.old) (λ bytes. (c : Command) (v : Shown) → IsCommand (spelled words.now.items) c →
+        way_of c.view ≡ Some (Show v) → (text : List ℕ) × Takes (O.taken out.old) (O.taken out.new) text × Means c bytes v text) }
     ensures line { (reply : Reply) × (status_of reply ≡ result) × Says (E.taken err.old) (E.taken err.new) (E.faults err.old) (E.faults err.new) (line_of reply) }
     ensures read { result ≡ Status.ReadFault → Rose (I.faults input.old) (I.faults input.new) × (ReadsNothing (spelled words.now.items) → ⊥) }
     ensures write { result ≡ Status.WriteFault → Rose (O.faults out.old) (O.faults out.new) }

@@ -156,7 +156,8 @@ module _ {N : Type 0} (P : Presentation N) where
     parities_mean over_end = void_end
     parities_mean (over_more {e = e} {es = es} h k) = more_parities (parity_of P e) (parities_of P es) e es (parity_means h) (parities_mean k)
 
-  both_parities : (a b : Degree Parity) (e f : Tree N) → ParityMeans a e → ParityMeans b f → of_both same_parity a b ≢ mixed → (s : Parity) × HasParity P e s × HasParity P f s
+  both_parities : (a b : Degree Parity) (e f : Tree N) → ParityMeans a e → ParityMeans b f → of_both same_parity a b ≢ mixed →
+      (s : Parity) × HasParity P e s × HasParity P f s
   both_parities any any e f h k n = (even, parity_void even h, parity_void even k)
   both_parities any (exact s) e f h k n = (s, parity_void s h, k)
   both_parities any mixed e f h k n = absurd (n refl)
@@ -228,7 +229,8 @@ module _ {N : Type 0} (P : Presentation N) where
     top_is (over_multiple k) d h = top_multiple (top_is k d h)
     top_is (over_bracket {e = e} {f = f} k l) d h = go (is_void e || is_void f) refl (λ c m. top_is k c m) (λ c m. top_is l c m)
       where
-        go : (b : Bool) → (is_void e || is_void f) ≡ b → ((c : ℕ) → top P e ≤ c → TopIs P e c) → ((c : ℕ) → top P f ≤ c → TopIs P f c) → TopIs P (bracket_of e f) d
+        go : (b : Bool) → (is_void e || is_void f) ≡ b → ((c : ℕ) → top P e ≤ c → TopIs P e c) → ((c : ℕ) → top P f ≤ c → TopIs P f c) →
+            TopIs P (bracket_of e f) d
         go true p q r = top_void d (test_void (bracket_of e f) p)
         go false p q r = top_bracket (q (top P e) (omega arith)) (r (top P f) (omega arith)) (subst (λ b. cond b 0 (top P e + top P f) ≤ d) p h)
 

@@ -72,7 +72,8 @@ module _ (K : Field) (P : Presentation K.Carrier) where
 
   pub multiple_none : (c : K.Carrier) → DerivesFreely K P (multiple c none) none
   multiple_none c =
-      then (in_multiple c (back (multiple_nought none))) (then (multiple_multiple c K.nought none) (then (of_path _ _ (ap (λ w. multiple w none) (times-nought K c))) (multiple_nought none)))
+      then (in_multiple c (back (multiple_nought none))) (then (multiple_multiple c K.nought none)
+      (then (of_path _ _ (ap (λ w. multiple w none) (times-nought K c))) (multiple_nought none)))
 
   pub none_left : (g : Expression K) → DerivesFreely K P (bracket_of none g) none
   none_left g = then (in_left g (back (multiple_nought none))) (then (left_multiple K.nought none g) (multiple_nought _))
@@ -95,7 +96,8 @@ module _ (K : Field) (P : Presentation K.Carrier) where
 
     pub voids_none_derived : {es : Trees K.Carrier} → AreVoid es → DerivesFreely K P (sum_of es) none
     voids_none_derived void_end = sum_empty
-    voids_none_derived (void_more {e = e} {es = es} h k) = then (more_first e es) (then (both_same (void_none_derived h) (voids_none_derived k)) (none_both none))
+    voids_none_derived (void_more {e = e} {es = es} h k) =
+        then (more_first e es) (then (both_same (void_none_derived h) (voids_none_derived k)) (none_both none))
 
   module _ (tree : ℕ → Expression K) where
     pub combined_vzero : (n : ℕ) → DerivesFreely K P (combined K tree n (vzero K)) none
@@ -123,9 +125,13 @@ module _ (K : Field) (P : Presentation K.Carrier) where
     combined_place zero i l = absurd (omega arith)
     combined_place (suc n) i l = go (ℕ_discrete i n) (λ k. combined_place n i k)
       where
-        go : Dec (i ≡ n) → (i < n → DerivesFreely K P (combined K tree n (place K i)) (tree i)) → DerivesFreely K P (both (combined K tree n (place K i)) (multiple (place K i n) (tree n))) (tree i)
+        go : Dec (i ≡ n) → (i < n → DerivesFreely K P (combined K tree n (place K i)) (tree i)) →
+            DerivesFreely K P (both (combined K tree n (place K i)) (multiple (place K i n) (tree n))) (tree i)
         go (yes e) h =
-            then (both_same (then (of_path _ _ (combined_below n (place K i) (vzero K) (λ j m. place_other K i j (omega arith) ∙ unfold vzero in refl))) (combined_vzero n)) same)
-            (then (none_both _) (then (of_path _ _ (ap (λ w. multiple (place K i w) (tree w)) (sym e) ∙ ap (λ w. multiple w (tree i)) (place_same K i))) (multiple_unit (tree i))))
+            then (both_same (then (of_path _ _ (combined_below n (place K i) (vzero K) (λ j m. place_other K i j (omega arith) ∙ unfold vzero in
+            refl))) (combined_vzero n)) same)
+            (then (none_both _) (then (of_path _ _ (ap (λ w. multiple (place K i w) (tree w)) (sym e) ∙
+            ap (λ w. multiple w (tree i)) (place_same K i))) (multiple_unit (tree i))))
         go (no d) h =
-            then (both_same (h (omega arith)) (then (of_path _ _ (ap (λ w. multiple w (tree n)) (place_other K i n d))) (multiple_nought (tree n)))) (both_none (tree i))
+            then (both_same (h (omega arith)) (then (of_path _ _ (ap (λ w. multiple w (tree n)) (place_other K i n d))) (multiple_nought (tree n))))
+            (both_none (tree i))

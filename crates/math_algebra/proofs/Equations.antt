@@ -132,10 +132,14 @@ module _ {N : Type 0} (P : Presentation N) where
   -- the sides of an equation without a weight are void
   pub equation_any : (e f : Tree N) → IsOver P e → IsOver P f → weight_of_both P e f ≡ any → IsVoid e × IsVoid f
   equation_any e f o q p =
-      let r = both_any (weight_of P e) (weight_of P f) (subst IsAny (sym p) tt) in (void_any (weight_of P e) e r.0 refl o, void_any (weight_of P f) f r.1 refl q)
+      let r = both_any (weight_of P e) (weight_of P f) (subst IsAny (sym p) tt) in (
+        void_any (weight_of P e) e r.0 refl o,
+        void_any (weight_of P f) f r.1 refl q,
+      )
 
   -- an equation whose two sides have weight w has w as written, or both sides are void
-  pub equation_is : (e f : Tree N) (w : ℕ) → IsOver P e → IsOver P f → weight_of_both P e f ≢ mixed → WeightIs P e w → WeightIs P f w → (IsVoid e × IsVoid f) ⊎ (weight_of_both P e f ≡ exact w)
+  pub equation_is : (e f : Tree N) (w : ℕ) → IsOver P e → IsOver P f → weight_of_both P e f ≢ mixed → WeightIs P e w → WeightIs P f w →
+      (IsVoid e × IsVoid f) ⊎ (weight_of_both P e f ≡ exact w)
   equation_is e f w o q n h k = go (weight_of_both P e f) refl (fits_both w (weight_of P e) (weight_of P f) (weight_fits h) (weight_fits k))
     where
       go : (a : Degree ℕ) → weight_of_both P e f ≡ a → Fits w a → (IsVoid e × IsVoid f) ⊎ (weight_of_both P e f ≡ exact w)
@@ -155,7 +159,10 @@ module _ {N : Type 0} (P : Presentation N) where
       go (exact d) (exact c) h k p = both (nat_eq d c) refl p
         where
           both : (t : Bool) → nat_eq d c ≡ t → cond t (exact d) mixed ≡ exact w → WeightIs P e w × WeightIs P f w
-          both true t p = let r = subst (Fits d) p refl in (subst (WeightIs P e) (sym r) h, subst (WeightIs P f) (let s : d ≡ c = grind (arith, t) in sym s ∙ sym r) k)
+          both true t p = let r = subst (Fits d) p refl in (
+            subst (WeightIs P e) (sym r) h,
+            subst (WeightIs P f) (let s : d ≡ c = grind (arith, t) in sym s ∙ sym r) k,
+          )
           both false t p = absurd (subst Mixed p tt)
       go (exact d) mixed h k p = absurd (subst Mixed p tt)
       go mixed b h k p = absurd (subst Mixed p tt)

@@ -14,7 +14,8 @@ pub data DerivesFreely (K : Field) (P : Presentation K.Carrier) : Expression K �
   in_left : {e f : Expression K} (g : Expression K) → DerivesFreely K P e f → DerivesFreely K P (bracket_of e g) (bracket_of f g)
   in_right : {e f : Expression K} (g : Expression K) → DerivesFreely K P e f → DerivesFreely K P (bracket_of g e) (bracket_of g f)
   sum_swap : (e f : Expression K) (es : List (Expression K)) → DerivesFreely K P (sum_all K (e ∷ f ∷ es)) (sum_all K (f ∷ e ∷ es))
-  sum_rest : (e : Expression K) (es fs : List (Expression K)) → DerivesFreely K P (sum_all K es) (sum_all K fs) → DerivesFreely K P (sum_all K (e ∷ es)) (sum_all K (e ∷ fs))
+  sum_rest : (e : Expression K) (es fs : List (Expression K)) → DerivesFreely K P (sum_all K es) (sum_all K fs) →
+      DerivesFreely K P (sum_all K (e ∷ es)) (sum_all K (e ∷ fs))
   sum_flat : (es fs : List (Expression K)) → DerivesFreely K P (sum_all K (sum_all K es ∷ fs)) (sum_all K (es ++ fs))
   sum_none : (es : List (Expression K)) → DerivesFreely K P (sum_all K (none ∷ es)) (sum_all K es)
   sum_empty : DerivesFreely K P (sum_all K []) none
@@ -28,7 +29,8 @@ pub data DerivesFreely (K : Field) (P : Presentation K.Carrier) : Expression K �
   right_sum : (g : Expression K) (es : List (Expression K)) → DerivesFreely K P (bracket_of g (sum_all K es)) (sum_all K (map (bracket_of g) es))
   left_multiple : (c : K.Carrier) (e g : Expression K) → DerivesFreely K P (bracket_of (multiple c e) g) (multiple c (bracket_of e g))
   right_multiple : (c : K.Carrier) (e g : Expression K) → DerivesFreely K P (bracket_of g (multiple c e)) (multiple c (bracket_of g e))
-  exchange : (s t : Parity) (a b : Expression K) → HasParity P a s → HasParity P b t → DerivesFreely K P (bracket_of a b) (multiple (K.minus (sign K s t)) (bracket_of b a))
+  exchange : (s t : Parity) (a b : Expression K) → HasParity P a s → HasParity P b t → DerivesFreely K P (bracket_of a b)
+      (multiple (K.minus (sign K s t)) (bracket_of b a))
   jacobi : (s t u : Parity) (a b c : Expression K) → HasParity P a s → HasParity P b t → HasParity P c u →
       DerivesFreely K P (bracket_of a (bracket_of b c)) (sum_all K (bracket_of (bracket_of a b) c ∷ multiple (sign K s t) (bracket_of b (bracket_of a c)) ∷ []))
   relation : (k : ℕ) → k < length P.relations → DerivesFreely K P (left P k) (right P k)

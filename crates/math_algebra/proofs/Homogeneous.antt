@@ -36,4 +36,5 @@ pub record IsHomogeneous {N : Type 0} (P : Presentation N) : Type 0 where
   pub weights : (k : ℕ) → k < length P.relations → (d : ℕ) × WeightIs P (left P k) d × WeightIs P (right P k) d
   pub parities : (k : ℕ) → k < length P.relations → (s : Parity) × HasParity P (left P k) s × HasParity P (right P k) s
   pub has : (k w : ℕ) → k < length P.relations → weight_of_both P (left P k) (right P k) ≡ exact w → WeightIs P (left P k) w × WeightIs P (right P k) w
-  pub is : (k w : ℕ) → k < length P.relations → WeightIs P (left P k) w → WeightIs P (right P k) w → (IsVoid (left P k) × IsVoid (right P k)) ⊎ (weight_of_both P (left P k) (right P k) ≡ exact w)
+  pub is : (k w : ℕ) → k < length P.relations → WeightIs P (left P k) w → WeightIs P (right P k) w →
+      (IsVoid (left P k) × IsVoid (right P k)) ⊎ (weight_of_both P (left P k) (right P k) ≡ exact w)

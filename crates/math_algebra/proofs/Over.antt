@@ -15,7 +15,8 @@ module _ (K : Field) (P : Presentation K.Carrier) (over : (k : ℕ) → k < leng
   append_over [] fs h k = k
   append_over (e ∷ es) fs (over_more h t) k = over_more h (append_over es fs t k)
 
-  map_over : (f : Expression K → Expression K) → ((e : Expression K) → IsOver P e → IsOver P (f e)) → (es : List (Expression K)) → AreOver P (trees es) → AreOver P (trees (map f es))
+  map_over : (f : Expression K → Expression K) → ((e : Expression K) → IsOver P e → IsOver P (f e)) → (es : List (Expression K)) →
+      AreOver P (trees es) → AreOver P (trees (map f es))
   map_over f q [] h = over_end
   map_over f q (e ∷ es) (over_more h t) = over_more (q e h) (map_over f q es t)
 
@@ -43,7 +44,10 @@ module _ (K : Field) (P : Presentation K.Carrier) (over : (k : ℕ) → k < leng
   derives_over (left_multiple c e g o p) = (over_bracket (over_multiple o) p, over_multiple (over_bracket o p))
   derives_over (right_multiple c e g o p) = (over_bracket p (over_multiple o), over_multiple (over_bracket p o))
   derives_over (exchange s t a b o p h k) = (over_bracket o p, over_multiple (over_bracket p o))
-  derives_over (jacobi s t u a b c o p q h k l) =
-      (over_bracket o (over_bracket p q), over_sum (over_more (over_bracket (over_bracket o p) q) (over_more (over_multiple (over_bracket p (over_bracket o q))) over_end)))
+  derives_over (jacobi s t u a b c o p q h k l) = (
+    over_bracket o (over_bracket p q),
+    over_sum (over_more (over_bracket (over_bracket o p) q)
+        (over_more (over_multiple (over_bracket p (over_bracket o q))) over_end)),
+  )
   derives_over (relation k l) = over k l
   derives_over (cube a o c h) = (over_bracket o (over_bracket o o), over_none)

@@ -54,9 +54,12 @@ module _ {N : Type 0} (P : Presentation N) where
 
   bracket_has : (e f : Tree N) (s t : Parity) → has_parity P e s ≡ true → has_parity P f t ≡ true → has_parity P (bracket_of e f) (parity_sum s t) ≡ true
   unfolding has_parity
-  bracket_has e f even t p q = or_first (is_void e || is_void f) (has_parity P e even && has_parity P f t) (has_parity P e odd && has_parity P f (parity_sum odd t)) (ap₂ (λ a b. a && b) p q)
-  bracket_has e f odd even p q = or_second (is_void e || is_void f) (has_parity P e even && has_parity P f odd) (has_parity P e odd && has_parity P f even) (ap₂ (λ a b. a && b) p q)
-  bracket_has e f odd odd p q = or_second (is_void e || is_void f) (has_parity P e even && has_parity P f even) (has_parity P e odd && has_parity P f odd) (ap₂ (λ a b. a && b) p q)
+  bracket_has e f even t p q = or_first (is_void e || is_void f) (has_parity P e even && has_parity P f t)
+      (has_parity P e odd && has_parity P f (parity_sum odd t)) (ap₂ (λ a b. a && b) p q)
+  bracket_has e f odd even p q = or_second (is_void e || is_void f) (has_parity P e even && has_parity P f odd)
+      (has_parity P e odd && has_parity P f even) (ap₂ (λ a b. a && b) p q)
+  bracket_has e f odd odd p q = or_second (is_void e || is_void f) (has_parity P e even && has_parity P f even)
+      (has_parity P e odd && has_parity P f odd) (ap₂ (λ a b. a && b) p q)
 
   mutual
     unfolding has_parity
@@ -77,16 +80,19 @@ module _ {N : Type 0} (P : Presentation N) where
   odd_bracket e f even h k = parity_bracket h k
   odd_bracket e f odd h k = parity_bracket h k
 
-  test_bracket : (e f : Tree N) (s : Parity) → ((t : Parity) → has_parity P e t ≡ true → HasParity P e t) → ((t : Parity) → has_parity P f t ≡ true → HasParity P f t) →
+  test_bracket : (e f : Tree N) (s : Parity) → ((t : Parity) → has_parity P e t ≡ true → HasParity P e t) →
+      ((t : Parity) → has_parity P f t ≡ true → HasParity P f t) →
       has_parity P (bracket_of e f) s ≡ true → HasParity P (bracket_of e f) s
   unfolding has_parity is_void
   test_bracket e f s p q h = pick (either_true (is_void e || is_void f) _ h)
     where
-      members : ((has_parity P e even && has_parity P f s) ≡ true) ⊎ ((has_parity P e odd && has_parity P f (parity_sum odd s)) ≡ true) → HasParity P (bracket_of e f) s
+      members : ((has_parity P e even && has_parity P f s) ≡ true) ⊎ ((has_parity P e odd && has_parity P f (parity_sum odd s)) ≡ true) →
+          HasParity P (bracket_of e f) s
       members (inl a) = let b = both_true (has_parity P e even) (has_parity P f s) a in parity_bracket (p even b.0) (q s b.1)
       members (inr a) = let b = both_true (has_parity P e odd) (has_parity P f (parity_sum odd s)) a in odd_bracket e f s (p odd b.0) (q (parity_sum odd s) b.1)
 
-      pick : ((is_void e || is_void f) ≡ true) ⊎ (((has_parity P e even && has_parity P f s) || (has_parity P e odd && has_parity P f (parity_sum odd s))) ≡ true) → HasParity P (bracket_of e f) s
+      pick : ((is_void e || is_void f) ≡ true) ⊎
+          (((has_parity P e even && has_parity P f s) || (has_parity P e odd && has_parity P f (parity_sum odd s))) ≡ true) → HasParity P (bracket_of e f) s
       pick (inl a) = parity_void s (test_void (bracket_of e f) a)
       pick (inr a) = members (either_true (has_parity P e even && has_parity P f s) (has_parity P e odd && has_parity P f (parity_sum odd s)) a)
 
@@ -102,4 +108,5 @@ module _ {N : Type 0} (P : Presentation N) where
 
     pub test_parities : {es : Trees N} → AreOver P es → (s : Parity) → have_parity P es s ≡ true → HaveParity P es s
     test_parities over_end s h = parity_end
-    test_parities (over_more {e = e} {es = es} k l) s h = let b = both_true (has_parity P e s) (have_parity P es s) h in parity_more (test_parity k s b.0) (test_parities l s b.1)
+    test_parities (over_more {e = e} {es = es} k l) s h = let b = both_true (has_parity P e s) (have_parity P es s) h in
+        parity_more (test_parity k s b.0) (test_parities l s b.1)

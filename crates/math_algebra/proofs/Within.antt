@@ -116,7 +116,9 @@ module _ (K : Field) (P : Presentation K.Carrier) (over : (k : ℕ) → k < leng
 
     cut_parity : {e : Expression K} {s : Parity} → HasParity P e s → HasParity P (cut e) s
     cut_parity (parity_void s h) = parity_void s (cut_void h)
-    cut_parity (parity_gen g l) = subst (λ e. HasParity P e (generator P g).parity) (let e : gen g ≡ cond (nat_lt g (length P.generators)) (gen g) none = grind arith in e) (parity_gen g l)
+    cut_parity (parity_gen g l) = subst (λ e. HasParity P e (generator P g).parity) (let e : gen g ≡
+        cond (nat_lt g (length P.generators)) (gen g) none =
+        grind arith in e) (parity_gen g l)
     cut_parity (parity_all h) = parity_all (cuts_parity h)
     cut_parity (parity_multiple h) = parity_multiple (cut_parity h)
     cut_parity (parity_bracket h k) = parity_bracket (cut_parity h) (cut_parity k)
@@ -139,7 +141,8 @@ module _ (K : Field) (P : Presentation K.Carrier) (over : (k : ℕ) → k < leng
   cuts_append [] fs = cuts_list fs
   cuts_append (e ∷ es) fs = ap (more (cut e)) (cuts_append es fs)
 
-  cuts_map : (f g : Expression K → Expression K) → ((e : Expression K) → cut (f e) ≡ g (cut e)) → (es : List (Expression K)) → cuts (trees (map f es)) ≡ trees (map g (map cut es))
+  cuts_map : (f g : Expression K → Expression K) → ((e : Expression K) → cut (f e) ≡ g (cut e)) → (es : List (Expression K)) →
+      cuts (trees (map f es)) ≡ trees (map g (map cut es))
   unfolding cut
   cuts_map f g h [] = refl
   cuts_map f g h (e ∷ es) = ap₂ more (h e) (cuts_map f g h es)
@@ -149,7 +152,8 @@ module _ (K : Field) (P : Presentation K.Carrier) (over : (k : ℕ) → k < leng
   cut_derives (wide_same {e = e}) = near_same (cut_over e)
   cut_derives (wide_back h) = near_back (cut_derives h)
   cut_derives (wide_then h k) = near_then (cut_derives h) (cut_derives k)
-  cut_derives (wide_in_sum {e = e} {f = f} es h) = along K P (ap (λ w. sum_of (more (cut e) w)) (cuts_list es)) (ap (λ w. sum_of (more (cut f) w)) (cuts_list es)) (near_in_sum (map cut es) (list_over es) (cut_derives h))
+  cut_derives (wide_in_sum {e = e} {f = f} es h) = along K P (ap (λ w. sum_of (more (cut e) w)) (cuts_list es))
+      (ap (λ w. sum_of (more (cut f) w)) (cuts_list es)) (near_in_sum (map cut es) (list_over es) (cut_derives h))
   cut_derives (wide_in_multiple c h) = near_in_multiple c (cut_derives h)
   cut_derives (wide_in_left g h) = near_in_left (cut g) (cut_over g) (cut_derives h)
   cut_derives (wide_in_right g h) = near_in_right (cut g) (cut_over g) (cut_derives h)
@@ -158,10 +162,13 @@ module _ (K : Field) (P : Presentation K.Carrier) (over : (k : ℕ) → k < leng
       (near_sum_swap (cut e) (cut f) (map cut es) (cut_over e) (cut_over f) (list_over es))
   cut_derives (wide_sum_rest e es fs h) =
       along K P (ap (λ w. sum_of (more (cut e) w)) (cuts_list es)) (ap (λ w. sum_of (more (cut e) w)) (cuts_list fs))
-      (near_sum_rest (cut e) (map cut es) (map cut fs) (cut_over e) (along K P (ap sum_of (sym (cuts_list es))) (ap sum_of (sym (cuts_list fs))) (cut_derives h)))
+      (near_sum_rest (cut e) (map cut es) (map cut fs) (cut_over e) (along K P (ap sum_of (sym (cuts_list es))) (ap sum_of (sym (cuts_list fs)))
+      (cut_derives h)))
   cut_derives (wide_sum_flat es fs) =
-      along K P (ap₂ (λ v w. sum_of (more (sum_of v) w)) (cuts_list es) (cuts_list fs)) (ap sum_of (cuts_append es fs)) (near_sum_flat (map cut es) (map cut fs) (list_over es) (list_over fs))
-  cut_derives (wide_sum_none es) = along K P (ap (λ w. sum_of (more none w)) (cuts_list es)) (ap sum_of (cuts_list es)) (near_sum_none (map cut es) (list_over es))
+      along K P (ap₂ (λ v w. sum_of (more (sum_of v) w)) (cuts_list es) (cuts_list fs)) (ap sum_of (cuts_append es fs))
+      (near_sum_flat (map cut es) (map cut fs) (list_over es) (list_over fs))
+  cut_derives (wide_sum_none es) = along K P (ap (λ w. sum_of (more none w)) (cuts_list es)) (ap sum_of (cuts_list es))
+      (near_sum_none (map cut es) (list_over es))
   cut_derives wide_sum_empty = near_sum_empty
   cut_derives (wide_sum_one e) = near_sum_one (cut e) (cut_over e)
   cut_derives (wide_multiple_multiple c a e) = near_multiple_multiple c a (cut e) (cut_over e)
@@ -169,7 +176,8 @@ module _ (K : Field) (P : Presentation K.Carrier) (over : (k : ℕ) → k < leng
   cut_derives (wide_multiple_nought e) = near_multiple_nought (cut e) (cut_over e)
   cut_derives (wide_multiple_plus c a e) = near_multiple_plus c a (cut e) (cut_over e)
   cut_derives (wide_multiple_sum c es) =
-      along K P (ap (λ w. multiple c (sum_of w)) (cuts_list es)) (ap sum_of (cuts_map (multiple c) (multiple c) (λ e. refl) es)) (near_multiple_sum c (map cut es) (list_over es))
+      along K P (ap (λ w. multiple c (sum_of w)) (cuts_list es)) (ap sum_of (cuts_map (multiple c) (multiple c) (λ e. refl) es))
+      (near_multiple_sum c (map cut es) (list_over es))
   cut_derives (wide_left_sum es g) =
       along K P (ap (λ w. bracket_of (sum_of w) (cut g)) (cuts_list es)) (ap sum_of (cuts_map (λ e. bracket_of e g) (λ e. bracket_of e (cut g)) (λ e. refl) es))
       (near_left_sum (map cut es) (cut g) (list_over es) (cut_over g))
@@ -179,7 +187,8 @@ module _ (K : Field) (P : Presentation K.Carrier) (over : (k : ℕ) → k < leng
   cut_derives (wide_left_multiple c e g) = near_left_multiple c (cut e) (cut g) (cut_over e) (cut_over g)
   cut_derives (wide_right_multiple c e g) = near_right_multiple c (cut e) (cut g) (cut_over e) (cut_over g)
   cut_derives (wide_exchange s t a b h k) = near_exchange s t (cut a) (cut b) (cut_over a) (cut_over b) (cut_parity h) (cut_parity k)
-  cut_derives (wide_jacobi s t u a b c h k l) = near_jacobi s t u (cut a) (cut b) (cut c) (cut_over a) (cut_over b) (cut_over c) (cut_parity h) (cut_parity k) (cut_parity l)
+  cut_derives (wide_jacobi s t u a b c h k l) = near_jacobi s t u (cut a) (cut b) (cut c) (cut_over a) (cut_over b) (cut_over c) (cut_parity h)
+      (cut_parity k) (cut_parity l)
   cut_derives (wide_relation k l) = along K P (cut_same (over k l).0) (cut_same (over k l).1) (near_relation k l)
   cut_derives (wide_cube a c h) = near_cube (cut a) (cut_over a) c (cut_parity h)
 
@@ -187,7 +196,9 @@ module _ (K : Field) (P : Presentation K.Carrier) (over : (k : ℕ) → k < leng
   derives_within e f h k d = along K P (sym (cut_same h)) (sym (cut_same k)) (cut_derives d)
 
 -- combinations are over P where their members are
-pub combined_over : (K : Field) (P : Presentation K.Carrier) (tree : ℕ → Expression K) (n : ℕ) (v : Vector K) → ((i : ℕ) → i < n → IsOver P (tree i)) → IsOver P (combined K tree n v)
+pub combined_over : (K : Field) (P : Presentation K.Carrier) (tree : ℕ → Expression K) (n : ℕ) (v : Vector K) →
+    ((i : ℕ) → i < n → IsOver P (tree i)) → IsOver P (combined K tree n v)
 unfolding combined
 combined_over K P tree zero v h = over_none
-combined_over K P tree (suc n) v h = over_sum (over_more (combined_over K P tree n v (λ i l. h i (omega arith))) (over_more (over_multiple (h n (omega arith))) over_end))
+combined_over K P tree (suc n) v h = over_sum (over_more (combined_over K P tree n v (λ i l. h i (omega arith)))
+    (over_more (over_multiple (h n (omega arith))) over_end))

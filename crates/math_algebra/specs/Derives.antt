@@ -34,8 +34,10 @@ pub data Derives (K : Field) (P : Presentation K.Carrier) : Expression K → Exp
   in_multiple : {e f : Expression K} (c : K.Carrier) → Derives K P e f → Derives K P (multiple c e) (multiple c f)
   in_left : {e f : Expression K} (g : Expression K) → IsOver P g → Derives K P e f → Derives K P (bracket_of e g) (bracket_of f g)
   in_right : {e f : Expression K} (g : Expression K) → IsOver P g → Derives K P e f → Derives K P (bracket_of g e) (bracket_of g f)
-  sum_swap : (e f : Expression K) (es : List (Expression K)) → IsOver P e → IsOver P f → AreOver P (trees es) → Derives K P (sum_all K (e ∷ f ∷ es)) (sum_all K (f ∷ e ∷ es))
-  sum_rest : (e : Expression K) (es fs : List (Expression K)) → IsOver P e → Derives K P (sum_all K es) (sum_all K fs) → Derives K P (sum_all K (e ∷ es)) (sum_all K (e ∷ fs))
+  sum_swap : (e f : Expression K) (es : List (Expression K)) → IsOver P e → IsOver P f → AreOver P (trees es) →
+      Derives K P (sum_all K (e ∷ f ∷ es)) (sum_all K (f ∷ e ∷ es))
+  sum_rest : (e : Expression K) (es fs : List (Expression K)) → IsOver P e → Derives K P (sum_all K es) (sum_all K fs) →
+      Derives K P (sum_all K (e ∷ es)) (sum_all K (e ∷ fs))
   sum_flat : (es fs : List (Expression K)) → AreOver P (trees es) → AreOver P (trees fs) → Derives K P (sum_all K (sum_all K es ∷ fs)) (sum_all K (es ++ fs))
   sum_none : (es : List (Expression K)) → AreOver P (trees es) → Derives K P (sum_all K (none ∷ es)) (sum_all K es)
   sum_empty : Derives K P (sum_all K []) none
@@ -45,11 +47,14 @@ pub data Derives (K : Field) (P : Presentation K.Carrier) : Expression K → Exp
   multiple_nought : (e : Expression K) → IsOver P e → Derives K P (multiple K.nought e) none
   multiple_plus : (c a : K.Carrier) (e : Expression K) → IsOver P e → Derives K P (sum_all K (multiple c e ∷ multiple a e ∷ [])) (multiple (K.plus c a) e)
   multiple_sum : (c : K.Carrier) (es : List (Expression K)) → AreOver P (trees es) → Derives K P (multiple c (sum_all K es)) (sum_all K (map (multiple c) es))
-  left_sum : (es : List (Expression K)) (g : Expression K) → AreOver P (trees es) → IsOver P g → Derives K P (bracket_of (sum_all K es) g) (sum_all K (map (λ e. bracket_of e g) es))
-  right_sum : (g : Expression K) (es : List (Expression K)) → IsOver P g → AreOver P (trees es) → Derives K P (bracket_of g (sum_all K es)) (sum_all K (map (bracket_of g) es))
+  left_sum : (es : List (Expression K)) (g : Expression K) → AreOver P (trees es) → IsOver P g →
+      Derives K P (bracket_of (sum_all K es) g) (sum_all K (map (λ e. bracket_of e g) es))
+  right_sum : (g : Expression K) (es : List (Expression K)) → IsOver P g → AreOver P (trees es) →
+      Derives K P (bracket_of g (sum_all K es)) (sum_all K (map (bracket_of g) es))
   left_multiple : (c : K.Carrier) (e g : Expression K) → IsOver P e → IsOver P g → Derives K P (bracket_of (multiple c e) g) (multiple c (bracket_of e g))
   right_multiple : (c : K.Carrier) (e g : Expression K) → IsOver P e → IsOver P g → Derives K P (bracket_of g (multiple c e)) (multiple c (bracket_of g e))
-  exchange : (s t : Parity) (a b : Expression K) → IsOver P a → IsOver P b → HasParity P a s → HasParity P b t → Derives K P (bracket_of a b) (multiple (K.minus (sign K s t)) (bracket_of b a))
+  exchange : (s t : Parity) (a b : Expression K) → IsOver P a → IsOver P b → HasParity P a s → HasParity P b t →
+      Derives K P (bracket_of a b) (multiple (K.minus (sign K s t)) (bracket_of b a))
   jacobi : (s t u : Parity) (a b c : Expression K) → IsOver P a → IsOver P b → IsOver P c → HasParity P a s → HasParity P b t → HasParity P c u →
       Derives K P (bracket_of a (bracket_of b c)) (sum_all K (bracket_of (bracket_of a b) c ∷ multiple (sign K s t) (bracket_of b (bracket_of a c)) ∷ []))
   relation : (k : ℕ) → k < length P.relations → Derives K P (left P k) (right P k)

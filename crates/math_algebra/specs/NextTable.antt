@@ -29,7 +29,8 @@ module _ (K : Field) (P : Presentation K.Carrier) (T : Table K) (n : ℕ) (row :
   free_list = free_places (length (symbols P T)) n pivot
 
   abbrev pub means_next : Vector K → Vector K
-  means_next = meaning_of K (slot_of (length T.basis) (length (free_places (length (symbols P T)) n pivot)) (λ i. get_or (free_places (length (symbols P T)) n pivot) i 0)) n row pivot
+  means_next = meaning_of K (slot_of (length T.basis) (length (free_places (length (symbols P T)) n pivot))
+      (λ i. get_or (free_places (length (symbols P T)) n pivot) i 0)) n row pivot
 
   unfoldable pub next_table : Table K
   next_table = record {

@@ -50,7 +50,8 @@ jacobi_row K T number i j k =
 module _ (K : Field) (P : Presentation K.Carrier) (T : Table K) where
   abbrev pub relation_row : ℕ → Vector K
   relation_row k =
-      vplus K (row_of K T (pair_number P T) (generator_number P T) (left P k)) (scale K (K.minus K.unit) (row_of K T (pair_number P T) (generator_number P T) (right P k)))
+      vplus K (row_of K T (pair_number P T) (generator_number P T) (left P k)) (scale K (K.minus K.unit)
+      (row_of K T (pair_number P T) (generator_number P T) (right P k)))
 
   -- [b_i, [b_i, b_i]]
   abbrev pub cube_row : ℕ → Vector K
@@ -58,5 +59,7 @@ module _ (K : Field) (P : Presentation K.Carrier) (T : Table K) where
 
   pub data IsSource : Vector K → Type 0 where
     of_relation : (k : ℕ) → k < length P.relations → weight_of_both P (left P k) (right P k) ≡ exact (suc T.weight) → IsSource (relation_row k)
-    of_triple : (i j k : ℕ) → i ≤ j → j ≤ k → k < length T.basis → weight_at T i + weight_at T j + weight_at T k ≡ suc T.weight → IsSource (jacobi_row K T (pair_number P T) i j k)
-    of_cube : (i : ℕ) → three K ≡ K.nought → i < length T.basis → parity_at T i ≡ odd → weight_at T i + weight_at T i + weight_at T i ≡ suc T.weight → IsSource (cube_row i)
+    of_triple : (i j k : ℕ) → i ≤ j → j ≤ k → k < length T.basis → weight_at T i + weight_at T j + weight_at T k ≡ suc T.weight →
+        IsSource (jacobi_row K T (pair_number P T) i j k)
+    of_cube : (i : ℕ) → three K ≡ K.nought → i < length T.basis → parity_at T i ≡ odd → weight_at T i + weight_at T i + weight_at T i ≡ suc T.weight →
+        IsSource (cube_row i)

@@ -32,7 +32,8 @@ pub record IsStandardNext (K : Field) (P : Presentation K.Carrier) (T T' : Table
   pub new_tree : (i : ℕ) → i < count → tree' (length T.basis + i) ≡ symbol_tree tree (symbol_at P T (slot i))
   pub image_of : (g : ℕ) → g < length P.generators → (generator P g).weight ≡ suc T.weight → IsOf K T' (suc T.weight) (T'.image g)
   pub images : (g : ℕ) → g < length P.generators → (generator P g).weight ≡ suc T.weight → Derives K P (gen g) (combined K tree' (length T'.basis) (T'.image g))
-  pub entry_of : (i j : ℕ) → i < length T.basis → j < length T.basis → IsRegular T i j → weight_at T i + weight_at T j ≡ suc T.weight → IsOf K T' (suc T.weight) (T'.entry i j)
+  pub entry_of : (i j : ℕ) → i < length T.basis → j < length T.basis → IsRegular T i j → weight_at T i + weight_at T j ≡ suc T.weight →
+      IsOf K T' (suc T.weight) (T'.entry i j)
   pub entries : (i j : ℕ) → i < length T.basis → j < length T.basis → IsRegular T i j → weight_at T i + weight_at T j ≡ suc T.weight →
       Derives K P (bracket_of (tree i) (tree j)) (combined K tree' (length T'.basis) (T'.entry i j))
 

@@ -183,7 +183,8 @@ module _ (K : Field) (P : Presentation K.Carrier) (T : Table K) (law : ObeysLaw 
         rep = quotient_represented K n n' row row' pivot pivot' closed closed' into number chosen those
 
         whole2 : (f : Two K) → IsCocycle2 K T w f →
-            (c : ℕ → K.Carrier) × (b : Two K) × IsCoboundary2 K T w b × Agree2 K T f (λ i j. K.plus (sum2 K number c (λ k. two_of K T w slot (row (chosen k))) i j) (b i j))
+            (c : ℕ → K.Carrier) × (b : Two K) × IsCoboundary2 K T w b ×
+            Agree2 K T f (λ i j. K.plus (sum2 K number c (λ k. two_of K T w slot (row (chosen k))) i j) (b i j))
         whole2 f h =
             let x : Vector K = row_of2 K count left right f in
             let z : InSpan K n row x = (same x).1 ((kernel2 x).1 ((λ s l. row2_past K T w count left right slot pairs f s l), cocycle)) in

@@ -99,7 +99,8 @@ module _ (K : Field) (P : Presentation K.Carrier) (T : Table K) (law : ObeysLaw 
         in_at : (i : ℕ) → i < length T.basis → IsIn K T (parity_at T i) (place K i)
         in_at i l = in_place K T i (parity_at T i) l refl
 
-        second : K.times (K.minus (sign_at K T j k)) (apply K T f (bracket K T (bracket K T (place K i) (place K k)) (place K j))) ≡ K.times (sign_at K T i j) atD
+        second : K.times (K.minus (sign_at K T j k)) (apply K T f (bracket K T (bracket K T (place K i) (place K k)) (place K j))) ≡
+            K.times (sign_at K T i j) atD
         second =
             ap (λ w. K.times (K.minus (sign_at K T j k)) (apply K T f w))
             (exchange_parts K T (parity_sum (parity_at T i) (parity_at T k)) (parity_at T j) _ _ (in_bracket K T law.graded _ _ _ _ (in_at i l) (in_at k o))

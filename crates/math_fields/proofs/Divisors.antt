@@ -74,7 +74,8 @@ quotients_apart a b g some is = (
   λ c h k.
       dvd_of_mul-dvd-mul_right c some
       (subst (λ w. c * g ∣ w) (omega arith)
-      (is.2 (c * g) (subst (λ w. c * g ∣ w) (div-mul_cancel g is.0) (mul-dvd-mul_right c h g)) (subst (λ w. c * g ∣ w) (div-mul_cancel g is.1) (mul-dvd-mul_right c k g)))),
+      (is.2 (c * g) (subst (λ w. c * g ∣ w) (div-mul_cancel g is.0) (mul-dvd-mul_right c h g))
+      (subst (λ w. c * g ∣ w) (div-mul_cancel g is.1) (mul-dvd-mul_right c k g)))),
 )
 
 -- equal fractions in lowest terms have one numerator and one denominator

@@ -135,7 +135,8 @@ lowest_in_same x y (yes c) (yes d) h =
 lowest_in_same x y (yes c) (no d) h =
     absurd (not_cross x.0 x.1.0 (x.0 - x.1.0) (y.1.1 + 1) y.0 y.1.0 (y.1.0 - y.0) (x.1.1 + 1) (past_zero x.1.1) (omega arith) (omega arith) (omega arith) h)
 lowest_in_same x y (no c) (yes d) h =
-    absurd (not_cross_back x.0 x.1.0 (x.1.0 - x.0) (y.1.1 + 1) y.0 y.1.0 (y.0 - y.1.0) (x.1.1 + 1) (past_zero y.1.1) (omega arith) (omega arith) (omega arith) h)
+    absurd (not_cross_back x.0 x.1.0 (x.1.0 - x.0) (y.1.1 + 1) y.0 y.1.0 (y.0 - y.1.0) (x.1.1 + 1) (past_zero y.1.1) (omega arith) (omega arith)
+    (omega arith) h)
 lowest_in_same x y (no c) (no d) h =
     let s = lowest_of (x.1.0 - x.0) (x.1.1 + 1) (past_zero x.1.1) in
     let t = lowest_of (y.1.0 - y.0) (y.1.1 + 1) (past_zero y.1.1) in
@@ -276,13 +277,15 @@ times-plus x y z =
 inverse_in_is : (x : Ratio) (c : Dec (x.1.0 < x.0)) (d : Dec (x.0 < x.1.0)) → x.0 ≢ x.1.0 → Alike (ratio_times x (inverse_in x c d)) (1, (0, 0))
 unfolding inverse_in
 inverse_in_is x (yes h) d n =
-    alike_by (ratio_times x (x.1.1 + 1, (0, x.0 - x.1.0 - 1))) (1, (0, 0)) ((x.1.1 + 1) * (x.0 - x.1.0)) 1 (by_product _ _ ∙ ap (λ w. (x.1.1 + 1) * w) (omega arith)) refl
+    alike_by (ratio_times x (x.1.1 + 1, (0, x.0 - x.1.0 - 1))) (1, (0, 0)) ((x.1.1 + 1) * (x.0 - x.1.0)) 1
+    (by_product _ _ ∙ ap (λ w. (x.1.1 + 1) * w) (omega arith)) refl
     (go x.0 x.1.0 (x.1.1 + 1) (x.0 - x.1.0) (omega arith))
   where
     go : (u v d a : ℕ) → u ≡ v + a → (u * d + v * 0) * 1 + 0 * (d * a) ≡ 1 * (d * a) + (u * 0 + v * d) * 1
     go u v d a p = omega (arith, ap (λ w. w * d) p)
 inverse_in_is x (no h) (yes k) n =
-    alike_by (ratio_times x (0, (x.1.1 + 1, x.1.0 - x.0 - 1))) (1, (0, 0)) ((x.1.1 + 1) * (x.1.0 - x.0)) 1 (by_product _ _ ∙ ap (λ w. (x.1.1 + 1) * w) (omega arith)) refl
+    alike_by (ratio_times x (0, (x.1.1 + 1, x.1.0 - x.0 - 1))) (1, (0, 0)) ((x.1.1 + 1) * (x.1.0 - x.0)) 1
+    (by_product _ _ ∙ ap (λ w. (x.1.1 + 1) * w) (omega arith)) refl
     (go x.0 x.1.0 (x.1.1 + 1) (x.1.0 - x.0) (omega arith))
   where
     go : (u v d a : ℕ) → v ≡ u + a → (u * 0 + v * d) * 1 + 0 * (d * a) ≡ 1 * (d * a) + (u * d + v * 0) * 1
@@ -302,19 +305,22 @@ pub unit≢nought : lowest (1, (0, 0)) ≢ lowest (0, (0, 0))
 unit≢nought e =
     go (lowest (1, (0, 0))) (lowest_alike (1, (0, 0))) (subst (λ w. Alike w (0, (0, 0))) (sym e) (lowest_alike (0, (0, 0))))
   where
-    go : (x : Ratio) → x.0 * (0 + 1) + 0 * (x.1.1 + 1) ≡ 1 * (x.1.1 + 1) + x.1.0 * (0 + 1) → x.0 * (0 + 1) + 0 * (x.1.1 + 1) ≡ 0 * (x.1.1 + 1) + x.1.0 * (0 + 1) → ⊥
+    go : (x : Ratio) → x.0 * (0 + 1) + 0 * (x.1.1 + 1) ≡ 1 * (x.1.1 + 1) + x.1.0 * (0 + 1) →
+        x.0 * (0 + 1) + 0 * (x.1.1 + 1) ≡ 0 * (x.1.1 + 1) + x.1.0 * (0 + 1) → ⊥
     go x p q = omega arith
 
 pub two≢nought : lowest (2, (0, 0)) ≢ lowest (0, (0, 0))
 two≢nought e =
     go (lowest (2, (0, 0))) (lowest_alike (2, (0, 0))) (subst (λ w. Alike w (0, (0, 0))) (sym e) (lowest_alike (0, (0, 0))))
   where
-    go : (x : Ratio) → x.0 * (0 + 1) + 0 * (x.1.1 + 1) ≡ 2 * (x.1.1 + 1) + x.1.0 * (0 + 1) → x.0 * (0 + 1) + 0 * (x.1.1 + 1) ≡ 0 * (x.1.1 + 1) + x.1.0 * (0 + 1) → ⊥
+    go : (x : Ratio) → x.0 * (0 + 1) + 0 * (x.1.1 + 1) ≡ 2 * (x.1.1 + 1) + x.1.0 * (0 + 1) →
+        x.0 * (0 + 1) + 0 * (x.1.1 + 1) ≡ 0 * (x.1.1 + 1) + x.1.0 * (0 + 1) → ⊥
     go x p q = omega arith
 
 pub three≢nought : lowest (3, (0, 0)) ≢ lowest (0, (0, 0))
 three≢nought e =
     go (lowest (3, (0, 0))) (lowest_alike (3, (0, 0))) (subst (λ w. Alike w (0, (0, 0))) (sym e) (lowest_alike (0, (0, 0))))
   where
-    go : (x : Ratio) → x.0 * (0 + 1) + 0 * (x.1.1 + 1) ≡ 3 * (x.1.1 + 1) + x.1.0 * (0 + 1) → x.0 * (0 + 1) + 0 * (x.1.1 + 1) ≡ 0 * (x.1.1 + 1) + x.1.0 * (0 + 1) → ⊥
+    go : (x : Ratio) → x.0 * (0 + 1) + 0 * (x.1.1 + 1) ≡ 3 * (x.1.1 + 1) + x.1.0 * (0 + 1) →
+        x.0 * (0 + 1) + 0 * (x.1.1 + 1) ≡ 0 * (x.1.1 + 1) + x.1.0 * (0 + 1) → ⊥
     go x p q = omega arith

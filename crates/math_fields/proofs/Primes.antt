@@ -25,7 +25,8 @@ none_divides_is : (k p d : ℕ) → none_divides k p ≡ true → 1 < d → d �
 unfolding none_divides
 none_divides_is zero p d t l m n = absurd (omega arith)
 none_divides_is (suc k) p d t l m n =
-    go (ℕ_discrete d (suc (suc k))) (λ o. none_divides_is k p d (second_of_two (nat_le p (suc (suc k))) (nat_eq (p % (suc (suc k))) 0) (none_divides k p) t) l o n)
+    go (ℕ_discrete d (suc (suc k))) (λ o. none_divides_is k p d (second_of_two (nat_le p (suc (suc k))) (nat_eq (p % (suc (suc k))) 0)
+    (none_divides k p) t) l o n)
   where
     apart : (n : ℕ) → nat_eq n 0 ≡ false → n ≢ 0
     apart n e = grind arith

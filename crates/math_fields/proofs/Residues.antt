@@ -20,7 +20,11 @@ product a q y r j e = first ∙ ap (λ w. (r + j) * (w * y)) e ∙ omega arith
 module _ (p : ℕ) (prime : IsPrime p) where
   -- with p = a*q + r and r*y = 1, a*((p-1)*q*y) = 1
   step : (a q r y j : ℕ) → a * q ≡ j + 1 → p ≡ r + j + 1 → r * y % p ≡ 1 → InverseOf p a
-  step a q r y j e d h = ((r + j) * (q * y), ap (λ w. w % p) (product a q y r j e ∙ ap (λ w. r * y + w * (j * y)) (sym d)) ∙ add-mul-mod_self_left (r * y) p (j * y) ∙ h)
+  step a q r y j e d h = (
+    (r + j) * (q * y),
+    ap (λ w. w % p) (product a q y r j e ∙ ap (λ w. r * y + w * (j * y)) (sym d)) ∙
+        add-mul-mod_self_left (r * y) p (j * y) ∙ h,
+  )
 
   inverse_below : (b a : ℕ) → a < b → 0 < a → a < p → InverseOf p a
   inverse_below zero a l z m = absurd (omega arith)
@@ -52,7 +56,8 @@ module _ (p : ℕ) (prime : IsPrime p) where
   pub residue_plus-minus : (x : ℕ) → (x + (p - x % p)) % p ≡ 0 % p
   residue_plus-minus x =
       sym (mod-add-mod x p (p - x % p))
-      ∙ ap (λ w. w % p) (let l : x % p < p = mod-lt x (omega (arith, prime.past_one)) in let e : x % p + (p - x % p) ≡ p = omega arith in e) ∙ mod_self p ∙ sym (zero-mod p)
+      ∙ ap (λ w. w % p) (let l : x % p < p = mod-lt x (omega (arith, prime.past_one)) in let e : x % p + (p - x % p) ≡ p = omega arith in e) ∙
+      mod_self p ∙ sym (zero-mod p)
 
   pub residue_is_inverse : (x : ℕ) → x % p ≢ 0 % p → x * (residue_inverse x).0 % p ≡ 1 % p
   residue_is_inverse x h = (residue_inverse x).1 (λ e. h (e ∙ sym (zero-mod p))) ∙ sym (mod-eq_of_lt prime.past_one)

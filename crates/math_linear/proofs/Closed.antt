@@ -28,7 +28,8 @@ module _ (K : Field) where
       go (yes e) d = ap (λ w. K.plus w (f n s)) (at_none n s f (λ i m. h i (omega arith) (omega arith))) ∙ nought-plus K _ ∙ ap (λ w. f w s) (sym e)
       go (no e) d = ap (λ w. K.plus w (f n s)) (d (omega arith)) ∙ ap (K.plus (f j s)) (h n (omega arith) (omega arith)) ∙ K.plus-nought _
 
-pub combination_none : (K : Field) (n : ℕ) (row : ℕ → Vector K) (c : ℕ → K.Carrier) (s : ℕ) → ((i : ℕ) → i < n → row i s ≡ K.nought) → combination K n row c s ≡ K.nought
+pub combination_none : (K : Field) (n : ℕ) (row : ℕ → Vector K) (c : ℕ → K.Carrier) (s : ℕ) → ((i : ℕ) → i < n → row i s ≡ K.nought) →
+    combination K n row c s ≡ K.nought
 unfolding scale
 combination_none K n row c s h = at_none K n s _ (λ i l. ap (K.times (c i)) (h i l) ∙ times-nought K (c i))
 
@@ -37,7 +38,8 @@ pub find_pivot : (n : ℕ) (pivot : ℕ → ℕ) (q : ℕ) → ((i : ℕ) × (i 
 find_pivot zero pivot q = inr (λ i l. absurd (omega arith))
 find_pivot (suc n) pivot q = next (ℕ_discrete (pivot n) q) (find_pivot n pivot q)
   where
-    next : Dec (pivot n ≡ q) → ((i : ℕ) × (i < n) × (pivot i ≡ q)) ⊎ ((i : ℕ) → i < n → pivot i ≢ q) → ((i : ℕ) × (i < suc n) × (pivot i ≡ q)) ⊎ ((i : ℕ) → i < suc n → pivot i ≢ q)
+    next : Dec (pivot n ≡ q) → ((i : ℕ) × (i < n) × (pivot i ≡ q)) ⊎ ((i : ℕ) → i < n → pivot i ≢ q) →
+        ((i : ℕ) × (i < suc n) × (pivot i ≡ q)) ⊎ ((i : ℕ) → i < suc n → pivot i ≢ q)
     next (yes e) h = inl (n, (omega arith), e)
     next (no d) (inl h) = inl (h.0, (omega arith), h.2)
     next (no d) (inr h) = inr (λ i l. elim (ℕ_discrete i n) [ yes e ↦ subst (λ w. pivot w ≢ q) (sym e) d | no e ↦ h i (omega arith) ])
@@ -89,7 +91,8 @@ Ascends n p = (i j : ℕ) → i < j → j < n → p i < p j
 abbrev pub Meets : ℕ → (ℕ → ℕ) → ℕ → (ℕ → ℕ) → Type 0
 Meets n p m q = (i : ℕ) → i < n → (j : ℕ) × (j < m) × (q j ≡ p i)
 
-lower : (n m : ℕ) (p q : ℕ → ℕ) → Ascends n p → Ascends m q → Meets n p m q → (i : ℕ) → ((k : ℕ) → k < i → k < m → (k < n) × (p k ≡ q k)) → i < n → (i < m) × (q i ≤ p i)
+lower : (n m : ℕ) (p q : ℕ → ℕ) → Ascends n p → Ascends m q → Meets n p m q → (i : ℕ) → ((k : ℕ) → k < i → k < m → (k < n) × (p k ≡ q k)) → i < n →
+    (i < m) × (q i ≤ p i)
 lower n m p q up up' meets i before l = go (meets i l)
   where
     go : (j : ℕ) × (j < m) × (q j ≡ p i) → (i < m) × (q i ≤ p i)
@@ -135,7 +138,11 @@ module _ (K : Field) (n : ℕ) (row : ℕ → Vector K) (pivot : ℕ → ℕ) (c
   ]
 
   pub rows_same : (i : ℕ) → i < n → (pivot i ≡ pivot' i) × (row i ≡ row' i)
-  rows_same i l = (((same_at i).0 l).1, apart_zero K _ _ (zero_at_pivots K n row pivot closed _ (span_less K n row _ _ (in_span K n row i l) (within' _ (in_span K m row' i (((same_at i).0 l).0)))) here))
+  rows_same i l = (
+    ((same_at i).0 l).1,
+    apart_zero K _ _ (zero_at_pivots K n row pivot closed _
+        (span_less K n row _ _ (in_span K n row i l) (within' _ (in_span K m row' i (((same_at i).0 l).0)))) here),
+  )
     where
       l' : i < m
       l' = ((same_at i).0 l).0
@@ -147,15 +154,18 @@ module _ (K : Field) (n : ℕ) (row : ℕ → Vector K) (pivot : ℕ → ℕ) (c
 
       here : (j : ℕ) → j < n → vplus K (row i) (scale K (K.minus K.unit) (row' i)) (pivot j) ≡ K.nought
       here j k =
-          unfold vplus scale in (ap (λ w. K.plus w (K.times (K.minus K.unit) (row' i (pivot j)))) (at j k (ℕ_discrete i j))) ∙ ap (λ w. w (pivot j)) (vplus_comm K (row' i) _ ∙ minus-vplus K (row' i)) ∙ zero_at K (pivot j)
+          unfold vplus scale in (ap (λ w. K.plus w (K.times (K.minus K.unit) (row' i (pivot j)))) (at j k (ℕ_discrete i j))) ∙
+          ap (λ w. w (pivot j)) (vplus_comm K (row' i) _ ∙ minus-vplus K (row' i)) ∙ zero_at K (pivot j)
 
 -- what a kind spans has at most one closed list
 module _ (K : Field) (Kind : Vector K → Type 0) (n : ℕ) (row : ℕ → Vector K) (pivot : ℕ → ℕ) (closed : IsClosed K n row pivot) (spans : SpansKind K Kind n row)
     (n' : ℕ) (row' : ℕ → Vector K) (pivot' : ℕ → ℕ) (closed' : IsClosed K n' row' pivot') (spans' : SpansKind K Kind n' row') where
   pub one_number : n ≡ n'
   one_number =
-      rows_number K n row pivot closed n' row' pivot' closed' (λ v h. kind_span K Kind n' row' spans' v (span_of_kind K Kind n row spans v h)) (λ v h. kind_span K Kind n row spans v (span_of_kind K Kind n' row' spans' v h))
+      rows_number K n row pivot closed n' row' pivot' closed' (λ v h. kind_span K Kind n' row' spans' v (span_of_kind K Kind n row spans v h))
+      (λ v h. kind_span K Kind n row spans v (span_of_kind K Kind n' row' spans' v h))
 
   pub one_list : (i : ℕ) → i < n → (pivot i ≡ pivot' i) × (row i ≡ row' i)
   one_list =
-      rows_same K n row pivot closed n' row' pivot' closed' (λ v h. kind_span K Kind n' row' spans' v (span_of_kind K Kind n row spans v h)) (λ v h. kind_span K Kind n row spans v (span_of_kind K Kind n' row' spans' v h))
+      rows_same K n row pivot closed n' row' pivot' closed' (λ v h. kind_span K Kind n' row' spans' v (span_of_kind K Kind n row spans v h))
+      (λ v h. kind_span K Kind n row spans v (span_of_kind K Kind n' row' spans' v h))

@@ -15,7 +15,8 @@ use Rattle.math_linear.proofs.Span.{spanned_more, spanned_total, span_vplus, spa
 use Rattle.math_linear.proofs.Closed.{combination_none, span_swept, at_pivot}
 use Rattle.math_linear.proofs.Places.{less_at, zero_at}
 
-pub closing_same : (K : Field) (m : ℕ) (A B : Vector K → Type 0) → ((x : Vector K) → A x → B x) → ((x : Vector K) → B x → A x) → ClosedForm K m A → ClosedForm K m B
+pub closing_same : (K : Field) (m : ℕ) (A B : Vector K → Type 0) → ((x : Vector K) → A x → B x) → ((x : Vector K) → B x → A x) → ClosedForm K m A →
+    ClosedForm K m B
 closing_same K m A B h k c = record {
   n = c.n;
   row = c.row;
@@ -50,8 +51,26 @@ position (suc n) pivot q up apart = go (dec_lt (pivot n) q) (position n pivot q 
   where
     go : Dec (pivot n < q) → ((p : ℕ) × (p ≤ n) × ((i : ℕ) → i < p → pivot i < q) × ((i : ℕ) → p ≤ i → i < n → q < pivot i)) →
         (p : ℕ) × (p ≤ suc n) × ((i : ℕ) → i < p → pivot i < q) × ((i : ℕ) → p ≤ i → i < suc n → q < pivot i)
-    go (yes l) r = (suc n, omega arith, (λ i k. elim (ℕ_discrete i n) [ yes e ↦ subst (λ i. pivot i < q) (sym e) l | no e ↦ (let u = up i n (omega arith) (omega arith) in omega (arith, u, l)) ]), (λ i k m. absurd (omega arith)))
-    go (no l) r = (r.0, omega (arith, r.1), r.2, (λ i k m. elim (ℕ_discrete i n) [ yes e ↦ subst (λ i. q < pivot i) (sym e) (let d = apart n (omega arith) in omega (arith, l, d)) | no e ↦ r.3 i k (omega arith) ]))
+    go (yes l) r = (
+      suc n,
+      omega arith,
+      (λ i k. elim (ℕ_discrete i n) [
+        | yes e ↦ subst (λ i. pivot i < q) (sym e) l
+        | no e ↦
+            (let u = up i n (omega arith) (omega arith) in omega (arith, u, l))
+      ]),
+      (λ i k m. absurd (omega arith)),
+    )
+    go (no l) r = (
+      r.0,
+      omega (arith, r.1),
+      r.2,
+      (λ i k m. elim (ℕ_discrete i n) [
+        | yes e ↦ subst (λ i. q < pivot i) (sym e) (let d = apart n (omega arith) in
+            omega (arith, l, d))
+        | no e ↦ r.3 i k (omega arith)
+      ]),
+    )
 
 -- closed rows with one more, which is 0 at the pivots and has its pivot at q
 module _ (K : Field) (n : ℕ) (row : ℕ → Vector K) (pivot : ℕ → ℕ) (closed : IsClosed K n row pivot) (u : Vector K) (q p : ℕ)
@@ -103,12 +122,14 @@ module _ (K : Field) (n : ℕ) (row : ℕ → Vector K) (pivot : ℕ → ℕ) (c
 
   keeps : (i s : ℕ) → u s ≡ K.nought → reduced i s ≡ row i s
   unfolding reduced vplus scale
-  keeps i s e = ap (λ w. K.plus (row i s) (K.times (K.minus K.unit) w)) (ap (K.times (row i q)) e ∙ times-nought K _) ∙ ap (K.plus (row i s)) (times-nought K _) ∙ K.plus-nought _
+  keeps i s e = ap (λ w. K.plus (row i s) (K.times (K.minus K.unit) w)) (ap (K.times (row i q)) e ∙ times-nought K _) ∙
+      ap (K.plus (row i s)) (times-nought K _) ∙ K.plus-nought _
 
   keeps_off : (i s : ℕ) → row i q ≡ K.nought → reduced i s ≡ row i s
   unfolding reduced vplus scale
   keeps_off i s e =
-      ap (λ w. K.plus (row i s) (K.times (K.minus K.unit) w)) (ap (λ w. K.times w (u s)) e ∙ nought-times K _) ∙ ap (K.plus (row i s)) (times-nought K _) ∙ K.plus-nought _
+      ap (λ w. K.plus (row i s) (K.times (K.minus K.unit) w)) (ap (λ w. K.times w (u s)) e ∙ nought-times K _) ∙
+      ap (K.plus (row i s)) (times-nought K _) ∙ K.plus-nought _
 
   at_q : (i : ℕ) → reduced i q ≡ K.nought
   unfolding reduced
@@ -282,9 +303,14 @@ module _ (K : Field) (m : ℕ) (A : Vector K → Type 0) (c : ClosedForm K m A) 
       pivot = new_pivot K c.n c.row c.pivot c.form.closed u q place_q.0 u_one u_past u_off place_q.1 place_q.2 place_q.3;
       form = record {
         closed = closed_more K c.n c.row c.pivot c.form.closed u q place_q.0 u_one u_past u_off place_q.1 place_q.2 place_q.3;
-        spans = record { each = λ x h. each x h; from = λ i l. each_new K c.n c.row c.pivot c.form.closed u q place_q.0 u_one u_past u_off place_q.1 place_q.2 place_q.3 (Spanned K More) u_of reduced_of i l };
+        spans = record {
+          each = λ x h. each x h;
+          from = λ i l. each_new K c.n c.row c.pivot c.form.closed u q place_q.0 u_one u_past u_off place_q.1
+              place_q.2 place_q.3 (Spanned K More) u_of reduced_of i l;
+        };
         ends = λ i l s k.
-            each_new K c.n c.row c.pivot c.form.closed u q place_q.0 u_one u_past u_off place_q.1 place_q.2 place_q.3 (λ x. x s ≡ K.nought) (u_zero s (w_short s k)) (λ i l. reduced_short i s l k) i l;
+            each_new K c.n c.row c.pivot c.form.closed u q place_q.0 u_one u_past u_off place_q.1 place_q.2 place_q.3 (λ x. x s ≡ K.nought)
+            (u_zero s (w_short s k)) (λ i l. reduced_short i s l k) i l;
       };
     }
       where
@@ -294,17 +320,21 @@ module _ (K : Field) (m : ℕ) (A : Vector K → Type 0) (c : ClosedForm K m A) 
         u_off : (i : ℕ) → i < c.n → u (c.pivot i) ≡ K.nought
         u_off i l = u_zero (c.pivot i) (w_off i l)
 
-        each : (x : Vector K) → A x ⊎ (x ≡ v) → InSpan K (suc c.n) (new_row K c.n c.row c.pivot c.form.closed u q place_q.0 u_one u_past u_off place_q.1 place_q.2 place_q.3) x
+        each : (x : Vector K) → A x ⊎ (x ≡ v) → InSpan K (suc c.n)
+            (new_row K c.n c.row c.pivot c.form.closed u q place_q.0 u_one u_past u_off place_q.1 place_q.2 place_q.3) x
         each x (inl a) = span_in K c.n c.row c.pivot c.form.closed u q place_q.0 u_one u_past u_off place_q.1 place_q.2 place_q.3 x (c.form.spans.each x a)
         each x (inr d) =
             subst (InSpan K (suc c.n) (new_row K c.n c.row c.pivot c.form.closed u q place_q.0 u_one u_past u_off place_q.1 place_q.2 place_q.3)) (v_is ∙ sym d)
             (plus_in K c.n c.row c.pivot c.form.closed u q place_q.0 u_one u_past u_off place_q.1 place_q.2 place_q.3 (w q) taken taken_in)
 
-        reduced_of : (i : ℕ) → i < c.n → Spanned K More (reduced K c.n c.row c.pivot c.form.closed u q place_q.0 u_one u_past u_off place_q.1 place_q.2 place_q.3 i)
+        reduced_of : (i : ℕ) → i < c.n → Spanned K More
+            (reduced K c.n c.row c.pivot c.form.closed u q place_q.0 u_one u_past u_off place_q.1 place_q.2 place_q.3 i)
         reduced_of i l = unfold reduced in (span_sum _ _ (row_of i l) (span_multiple _ _ (span_multiple _ _ u_of)))
 
-        reduced_short : (i s : ℕ) → i < c.n → m ≤ s → reduced K c.n c.row c.pivot c.form.closed u q place_q.0 u_one u_past u_off place_q.1 place_q.2 place_q.3 i s ≡ K.nought
-        reduced_short i s l k = keeps K c.n c.row c.pivot c.form.closed u q place_q.0 u_one u_past u_off place_q.1 place_q.2 place_q.3 i s (u_zero s (w_short s k)) ∙ c.form.ends i l s k
+        reduced_short : (i s : ℕ) → i < c.n → m ≤ s → reduced K c.n c.row c.pivot c.form.closed u q place_q.0 u_one u_past u_off place_q.1 place_q.2
+            place_q.3 i s ≡ K.nought
+        reduced_short i s l k = keeps K c.n c.row c.pivot c.form.closed u q place_q.0 u_one u_past u_off place_q.1 place_q.2 place_q.3 i s
+            (u_zero s (w_short s k)) ∙ c.form.ends i l s k
 
   pub insert : ClosedForm K m More
   insert = go (greatest K w m w_short)
@@ -359,7 +389,13 @@ no_rows K m = record {
   row = λ i. vzero K;
   pivot = λ i. 0;
   form = record {
-    closed = record { leads = λ i l. absurd (omega arith); above = λ i s l k. absurd (omega arith); ascend = λ i j l k. absurd (omega arith); apart = λ i j l k d. absurd (omega arith) };
+    closed = record {
+      leads = λ i l. absurd (omega arith);
+      above = λ i s l k. absurd (omega arith);
+      ascend = λ i j l k. absurd (omega arith);
+      apart =
+          λ i j l k d. absurd (omega arith);
+    };
     spans = record { each = λ v h. absurd h; from = λ i l. absurd (omega arith) };
     ends = λ i l. absurd (omega arith);
   };

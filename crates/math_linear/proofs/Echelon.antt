@@ -66,7 +66,8 @@ module _ (K : Field) (n : ℕ) (at : Pivots K) (echelon : (s : ℕ) (u : Vector 
   at_taken : (o : Option (Vector K)) (s t : ℕ) (v : Vector K) → ((u : Vector K) → o ≡ Some u → HasLead K s u) → s < t → take_off K o s v t ≡ v t
   unfolding take_off
   at_taken None s t v h l = refl
-  at_taken (Some u) s t v h l = unfold vplus scale in (ap (λ w. K.plus (v t) (K.times (K.minus (v s)) w)) ((h u refl).above t l) ∙ ap (K.plus (v t)) (times-nought K _) ∙ K.plus-nought _)
+  at_taken (Some u) s t v h l = unfold vplus scale in
+      (ap (λ w. K.plus (v t) (K.times (K.minus (v s)) w)) ((h u refl).above t l) ∙ ap (K.plus (v t)) (times-nought K _) ∙ K.plus-nought _)
 
   -- places from m on stay
   pub reduce_keeps : (m t : ℕ) (v : Vector K) → m ≤ t → reduce K at m v t ≡ v t

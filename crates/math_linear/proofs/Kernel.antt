@@ -47,15 +47,18 @@ module _ (K : Field) where
   product_one (suc n) s u x l h = go (ℕ_discrete s n) (λ k. product_one n s u x k (λ i m. h i (omega arith)))
     where
       go : Dec (s ≡ n) → (s < n → product_sum K n u x ≡ K.times (u s) (x s)) → K.plus (product_sum K n u x) (K.times (u n) (x n)) ≡ K.times (u s) (x s)
-      go (yes e) k = ap (λ w. K.plus w (K.times (u n) (x n))) (product_none n u x (λ i m. h i (omega arith) (omega arith))) ∙ nought-plus K _ ∙ ap (λ i. K.times (u i) (x i)) (sym e)
+      go (yes e) k = ap (λ w. K.plus w (K.times (u n) (x n))) (product_none n u x (λ i m. h i (omega arith) (omega arith))) ∙ nought-plus K _ ∙
+          ap (λ i. K.times (u i) (x i)) (sym e)
       go (no d) k = ap₂ K.plus (k (omega arith)) (h n (omega arith) (λ e. d (sym e))) ∙ K.plus-nought _
 
-  pub product_two : (n s t : ℕ) (u x : Vector K) → s < n → t < n → s ≢ t → ((i : ℕ) → i < n → i ≢ s → i ≢ t → K.times (u i) (x i) ≡ K.nought) → product_sum K n u x ≡ K.plus (K.times (u s) (x s)) (K.times (u t) (x t))
+  pub product_two : (n s t : ℕ) (u x : Vector K) → s < n → t < n → s ≢ t → ((i : ℕ) → i < n → i ≢ s → i ≢ t → K.times (u i) (x i) ≡ K.nought) →
+      product_sum K n u x ≡ K.plus (K.times (u s) (x s)) (K.times (u t) (x t))
   unfolding product_sum
   product_two zero s t u x l m d h = absurd (omega arith)
   product_two (suc n) s t u x l m d h = go (ℕ_discrete s n) (ℕ_discrete t n) (λ k k'. product_two n s t u x k k' d (λ i o. h i (omega arith)))
     where
-      go : Dec (s ≡ n) → Dec (t ≡ n) → (s < n → t < n → product_sum K n u x ≡ K.plus (K.times (u s) (x s)) (K.times (u t) (x t))) → K.plus (product_sum K n u x) (K.times (u n) (x n)) ≡ K.plus (K.times (u s) (x s)) (K.times (u t) (x t))
+      go : Dec (s ≡ n) → Dec (t ≡ n) → (s < n → t < n → product_sum K n u x ≡ K.plus (K.times (u s) (x s)) (K.times (u t) (x t))) →
+          K.plus (product_sum K n u x) (K.times (u n) (x n)) ≡ K.plus (K.times (u s) (x s)) (K.times (u t) (x t))
       go (yes e) k r =
           ap₂ K.plus (product_one n t u x (omega arith) (λ i o f. h i (omega arith) (omega arith) f)) (ap (λ i. K.times (u i) (x i)) (sym e)) ∙ K.plus_comm _ _
       go (no e) (yes f) r = ap₂ K.plus (product_one n s u x (omega arith) (λ i o g. h i (omega arith) g (omega arith))) (ap (λ i. K.times (u i) (x i)) (sym f))
@@ -86,8 +89,10 @@ module _ (K : Field) (n : ℕ) (at : Pivots K) (reduced : IsReduced K n at) wher
 
       solves : (u : Vector K) (s : ℕ) → at s ≡ Some u → product_sum K n u (free_row K at f) ≡ K.nought
       solves u s k =
-          product_two K n s f u (free_row K at f) (reduced.echelon.below s u k) l (λ d. none_some (sym e ∙ ap at (sym d) ∙ k)) (λ i m a b. rest i a b (at i) refl)
-          ∙ ap₂ K.plus (ap₂ K.times (reduced.echelon.has_lead s u k).leads (free_some f s u k) ∙ unit-times K _) (ap (K.times (u f)) (free_none f f e ∙ place_same K f) ∙ K.times-unit _)
+          product_two K n s f u (free_row K at f) (reduced.echelon.below s u k) l (λ d. none_some (sym e ∙ ap at (sym d) ∙ k))
+          (λ i m a b. rest i a b (at i) refl)
+          ∙ ap₂ K.plus (ap₂ K.times (reduced.echelon.has_lead s u k).leads (free_some f s u k) ∙ unit-times K _)
+          (ap (K.times (u f)) (free_none f f e ∙ place_same K f) ∙ K.times-unit _)
           ∙ K.plus_comm _ _ ∙ K.plus-minus _
         where
           rest : (i : ℕ) → i ≢ s → i ≢ f → (o : Option (Vector K)) → at i ≡ o → K.times (u i) (free_row K at f i) ≡ K.nought
@@ -161,7 +166,9 @@ module _ (K : Field) (n : ℕ) (at : Pivots K) (reduced : IsReduced K n at) wher
   }
     where
       moved : (t y u : Vector K) (c : K.Carrier) → vplus K t y ≡ vplus K (vplus K (scale K c u) t) (vplus K (scale K (K.minus c) u) y)
-      moved t y u c = fun_ext (λ s. unfold vplus scale in (sym (places (t s) (y s) (K.times c (u s)) (K.times (K.minus c) (u s)) (sym (plus_times K c (K.minus c) (u s)) ∙ ap (λ w. K.times w (u s)) (K.plus-minus c) ∙ nought-times K (u s)))))
+      moved t y u c = fun_ext (λ s. unfold vplus scale in
+          (sym (places (t s) (y s) (K.times c (u s)) (K.times (K.minus c) (u s)) (sym (plus_times K c (K.minus c) (u s)) ∙
+          ap (λ w. K.times w (u s)) (K.plus-minus c) ∙ nought-times K (u s)))))
         where
           places : (a b d d' : K.Carrier) → K.plus d d' ≡ K.nought → K.plus (K.plus d a) (K.plus d' b) ≡ K.plus a b
           places a b d d' h =
@@ -171,11 +178,22 @@ module _ (K : Field) (n : ℕ) (at : Pivots K) (reduced : IsReduced K n at) wher
       cleared f k g (yes d) = subst (λ w. vplus K (scale K (K.minus (p.left m)) (free_row K at m)) p.left w ≡ K.nought) (sym d) here
         where
           here : vplus K (scale K (K.minus (p.left m)) (free_row K at m)) p.left m ≡ K.nought
-          here = unfold vplus scale in (ap (λ w. K.plus (K.times (K.minus (p.left m)) w) (p.left m)) (free_none m m e ∙ place_same K m) ∙ ap (λ w. K.plus w (p.left m)) (K.times-unit _) ∙ K.plus_comm _ _ ∙ K.plus-minus _)
-      cleared f k g (no d) = unfold vplus scale in (ap₂ (λ a b. K.plus (K.times (K.minus (p.left m)) a) b) (free_none m f g ∙ place_other K m f (λ q. d (sym q))) (p.cleared f (omega arith) g) ∙ K.plus-nought _ ∙ times-nought K _)
+          here = unfold vplus scale in (ap (λ w. K.plus (K.times (K.minus (p.left m)) w) (p.left m)) (free_none m m e ∙ place_same K m) ∙
+              ap (λ w. K.plus w (p.left m)) (K.times-unit _) ∙ K.plus_comm _ _ ∙ K.plus-minus _)
+      cleared f k g (no d) = unfold vplus scale in
+          (ap₂ (λ a b. K.plus (K.times (K.minus (p.left m)) a) b) (free_none m f g ∙ place_other K m f (λ q. d (sym q))) (p.cleared f (omega arith) g)
+          ∙ K.plus-nought _ ∙ times-nought K _)
 
   part : (x : Vector K) → IsSolution K n (IsRow K at) x → (m : ℕ) → m ≤ n → Part x m
-  part x h zero l = record { left = x; taken = vzero K; spanned = span_none; whole = sym (vzero-vplus K x); solution = h; cleared = λ f k. absurd (omega arith) }
+  part x h zero l = record {
+    left = x;
+    taken = vzero K;
+    spanned = span_none;
+    whole = sym (vzero-vplus K x);
+    solution = h;
+    cleared =
+        λ f k. absurd (omega arith);
+  }
   part x h (suc m) l = part_next x m (omega arith) (part x h m (omega arith)) (at m) refl
 
   pub solution_spanned : (x : Vector K) → IsSolution K n (IsRow K at) x → Spanned K (IsFree K n at) x

@@ -25,7 +25,8 @@ module _ (K : Field) where
 
   pub linear_vplus : (f g : Vector K → Vector K) → IsLinear K f → IsLinear K g → IsLinear K (λ x. vplus K (f x) (g x))
   linear_vplus f g h k = record {
-    of_plus = λ u v. ap (λ w. vplus K w (g (vplus K u v))) (h.of_plus u v) ∙ ap (vplus K _) (k.of_plus u v) ∙ simp (vplus_assoc K, vplus_comm K, vplus_left_comm K);
+    of_plus = λ u v. ap (λ w. vplus K w (g (vplus K u v))) (h.of_plus u v) ∙ ap (vplus K _) (k.of_plus u v) ∙
+        simp (vplus_assoc K, vplus_comm K, vplus_left_comm K);
     of_scale = λ c u. ap (λ w. vplus K w (g (scale K c u))) (h.of_scale c u) ∙ ap (vplus K _) (k.of_scale c u) ∙ sym (scale-vplus K c _ _);
   }
 
@@ -101,4 +102,5 @@ taken_linear K n row pivot = record {
 
 pub swept_linear : (K : Field) (n : ℕ) (row : ℕ → Vector K) (pivot : ℕ → ℕ) → IsLinear K (swept K n row pivot)
 swept_linear K n row pivot =
-    linear_vplus K (λ v. v) (λ v. scale K (K.minus K.unit) (combination K n row (λ i. v (pivot i)))) (linear_itself K) (linear_scale K (K.minus K.unit) _ (taken_linear K n row pivot))
+    linear_vplus K (λ v. v) (λ v. scale K (K.minus K.unit) (combination K n row (λ i. v (pivot i)))) (linear_itself K)
+    (linear_scale K (K.minus K.unit) _ (taken_linear K n row pivot))

@@ -15,7 +15,8 @@ module _ (K : Field) where
 
   pub plus_cancel : (x y z : K.Carrier) → K.plus x z ≡ K.plus y z → x ≡ y
   plus_cancel x y z h =
-      sym (K.plus-nought x) ∙ ap (K.plus x) (sym (K.plus-minus z)) ∙ sym (K.plus_assoc x z (K.minus z)) ∙ ap (λ w. K.plus w (K.minus z)) h ∙ K.plus_assoc y z (K.minus z) ∙ ap (K.plus y) (K.plus-minus z) ∙ K.plus-nought y
+      sym (K.plus-nought x) ∙ ap (K.plus x) (sym (K.plus-minus z)) ∙ sym (K.plus_assoc x z (K.minus z)) ∙ ap (λ w. K.plus w (K.minus z)) h ∙
+      K.plus_assoc y z (K.minus z) ∙ ap (K.plus y) (K.plus-minus z) ∙ K.plus-nought y
 
   pub plus_times : (x y z : K.Carrier) → K.times (K.plus x y) z ≡ K.plus (K.times x z) (K.times y z)
   plus_times x y z = K.times_comm _ _ ∙ K.times-plus z x y ∙ ap (λ w. K.plus w (K.times z y)) (K.times_comm z x) ∙ ap (K.plus (K.times x z)) (K.times_comm z y)
@@ -46,7 +47,8 @@ module _ (K : Field) where
   pub minus-plus : (x y : K.Carrier) → K.minus (K.plus x y) ≡ K.plus (K.minus x) (K.minus y)
   minus-plus x y =
       sym (minus_unique (K.plus x y) _
-      (K.plus_assoc x y _ ∙ ap (K.plus x) (plus_left_comm y (K.minus x) (K.minus y) ∙ ap (K.plus (K.minus x)) (K.plus-minus y) ∙ K.plus-nought _) ∙ K.plus-minus x))
+      (K.plus_assoc x y _ ∙ ap (K.plus x) (plus_left_comm y (K.minus x) (K.minus y) ∙ ap (K.plus (K.minus x)) (K.plus-minus y) ∙ K.plus-nought _) ∙
+      K.plus-minus x))
 
   pub minus_squared : K.times (K.minus K.unit) (K.minus K.unit) ≡ K.unit
   minus_squared = minus-times K.unit (K.minus K.unit) ∙ ap K.minus (unit-times (K.minus K.unit)) ∙ minus_minus K.unit

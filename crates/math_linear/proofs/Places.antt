@@ -24,7 +24,8 @@ abbrev pub Stands : (K : Field) → ℕ → (ℕ → Type 0) → Vector K → Ty
 Stands K n S x = (i : ℕ) → (x i ≡ K.nought) ⊎ ((i < n) × S i)
 
 -- what is so of 0, of sums, of multiples and of the places of a kind is so of all that stands there
-pub by_places : (K : Field) (n : ℕ) (S : ℕ → Type 0) (Q : Vector K → Type 0) → Q (vzero K) → ((x y : Vector K) → Q x → Q y → Q (vplus K x y)) → ((c : K.Carrier) (x : Vector K) → Q x → Q (scale K c x)) →
+pub by_places : (K : Field) (n : ℕ) (S : ℕ → Type 0) (Q : Vector K → Type 0) → Q (vzero K) → ((x y : Vector K) → Q x → Q y → Q (vplus K x y)) →
+    ((c : K.Carrier) (x : Vector K) → Q x → Q (scale K c x)) →
     ((i : ℕ) → i < n → S i → Q (place K i)) → (x : Vector K) → Stands K n S x → Q x
 by_places K n S Q start plus times there x h =
     subst Q (sym (from_places K n x (λ i l. past i l (h i)))) (by_members K Q start plus n (λ i. scale K (x i) (place K i)) (λ i l. member i (h i)))
@@ -46,8 +47,10 @@ linear_agree K n S f g h k agree =
 
 -- two bilinear functions that agree at the places of two kinds
 pub bilinear_agree : (K : Field) (n : ℕ) (S R : ℕ → Type 0) (f g : Vector K → Vector K → Vector K) →
-    ((y : Vector K) → IsLinear K (λ x. f x y)) → ((x : Vector K) → IsLinear K (f x)) → ((y : Vector K) → IsLinear K (λ x. g x y)) → ((x : Vector K) → IsLinear K (g x)) →
-    ((i j : ℕ) → i < n → j < n → S i → R j → f (place K i) (place K j) ≡ g (place K i) (place K j)) → (x y : Vector K) → Stands K n S x → Stands K n R y → f x y ≡ g x y
+    ((y : Vector K) → IsLinear K (λ x. f x y)) → ((x : Vector K) → IsLinear K (f x)) → ((y : Vector K) → IsLinear K (λ x. g x y)) →
+    ((x : Vector K) → IsLinear K (g x)) →
+    ((i j : ℕ) → i < n → j < n → S i → R j → f (place K i) (place K j) ≡ g (place K i) (place K j)) → (x y : Vector K) → Stands K n S x →
+    Stands K n R y → f x y ≡ g x y
 bilinear_agree K n S R f g fl fr gl gr agree x y h k =
     linear_agree K n R (f x) (g x) (fr x) (gr x)
     (λ j l r. linear_agree K n S (λ x. f x (place K j)) (λ x. g x (place K j)) (fl _) (gl _) (λ i m q. agree i j m l q r) x h) y k

@@ -52,7 +52,8 @@ module _ (K : Field) (at : Pivots K) where
 left_is : (K : Field) (v d r : Vector K) → v ≡ vplus K d r → r ≡ vplus K v (scale K (K.minus K.unit) d)
 left_is K v d r e =
     sym
-    (ap (λ w. vplus K w (scale K (K.minus K.unit) d)) e ∙ vplus_comm K _ _ ∙ sym (vplus_assoc K _ d r) ∙ ap (λ w. vplus K w r) (minus-vplus K d) ∙ vzero-vplus K r)
+    (ap (λ w. vplus K w (scale K (K.minus K.unit) d)) e ∙ vplus_comm K _ _ ∙ sym (vplus_assoc K _ d r) ∙ ap (λ w. vplus K w r) (minus-vplus K d) ∙
+    vzero-vplus K r)
 
 -- a row is kept
 module _ (K : Field) (n : ℕ) (at : Pivots K) (echelon : IsEchelon K n at) (v : Vector K) (s : ℕ) (c : K.Carrier)
@@ -112,7 +113,10 @@ module _ (K : Field) (n : ℕ) (at : Pivots K) (echelon : IsEchelon K n at) wher
       go (Some u) e = let k = h.below s u e in absurd (omega arith)
 
   wider : (m : ℕ) (closed : Pivots K) → IsReduced K m closed → IsReduced K (suc m) closed
-  wider m closed h = record { echelon = record { has_lead = h.echelon.has_lead; below = λ s u e. (let k = h.echelon.below s u e in omega arith) }; apart = h.apart }
+  wider m closed h = record {
+    echelon = record { has_lead = h.echelon.has_lead; below = λ s u e. (let k = h.echelon.below s u e in omega arith) };
+    apart = h.apart;
+  }
 
   row_leads : (s : ℕ) (closed : Pivots K) (u : Vector K) → IsReduced K s closed → HasLead K s u → HasLead K s (reduce K closed s u)
   row_leads s closed u h k = record {
@@ -120,7 +124,8 @@ module _ (K : Field) (n : ℕ) (at : Pivots K) (echelon : IsEchelon K n at) wher
     above = λ t l. reduce_keeps K s closed h.echelon.has_lead s t u (omega arith) ∙ k.above t l;
   }
 
-  closing : (o : Option (Vector K)) (s : ℕ) (closed : Pivots K) → ((u : Vector K) → o ≡ Some u → HasLead K s u) → IsReduced K s closed → IsReduced K (suc s) (close_at K closed o s)
+  closing : (o : Option (Vector K)) (s : ℕ) (closed : Pivots K) → ((u : Vector K) → o ≡ Some u → HasLead K s u) → IsReduced K s closed →
+      IsReduced K (suc s) (close_at K closed o s)
   unfolding close_at
   closing None s closed k h = wider s closed h
   closing (Some u) s closed k h = record {
@@ -128,7 +133,8 @@ module _ (K : Field) (n : ℕ) (at : Pivots K) (echelon : IsEchelon K n at) wher
     apart = λ a b x y e f d. apart a b x y d (put_cases K closed s a _ x e) (put_cases K closed s b _ y f);
   }
     where
-      apart : (a b : ℕ) (x y : Vector K) → a ≢ b → ((s ≡ a) × (x ≡ reduce K closed s u)) ⊎ ((s ≢ a) × (closed a ≡ Some x)) → ((s ≡ b) × (y ≡ reduce K closed s u)) ⊎ ((s ≢ b) × (closed b ≡ Some y)) → x b ≡ K.nought
+      apart : (a b : ℕ) (x y : Vector K) → a ≢ b → ((s ≡ a) × (x ≡ reduce K closed s u)) ⊎ ((s ≢ a) × (closed a ≡ Some x)) →
+          ((s ≡ b) × (y ≡ reduce K closed s u)) ⊎ ((s ≢ b) × (closed b ≡ Some y)) → x b ≡ K.nought
       apart a b x y d (inl e) (inl f) = absurd (d (sym e.0 ∙ f.0))
       apart a b x y d (inl e) (inr f) =
           ap (λ w. w b) e.1 ∙ reduce_clears K s closed h.echelon.has_lead s b y u (h.echelon.below b y f.1) f.1
@@ -138,11 +144,16 @@ module _ (K : Field) (n : ℕ) (at : Pivots K) (echelon : IsEchelon K n at) wher
 
   pub close_reduced : (m : ℕ) → IsReduced K m (close K at m)
   unfolding close empty
-  close_reduced zero = record { echelon = record { has_lead = λ s u e. absurd (none_not e); below = λ s u e. absurd (none_not e) }; apart = λ s t u v e f d. absurd (none_not e) }
+  close_reduced zero = record {
+    echelon = record { has_lead = λ s u e. absurd (none_not e); below = λ s u e. absurd (none_not e) };
+    apart =
+        λ s t u v e f d. absurd (none_not e);
+  }
   close_reduced (suc s) = closing (at s) s (close K at s) (echelon.has_lead s) (close_reduced s)
 
   -- closed rows are in the span of the rows
-  within_at : (o : Option (Vector K)) (s : ℕ) (closed : Pivots K) → at s ≡ o → ((u : Vector K) → IsRow K closed u → Spanned K (IsRow K at) u) → (u : Vector K) → IsRow K (close_at K closed o s) u → Spanned K (IsRow K at) u
+  within_at : (o : Option (Vector K)) (s : ℕ) (closed : Pivots K) → at s ≡ o → ((u : Vector K) → IsRow K closed u → Spanned K (IsRow K at) u) →
+      (u : Vector K) → IsRow K (close_at K closed o s) u → Spanned K (IsRow K at) u
   unfolding close_at
   within_at None s closed e h u k = h u k
   within_at (Some v) s closed e h u k = elim (put_cases K closed s k.0 _ u k.1) [
@@ -162,18 +173,21 @@ module _ (K : Field) (n : ℕ) (at : Pivots K) (echelon : IsEchelon K n at) wher
   close_within (suc s) u h = within_at (at s) s (close K at s) refl (close_within s) u h
 
   -- rows are in the span of the closed rows
-  grown : (o : Option (Vector K)) (s : ℕ) (closed : Pivots K) → IsReduced K s closed → (u : Vector K) → IsRow K closed u → Spanned K (IsRow K (close_at K closed o s)) u
+  grown : (o : Option (Vector K)) (s : ℕ) (closed : Pivots K) → IsReduced K s closed → (u : Vector K) → IsRow K closed u →
+      Spanned K (IsRow K (close_at K closed o s)) u
   unfolding close_at
   grown None s closed r u h = spanned_one K _ u h
   grown (Some v) s closed r u h = spanned_one K _ u (put_row K closed s _ u (none_past s s closed r.echelon (omega arith)) h)
 
-  whole_at : (o : Option (Vector K)) (s : ℕ) (closed : Pivots K) (u : Vector K) → o ≡ Some u → IsReduced K s closed → Spanned K (IsRow K (close_at K closed o s)) u
+  whole_at : (o : Option (Vector K)) (s : ℕ) (closed : Pivots K) (u : Vector K) → o ≡ Some u → IsReduced K s closed →
+      Spanned K (IsRow K (close_at K closed o s)) u
   unfolding close_at
   whole_at None s closed u e r = absurd (none_not e)
   whole_at (Some v) s closed u e r =
       let d = reduce_rest K closed s v in
       subst (Spanned K (IsRow K (put K closed s (reduce K closed s v)))) (sym d.1.1 ∙ some_is e)
-      (spanned_vplus K _ d.0 _ (spanned_through K _ _ (λ x h. spanned_one K _ x (put_row K closed s _ x (none_past s s closed r.echelon (omega arith)) h)) d.0 d.1.0)
+      (spanned_vplus K _ d.0 _ (spanned_through K _ _
+      (λ x h. spanned_one K _ x (put_row K closed s _ x (none_past s s closed r.echelon (omega arith)) h)) d.0 d.1.0)
       (spanned_one K _ (reduce K closed s v) (s, put_same K closed s _)))
 
   pub close_whole : (m s : ℕ) (u : Vector K) → s < m → at s ≡ Some u → Spanned K (IsRow K (close K at m)) u
@@ -211,7 +225,8 @@ module _ (K : Field) (n : ℕ) (at at' : Pivots K) (reduced : IsReduced K n at) 
       go : (o : Option (Vector K)) → at' s ≡ o → (u' : Vector K) × (o ≡ Some u')
       go (Some u') f = (u', refl)
       go None f =
-          absurd (K.unit≢nought (sym (misses n s u f (reduced.echelon.has_lead s u e) (reduced.echelon.below s u e)) ∙ ap (λ w. w s) (reduce_spanned K n at' reduced'.echelon u (within u (s, e))) ∙ zero_at K s))
+          absurd (K.unit≢nought (sym (misses n s u f (reduced.echelon.has_lead s u e) (reduced.echelon.below s u e)) ∙
+          ap (λ w. w s) (reduce_spanned K n at' reduced'.echelon u (within u (s, e))) ∙ zero_at K s))
 
 module _ (K : Field) (n : ℕ) (at at' : Pivots K) (reduced : IsReduced K n at) (reduced' : IsReduced K n at')
     (within : (u : Vector K) → IsRow K at u → Spanned K (IsRow K at') u) (within' : (u : Vector K) → IsRow K at' u → Spanned K (IsRow K at) u) where

@@ -22,7 +22,8 @@ module _ (K : Field) (S : Vector K → Type 0) where
   spanned_total n f h = by_members K (Spanned K S) span_none (λ x y a b. span_sum x y a b) n f h
 
 -- a space that holds the vectors of a kind holds their span
-module _ (K : Field) (S Q : Vector K → Type 0) (start : Q (vzero K)) (plus : (x y : Vector K) → Q x → Q y → Q (vplus K x y)) (times : (c : K.Carrier) (x : Vector K) → Q x → Q (scale K c x)) (there : (x : Vector K) → S x → Q x) where
+module _ (K : Field) (S Q : Vector K → Type 0) (start : Q (vzero K)) (plus : (x y : Vector K) → Q x → Q y → Q (vplus K x y))
+    (times : (c : K.Carrier) (x : Vector K) → Q x → Q (scale K c x)) (there : (x : Vector K) → S x → Q x) where
   pub by_span : (v : Vector K) → Spanned K S v → Q v
   by_span _ (span_kind v h) = there v h
   by_span _ span_none = start

@@ -57,7 +57,8 @@ module _ (K : Field) where
 
   pub minus-vplus : (x : Vector K) → vplus K (scale K (K.minus K.unit) x) x ≡ vzero K
   minus-vplus x =
-      ap (vplus K (scale K (K.minus K.unit) x)) (sym (scale-unit x)) ∙ sym (plus-scale (K.minus K.unit) K.unit x) ∙ ap (λ w. scale K w x) (K.plus_comm _ _ ∙ K.plus-minus K.unit) ∙ scale-nought x
+      ap (vplus K (scale K (K.minus K.unit) x)) (sym (scale-unit x)) ∙ sym (plus-scale (K.minus K.unit) K.unit x) ∙
+      ap (λ w. scale K w x) (K.plus_comm _ _ ∙ K.plus-minus K.unit) ∙ scale-nought x
 
   -- sums of vectors
   pub total_same : (n : ℕ) (f g : ℕ → Vector K) → ((i : ℕ) → f i ≡ g i) → total K n f ≡ total K n g
@@ -112,7 +113,8 @@ module _ (K : Field) where
           ∙ ap (vplus K (f a)) (ap (λ w. scale K w (f n)) (place_other a n d) ∙ scale-nought (f n)) ∙ vplus-vzero _
 
   -- a vector that is 0 from n on is the sum of its numbers at their places
-  pub at_places : (n : ℕ) (x : Vector K) (s : ℕ) → (s < n → total K n (λ i. scale K (x i) (place K i)) s ≡ x s) × (n ≤ s → total K n (λ i. scale K (x i) (place K i)) s ≡ K.nought)
+  pub at_places : (n : ℕ) (x : Vector K) (s : ℕ) → (s < n → total K n (λ i. scale K (x i) (place K i)) s ≡ x s) ×
+      (n ≤ s → total K n (λ i. scale K (x i) (place K i)) s ≡ K.nought)
   unfolding total vzero vplus scale
   at_places zero x s = ((λ l. absurd (omega arith)), (λ l. refl))
   at_places (suc n) x s = (

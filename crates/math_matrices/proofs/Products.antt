@@ -29,9 +29,6 @@ module _ (K : Field) where
   unfolding mplus mzero
   mplus-mzero x = matrix_ext K _ _ (λ r c. K.plus-nought _)
 
-  pub mzero-mplus : (x : Matrix K) → mplus K (mzero K) x ≡ x
-  mzero-mplus x = mplus_comm _ _ ∙ mplus-mzero x
-
   pub mscale_mscale : (c a : K.Carrier) (x : Matrix K) → mscale K c (mscale K a x) ≡ mscale K (K.times c a) x
   unfolding mscale
   mscale_mscale c a x = matrix_ext K _ _ (λ r s. sym (K.times_assoc _ _ _))

@@ -45,7 +45,8 @@ module _ (K : Field) (P : Presentation K.Carrier) (symbol tree' : ℕ → Expres
   spread : ℕ → Vector K → Vector K
   spread i v = total K i (λ j. scale K (v (n + j)) (place K (slot j)))
 
-  new_combined : (i s : ℕ) (v : Vector K) → ((j : ℕ) → j < i → tree' (n + j) ≡ symbol (slot j)) → ((j : ℕ) → j < i → slot j < s) → ((k : ℕ) → k < n → v k ≡ K.nought) →
+  new_combined : (i s : ℕ) (v : Vector K) → ((j : ℕ) → j < i → tree' (n + j) ≡ symbol (slot j)) → ((j : ℕ) → j < i → slot j < s) →
+      ((k : ℕ) → k < n → v k ≡ K.nought) →
       DerivesFreely K P (combined K tree' (n + i) v) (combined K symbol s (spread i v))
   unfolding spread total
   new_combined zero s v t l z =
@@ -62,12 +63,14 @@ module _ (K : Field) (P : Presentation K.Carrier) (symbol tree' : ℕ → Expres
       (back (combined_vplus K P symbol s _ _)))
 
 -- combinations of the new weight that are derivably equal are the same
-pub symbol_over : (K : Field) (P : Presentation K.Carrier) (T : Table K) (tree : ℕ → Expression K) → ((i : ℕ) → i < length T.basis → IsOver P (tree i)) → (x : Symbol) → IsSymbol P T x → IsOver P (symbol_tree tree x)
+pub symbol_over : (K : Field) (P : Presentation K.Carrier) (T : Table K) (tree : ℕ → Expression K) →
+    ((i : ℕ) → i < length T.basis → IsOver P (tree i)) → (x : Symbol) → IsSymbol P T x → IsOver P (symbol_tree tree x)
 symbol_over K P T tree over _ (is_generator g l w) = over_gen g l
 symbol_over K P T tree over _ (is_pair i j l k w r) = over_bracket (over i l) (over j k)
 
 module _ (K : Field) (P : Presentation K.Carrier) (rel_over : (k : ℕ) → k < length P.relations → IsOver P (left P k) × IsOver P (right P k))
-    (T T' : Table K) (tree tree' : ℕ → Expression K) (trees_over : (i : ℕ) → i < length T.basis → IsOver P (tree i)) (next : IsStandardNext K P T T' tree tree') where
+    (T T' : Table K) (tree tree' : ℕ → Expression K) (trees_over : (i : ℕ) → i < length T.basis → IsOver P (tree i))
+    (next : IsStandardNext K P T T' tree tree') where
   abbrev n : ℕ
   n = length T.basis
 
@@ -109,25 +112,29 @@ module _ (K : Field) (P : Presentation K.Carrier) (rel_over : (k : ℕ) → k < 
             (then (back (multiple_unit (symbol' (next.slot i))))
             (then (of_path K P _ _ (ap (λ w. multiple w (symbol' (next.slot i))) (sym (K.times_comm _ _ ∙ K.times-inverse c d))))
             (then (back (multiple_multiple (K.inverse c) c (symbol' (next.slot i))))
-            (then (in_multiple (K.inverse c) (then (other_side K P _ _ two) (back (combined_scale K P symbol' (next.slot i) _ _)))) (back (combined_scale K P symbol' (next.slot i) _ _))))));
+            (then (in_multiple (K.inverse c) (then (other_side K P _ _ two) (back (combined_scale K P symbol' (next.slot i) _ _))))
+            (back (combined_scale K P symbol' (next.slot i) _ _))))));
       }
 
       go : Dec (c ≡ K.nought) → c ≡ K.nought
       go (yes e) = e
       go (no d) = absurd ((next.fresh.there i l).1 (combination d))
 
-  all_zero : (v : Vector K) → ((k : ℕ) → k < n → v k ≡ K.nought) → (i : ℕ) → i ≤ next.count → ((k : ℕ) → n + i ≤ k → v k ≡ K.nought) → DerivesFreely K P (combined K tree' (n + i) v) none → (k : ℕ) → v k ≡ K.nought
+  all_zero : (v : Vector K) → ((k : ℕ) → k < n → v k ≡ K.nought) → (i : ℕ) → i ≤ next.count → ((k : ℕ) → n + i ≤ k → v k ≡ K.nought) →
+      DerivesFreely K P (combined K tree' (n + i) v) none → (k : ℕ) → v k ≡ K.nought
   all_zero v z zero l past h = λ k. elim (dec_lt k n) [ yes d ↦ z k d | no d ↦ past k (omega arith) ]
   all_zero v z (suc i) l past h =
       let e = no_new v z i (omega arith) past h in
       all_zero v z i (omega arith) (λ k d. elim (ℕ_discrete k (n + i)) [ yes f ↦ subst (λ k. v k ≡ K.nought) (sym f) e | no f ↦ past k (omega arith) ])
-      (then (back (longer K P tree' (n + i) 1 v (λ k d. elim (ℕ_discrete k (n + i)) [ yes f ↦ subst (λ k. v k ≡ K.nought) (sym f) e | no f ↦ past k (omega arith) ])))
+      (then (back (longer K P tree' (n + i) 1 v
+      (λ k d. elim (ℕ_discrete k (n + i)) [ yes f ↦ subst (λ k. v k ≡ K.nought) (sym f) e | no f ↦ past k (omega arith) ])))
       (then (of_path K P _ _ (let f : n + i + 1 ≡ n + suc i = omega arith in ap (λ w. combined K tree' w v) f)) h))
 
   pub same_vector : (v w : Vector K) → ((k : ℕ) → k < n → weight_at T k ≤ T.weight) → IsOf K T' (suc T.weight) v → IsOf K T' (suc T.weight) w →
       DerivesFreely K P (combined K tree' (length T'.basis) v) (combined K tree' (length T'.basis) w) → v ≡ w
   same_vector v w within h k d =
-      apart_zero K v w (fun_ext (λ s. all_zero x (λ s l. old_zero x of_x within s l) next.count (omega arith) (λ s l. short s l (of_x s)) none_x s ∙ sym (zero_at K s)))
+      apart_zero K v w (fun_ext (λ s. all_zero x (λ s l. old_zero x of_x within s l) next.count (omega arith) (λ s l. short s l (of_x s)) none_x s ∙
+      sym (zero_at K s)))
     where
       x : Vector K
       x = vplus K v (scale K (K.minus K.unit) w)
@@ -152,7 +159,8 @@ pub record Twins (K : Field) (P : Presentation K.Carrier) (T S : Table K) (tree 
   pub over : (i : ℕ) → i < length T.basis → IsOver P (tree i)
 
 abbrev pair_if : Basis → Basis → ℕ → ℕ → ℕ → List Symbol
-pair_if b c w i j = cond (cond (nat_eq (b.weight + c.weight) (suc w)) (cond (nat_lt i j) true (cond (nat_eq i j) (is_odd b.parity) false)) false) (of_pair i j ∷ []) []
+pair_if b c w i j = cond (cond (nat_eq (b.weight + c.weight) (suc w)) (cond (nat_lt i j) true (cond (nat_eq i j) (is_odd b.parity) false)) false)
+    (of_pair i j ∷ []) []
 
 module _ (K : Field) (P : Presentation K.Carrier) (T S : Table K) (tree twig : ℕ → Expression K) (twins : Twins K P T S tree twig) where
   pub symbols_same : symbols P T ≡ symbols P S
@@ -160,12 +168,15 @@ module _ (K : Field) (P : Presentation K.Carrier) (T S : Table K) (tree twig : �
   symbols_same =
       ap₂ (λ a b. a ++ b)
       (ap (λ w. joined (length P.generators) (λ g. cond (nat_eq (generator P g).weight (suc w)) (of_generator g ∷ []) [])) twins.agree.weight)
-      (joined_same (length T.basis) _ _ (λ i l. joined_same (length T.basis) (λ j. pair_if (basis_at T i) (basis_at T j) T.weight i j) (λ j. pair_if (basis_at S i) (basis_at S j) S.weight i j) (λ j k. pair i j l k))
+      (joined_same (length T.basis) _ _ (λ i l. joined_same (length T.basis) (λ j. pair_if (basis_at T i) (basis_at T j) T.weight i j)
+      (λ j. pair_if (basis_at S i) (basis_at S j) S.weight i j) (λ j k. pair i j l k))
       ∙ ap (λ m. joined m (λ i. joined m (λ j. pair_if (basis_at S i) (basis_at S j) S.weight i j))) twins.agree.more)
     where
-      pair : (i j : ℕ) → i < length T.basis → j < length T.basis → pair_if (basis_at T i) (basis_at T j) T.weight i j ≡ pair_if (basis_at S i) (basis_at S j) S.weight i j
+      pair : (i j : ℕ) → i < length T.basis → j < length T.basis → pair_if (basis_at T i) (basis_at T j) T.weight i j ≡
+          pair_if (basis_at S i) (basis_at S j) S.weight i j
       pair i j l k =
-          ap₂ (λ b c. pair_if b c T.weight i j) (twins.agree.basis i l) (twins.agree.basis j k) ∙ ap (λ w. pair_if (basis_at S i) (basis_at S j) w i j) twins.agree.weight
+          ap₂ (λ b c. pair_if b c T.weight i j) (twins.agree.basis i l) (twins.agree.basis j k) ∙
+          ap (λ w. pair_if (basis_at S i) (basis_at S j) w i j) twins.agree.weight
 
   tree_same : (x : Symbol) → IsSymbol P T x → symbol_tree tree x ≡ symbol_tree twig x
   tree_same _ (is_generator g l w) = refl
@@ -185,17 +196,20 @@ module _ (K : Field) (P : Presentation K.Carrier) (T S : Table K) (tree twig : �
   combination_there s l c = record {
     what = c.what;
     equal =
-        along K P (sym (symbol_same s l)) (trees_same K P (λ t. symbol_tree tree (symbol_at P T t)) (λ t. symbol_tree twig (symbol_at P S t)) s c.what (λ t k. sym (symbol_same t (omega arith)))) c.equal;
+        along K P (sym (symbol_same s l)) (trees_same K P (λ t. symbol_tree tree (symbol_at P T t)) (λ t. symbol_tree twig (symbol_at P S t)) s c.what
+        (λ t k. sym (symbol_same t (omega arith)))) c.equal;
   }
 
   combination_back : (s : ℕ) → s < length (symbols P T) → IsCombination K P S twig s → IsCombination K P T tree s
   combination_back s l c = record {
     what = c.what;
     equal =
-        along K P (symbol_same s l) (sym (trees_same K P (λ t. symbol_tree tree (symbol_at P T t)) (λ t. symbol_tree twig (symbol_at P S t)) s c.what (λ t k. sym (symbol_same t (omega arith))))) c.equal;
+        along K P (symbol_same s l) (sym (trees_same K P (λ t. symbol_tree tree (symbol_at P T t)) (λ t. symbol_tree twig (symbol_at P S t)) s c.what
+        (λ t k. sym (symbol_same t (omega arith))))) c.equal;
   }
 
-  module _ (rel_over : (k : ℕ) → k < length P.relations → IsOver P (left P k) × IsOver P (right P k)) (T' S' : Table K) (tree' twig' : ℕ → Expression K) (next : IsStandardNext K P T T' tree tree') (other : IsStandardNext K P S S' twig twig') where
+  module _ (rel_over : (k : ℕ) → k < length P.relations → IsOver P (left P k) × IsOver P (right P k)) (T' S' : Table K)
+      (tree' twig' : ℕ → Expression K) (next : IsStandardNext K P T T' tree tree') (other : IsStandardNext K P S S' twig twig') where
     abbrev N : ℕ
     N = length T.basis
 
@@ -241,7 +255,8 @@ module _ (K : Field) (P : Presentation K.Carrier) (T S : Table K) (tree twig : �
 
             basis_same : (s : ℕ) → s < length (symbols P T) → new_basis T s ≡ new_basis S s
             basis_same s l =
-                ap₂ (λ w p. record { weight = suc w; parity = p; symbol = symbol_at P T s }) twins.agree.weight (parity_same (symbol_at P T s) (place_symbol K P T s l))
+                ap₂ (λ w p. record { weight = suc w; parity = p; symbol = symbol_at P T s }) twins.agree.weight
+                (parity_same (symbol_at P T s) (place_symbol K P T s l))
                 ∙ ap (λ x. record { weight = suc S.weight; parity = symbol_parity P S x; symbol = x }) (at_same s)
 
     trees' : (k : ℕ) → k < length T'.basis → tree' k ≡ twig' k
@@ -268,7 +283,11 @@ module _ (K : Field) (P : Presentation K.Carrier) (T S : Table K) (tree twig : �
     positive' k l = elim (dec_lt k N) [ yes h ↦ omega (arith, weight_old k h, twins.positive k h) | no h ↦ omega (arith, weight_fresh k (omega arith) l) ]
 
     within' : (k : ℕ) → k < length T'.basis → weight_at T' k ≤ T'.weight
-    within' k l = elim (dec_lt k N) [ yes h ↦ omega (arith, weight_old k h, twins.within k h, next.basis.weight) | no h ↦ omega (arith, weight_fresh k (omega arith) l, next.basis.weight) ]
+    within' k l = elim (dec_lt k N) [
+      | yes h ↦ omega (arith, weight_old k h, twins.within k h, next.basis.weight)
+      | no h ↦ omega
+          (arith, weight_fresh k (omega arith) l, next.basis.weight)
+    ]
 
     over' : (k : ℕ) → k < length T'.basis → IsOver P (tree' k)
     over' k l = go (split_add N next.count k (omega (arith, l, next.basis.more)))
@@ -277,13 +296,15 @@ module _ (K : Field) (P : Presentation K.Carrier) (T S : Table K) (tree twig : �
         go (inl h) = subst (IsOver P) (sym (next.old_tree k h)) (twins.over k h)
         go (inr f) =
             subst (λ k. IsOver P (tree' k)) (sym f.2)
-            (subst (IsOver P) (sym (next.new_tree f.0 f.1)) (symbol_over K P T tree twins.over (symbol_at P T (next.slot f.0)) (place_symbol K P T (next.slot f.0) (next.fresh.there f.0 f.1).0)))
+            (subst (IsOver P) (sym (next.new_tree f.0 f.1)) (symbol_over K P T tree twins.over (symbol_at P T (next.slot f.0))
+            (place_symbol K P T (next.slot f.0) (next.fresh.there f.0 f.1).0)))
 
     -- a vector of the other table, seen in this one
     of_other : (x : Vector K) → IsOf K S' (suc S.weight) x → IsOf K T' (suc T.weight) x
     of_other x h k = go (h k)
       where
-        go : (x k ≡ K.nought) ⊎ ((k < length S'.basis) × (weight_at S' k ≡ suc S.weight)) → (x k ≡ K.nought) ⊎ ((k < length T'.basis) × (weight_at T' k ≡ suc T.weight))
+        go : (x k ≡ K.nought) ⊎ ((k < length S'.basis) × (weight_at S' k ≡ suc S.weight)) →
+            (x k ≡ K.nought) ⊎ ((k < length T'.basis) × (weight_at T' k ≡ suc T.weight))
         go (inl e) = inl e
         go (inr f) =
             let l : k < length T'.basis = omega (arith, f.0, more') in
@@ -304,10 +325,12 @@ module _ (K : Field) (P : Presentation K.Carrier) (T S : Table K) (tree twig : �
         go (yes h) d = next.keeps.images g l h ∙ twins.agree.images g l ∙ sym (other.keeps.images g l (omega (arith, h, twins.agree.weight)))
         go (no h) (yes d) =
             let d' : (generator P g).weight ≡ suc S.weight = omega (arith, d, twins.agree.weight) in
-            derived_same (gen g) _ _ (next.image_of g l d) (other.image_of g l d') (within_derives K P (next.images g l d)) (within_derives K P (other.images g l d'))
+            derived_same (gen g) _ _ (next.image_of g l d) (other.image_of g l d') (within_derives K P (next.images g l d))
+            (within_derives K P (other.images g l d'))
         go (no h) (no d) = next.keeps.past g l (omega arith) ∙ sym (other.keeps.past g l (omega (arith, h, d, twins.agree.weight)))
 
-    entries' : (i j : ℕ) → i < length T'.basis → j < length T'.basis → (i < j) ⊎ ((i ≡ j) × (parity_at T' i ≡ odd)) → weight_at T' i + weight_at T' j ≤ T'.weight → T'.entry i j ≡ S'.entry i j
+    entries' : (i j : ℕ) → i < length T'.basis → j < length T'.basis → (i < j) ⊎ ((i ≡ j) × (parity_at T' i ≡ odd)) →
+        weight_at T' i + weight_at T' j ≤ T'.weight → T'.entry i j ≡ S'.entry i j
     entries' i j l k r w = go (dec_lt i N) (dec_lt j N)
       where
         regular : i < N → (i < j) ⊎ ((i ≡ j) × (parity_at T' i ≡ odd)) → (i < j) ⊎ ((i ≡ j) × (parity_at T i ≡ odd))
@@ -325,10 +348,17 @@ module _ (K : Field) (P : Presentation K.Carrier) (T S : Table K) (tree twig : �
             (omega (arith, h, ap (λ b. b.weight) (twins.agree.basis i p), ap (λ b. b.weight) (twins.agree.basis j q), twins.agree.weight)))
         inside p q (no h) =
             let d : weight_at T i + weight_at T j ≡ suc T.weight = omega (arith, h, w, weight_old i p, weight_old j q, next.basis.weight) in
-            let d' : weight_at S i + weight_at S j ≡ suc S.weight = omega (arith, d, ap (λ b. b.weight) (twins.agree.basis i p), ap (λ b. b.weight) (twins.agree.basis j q), twins.agree.weight) in
+            let d' : weight_at S i + weight_at S j ≡ suc S.weight = omega (
+              arith,
+              d,
+              ap (λ b. b.weight) (twins.agree.basis i p),
+              ap (λ b. b.weight) (twins.agree.basis j q),
+              twins.agree.weight,
+            ) in
             let p' : i < length S.basis = omega (arith, p, twins.agree.more) in
             let q' : j < length S.basis = omega (arith, q, twins.agree.more) in
-            derived_same (bracket_of (tree i) (tree j)) _ _ (next.entry_of i j p q (regular p r) d) (other.entry_of i j p' q' (regular' p r) d') (within_derives K P (next.entries i j p q (regular p r) d))
+            derived_same (bracket_of (tree i) (tree j)) _ _ (next.entry_of i j p q (regular p r) d) (other.entry_of i j p' q' (regular' p r) d')
+            (within_derives K P (next.entries i j p q (regular p r) d))
             (then (of_path K P _ _ (ap₂ bracket_of (twins.trees i p) (twins.trees j q))) (within_derives K P (other.entries i j p' q' (regular' p r) d')))
 
         go : Dec (i < N) → Dec (j < N) → T'.entry i j ≡ S'.entry i j
@@ -345,7 +375,8 @@ module _ (K : Field) (P : Presentation K.Carrier) (T S : Table K) (tree twig : �
       over = over';
     }
 
-pub standard_twins : (K : Field) (P : Presentation K.Carrier) → ((k : ℕ) → k < length P.relations → IsOver P (left P k) × IsOver P (right P k)) → (T S : Table K) (tree twig : ℕ → Expression K) → IsStandard K P T tree → IsStandard K P S twig → T.weight ≡ S.weight → Twins K P T S tree twig
+pub standard_twins : (K : Field) (P : Presentation K.Carrier) → ((k : ℕ) → k < length P.relations → IsOver P (left P k) × IsOver P (right P k)) →
+    (T S : Table K) (tree twig : ℕ → Expression K) → IsStandard K P T tree → IsStandard K P S twig → T.weight ≡ S.weight → Twins K P T S tree twig
 standard_twins K P ro T S tree twig (standard_start _ e) (standard_start _ f) w = record {
   agree = record {
     weight = w;
@@ -362,4 +393,5 @@ standard_twins K P ro T S tree twig (standard_start _ e) (standard_start _ f) w 
 standard_twins K P ro T S tree twig (standard_start _ e) (standard_next b next) w = absurd (omega (arith, w, e.weight, next.basis.weight))
 standard_twins K P ro T S tree twig (standard_next b next) (standard_start _ e) w = absurd (omega (arith, w, e.weight, next.basis.weight))
 standard_twins K P ro T' S' tree' twig' (standard_next {T = T} {tree = tree} b next) (standard_next {T = S} {tree = twig} c other) w =
-    twins_next K P T S tree twig (standard_twins K P ro T S tree twig b c (omega (arith, w, next.basis.weight, other.basis.weight))) ro T' S' tree' twig' next other
+    twins_next K P T S tree twig (standard_twins K P ro T S tree twig b c (omega (arith, w, next.basis.weight, other.basis.weight))) ro T' S' tree'
+    twig' next other

@@ -92,7 +92,8 @@ module _ (K : Field) (P : Presentation K.Carrier) (hom : IsHomogeneous P) (T : T
     entries = λ i j l k w. nothing i l;
   }
 
-module _ (K : Field) (P : Presentation K.Carrier) (hom : IsHomogeneous P) (T T' : Table K) (tree : ℕ → Expression K) (facts : Facts K P T tree) (next : IsNext K P T T') where
+module _ (K : Field) (P : Presentation K.Carrier) (hom : IsHomogeneous P) (T T' : Table K) (tree : ℕ → Expression K) (facts : Facts K P T tree)
+    (next : IsNext K P T T') where
   abbrev m : ℕ
   m = length (symbols P T)
 
@@ -125,7 +126,8 @@ module _ (K : Field) (P : Presentation K.Carrier) (hom : IsHomogeneous P) (T T' 
     equal =
         derives_within K P hom.over _ _ (symbols_over K P hom T T' tree facts next (next.pivot i) h)
         (combined_over K P symbol' (next.pivot i) _ (λ s l. symbols_over K P hom T T' tree facts next s (omega arith)))
-        (then (then (back (multiple_unit (symbol' (next.pivot i)))) (other_side K P _ _ zero_sum)) (back (combined_scale K P symbol' (next.pivot i) (K.minus K.unit) (next.row i))));
+        (then (then (back (multiple_unit (symbol' (next.pivot i)))) (other_side K P _ _ zero_sum))
+        (back (combined_scale K P symbol' (next.pivot i) (K.minus K.unit) (next.row i))));
   }
     where
       past : (s : ℕ) → suc (next.pivot i) ≤ s → next.row i s ≡ K.nought
@@ -148,7 +150,8 @@ module _ (K : Field) (P : Presentation K.Carrier) (hom : IsHomogeneous P) (T T' 
   entry_means : (i j : ℕ) → i < n → j < n → IsRegular T i j → weight_at T i + weight_at T j ≡ suc T.weight → product K T' i j ≡ T'.entry i j
   entry_means i j l k r w =
       product_filled K T T' (pair_number P T) _ (linear K P hom T T' tree facts next) (step K P hom T T' tree facts next) i j l k w
-      ∙ ap (meaning_of K (slot_of n next.count next.slot) next.number_of_rows next.row next.pivot) (outer_regular K P hom T T' tree facts next i j w r) ∙ sym (next.entries i j l k r w)
+      ∙ ap (meaning_of K (slot_of n next.count next.slot) next.number_of_rows next.row next.pivot)
+      (outer_regular K P hom T T' tree facts next i j w r) ∙ sym (next.entries i j l k r w)
 
   pub standard_step : IsStandardNext K P T T' tree tree'
   standard_step = record {
@@ -179,7 +182,8 @@ module _ (K : Field) (P : Presentation K.Carrier) (hom : IsHomogeneous P) (T T' 
       weights : (i j : ℕ) → i < n → j < n → weight_at T i + weight_at T j ≡ suc T.weight → weight_at T' i + weight_at T' j ≤ T'.weight
       weights i j l k w = omega (arith, w, ap (λ b. b.weight) (next.basis.old i l), ap (λ b. b.weight) (next.basis.old j k), next.basis.weight)
 
-      all_free : (s : ℕ) → s < m → (IsCombination K P T tree s → ⊥) → ((i : ℕ) × (i < next.number_of_rows) × (next.pivot i ≡ s)) ⊎ ((i : ℕ) → i < next.number_of_rows → next.pivot i ≢ s) →
+      all_free : (s : ℕ) → s < m → (IsCombination K P T tree s → ⊥) → ((i : ℕ) × (i < next.number_of_rows) × (next.pivot i ≡ s)) ⊎
+          ((i : ℕ) → i < next.number_of_rows → next.pivot i ≢ s) →
           (i : ℕ) × (i < next.count) × (next.slot i ≡ s)
       all_free s l h (inl f) = absurd (h (subst (IsCombination K P T tree) f.2 (pivot_combination f.0 f.1 (subst (λ w. w < m) (sym f.2) l))))
       all_free s l h (inr f) = next.free.all s l f

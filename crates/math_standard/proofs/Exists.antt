@@ -111,7 +111,8 @@ module _ (K : Field) (P : Presentation K.Carrier) (hom : IsHomogeneous P) (T : T
   Triples x = (i : ℕ) × (i < n) × Second i x
 
   abbrev Cubes : Vector K → Type 0
-  Cubes x = (i : ℕ) × (i < n) × (((three K ≡ K.nought) × (parity_at T i ≡ odd) × (weight_at T i + weight_at T i + weight_at T i ≡ suc T.weight)) × (x ≡ cube_row K P T i))
+  Cubes x = (i : ℕ) × (i < n) × (((three K ≡ K.nought) × (parity_at T i ≡ odd) × (weight_at T i + weight_at T i + weight_at T i ≡ suc T.weight)) ×
+      (x ≡ cube_row K P T i))
 
   relations_finite : Finite K m Relations
   relations_finite =
@@ -128,7 +129,8 @@ module _ (K : Field) (P : Presentation K.Carrier) (hom : IsHomogeneous P) (T : T
 
   cubes_finite : Finite K m Cubes
   cubes_finite =
-      finite_loop K m n (λ i x. ((three K ≡ K.nought) × (parity_at T i ≡ odd) × (weight_at T i + weight_at T i + weight_at T i ≡ suc T.weight)) × (x ≡ cube_row K P T i))
+      finite_loop K m n (λ i x. ((three K ≡ K.nought) × (parity_at T i ≡ odd) × (weight_at T i + weight_at T i + weight_at T i ≡ suc T.weight)) ×
+      (x ≡ cube_row K P T i))
       (λ i l. finite_if K m _ _ (all_dec (K.same _ _) (odd_dec _) (ℕ_discrete _ _)) (λ h. past _ (outer_short _ _)))
 
   -- closed rows of the source rows
@@ -159,5 +161,8 @@ built_exists K P hom (suc d) = more_weight (built_exists K P hom d)
     more_weight : (T : Table K) × Built K P T × (T.weight ≡ d) → (T : Table K) × Built K P T × (T.weight ≡ suc d)
     more_weight r =
         let w = built_whole K P hom r.0 r.1 in
-        let c = source_closing K P hom r.0 w.tree w.facts in
-        (next_table K P r.0 c.n c.row c.pivot, built_next r.1 (next_is K P r.0 c.n c.row c.pivot c.form), weight_next K P r.0 c.n c.row c.pivot ∙ ap (λ a. suc a) r.2)
+        let c = source_closing K P hom r.0 w.tree w.facts in (
+          next_table K P r.0 c.n c.row c.pivot,
+          built_next r.1 (next_is K P r.0 c.n c.row c.pivot c.form),
+          weight_next K P r.0 c.n c.row c.pivot ∙ ap (λ a. suc a) r.2,
+        )

@@ -36,7 +36,8 @@ module _ (K : Field) (P : Presentation K.Carrier) (hom : IsHomogeneous P) (T : T
   pub built_past : (g : ℕ) → g < length P.generators → T.weight < (generator P g).weight → T.image g ≡ vzero K
   built_past g l h = of_past K T _ _ w.facts.within h (w.facts.image_of g l)
 
-  pub built_unique : (e : Expression K) (v : Vector K) → ((i : ℕ) → length T.basis ≤ i → v i ≡ K.nought) → DerivesFreely K P e (combined K (built_whole K P hom T b).tree (length T.basis) v) → v ≡ val K T e
+  pub built_unique : (e : Expression K) (v : Vector K) → ((i : ℕ) → length T.basis ≤ i → v i ≡ K.nought) →
+      DerivesFreely K P e (combined K (built_whole K P hom T b).tree (length T.basis) v) → v ≡ val K T e
   built_unique e v z h =
       from_places K (length T.basis) v z
       ∙ total_below K (length T.basis) _ _ (λ i l. ap (scale K (v i)) (sym (w.facts.tree_val i l)))

@@ -52,7 +52,8 @@ module _ (old count : ℕ) (slot : ℕ → ℕ) where
   pub slot_cases : (k : ℕ) → (slot_of old count slot k ≡ None) ⊎ ((i : ℕ) × (i < count) × (k ≡ old + i) × (slot_of old count slot k ≡ Some (slot i)))
   slot_cases k = go (dec_lt k old) (dec_lt k (old + count))
     where
-      go : Dec (k < old) → Dec (k < old + count) → (slot_of old count slot k ≡ None) ⊎ ((i : ℕ) × (i < count) × (k ≡ old + i) × (slot_of old count slot k ≡ Some (slot i)))
+      go : Dec (k < old) → Dec (k < old + count) →
+          (slot_of old count slot k ≡ None) ⊎ ((i : ℕ) × (i < count) × (k ≡ old + i) × (slot_of old count slot k ≡ Some (slot i)))
       go (yes l) d = inl (slot_old k l)
       go (no l) (no d) = inl (slot_past k (omega arith))
       go (no l) (yes d) =
@@ -61,11 +62,13 @@ module _ (old count : ℕ) (slot : ℕ → ℕ) where
 
 -- vectors at new places
 module _ (K : Field) (old count : ℕ) (slot : ℕ → ℕ) where
-  relabel_kind : (S : ℕ → Type 0) (Q : ℕ → Type 0) → ((i : ℕ) → i < count → S (slot i) → Q (old + i)) → (v : Vector K) → Only K S v → (k : ℕ) → (relabel K (slot_of old count slot) v k ≡ K.nought) ⊎ ((k < old + count) × Q k)
+  relabel_kind : (S : ℕ → Type 0) (Q : ℕ → Type 0) → ((i : ℕ) → i < count → S (slot i) → Q (old + i)) → (v : Vector K) → Only K S v → (k : ℕ) →
+      (relabel K (slot_of old count slot) v k ≡ K.nought) ⊎ ((k < old + count) × Q k)
   unfolding relabel
   relabel_kind S Q h v o k = go (slot_cases old count slot k)
     where
-      go : (slot_of old count slot k ≡ None) ⊎ ((i : ℕ) × (i < count) × (k ≡ old + i) × (slot_of old count slot k ≡ Some (slot i))) → (at_slot K v (slot_of old count slot k) ≡ K.nought) ⊎ ((k < old + count) × Q k)
+      go : (slot_of old count slot k ≡ None) ⊎ ((i : ℕ) × (i < count) × (k ≡ old + i) × (slot_of old count slot k ≡ Some (slot i))) →
+          (at_slot K v (slot_of old count slot k) ≡ K.nought) ⊎ ((k < old + count) × Q k)
       go (inl e) = inl (ap (at_slot K v) e)
       go (inr f) = here (o (slot f.0))
         where
@@ -73,20 +76,28 @@ module _ (K : Field) (old count : ℕ) (slot : ℕ → ℕ) where
           here (inl e) = inl (ap (at_slot K v) f.3 ∙ e)
           here (inr s) = inr (omega (arith, f.1, f.2), subst Q (sym f.2) (h f.0 f.1 s))
 
-  pub relabel_place : ((i j : ℕ) → i < j → j < count → slot i < slot j) → (i : ℕ) → i < count → relabel K (slot_of old count slot) (place K (slot i)) ≡ place K (old + i)
+  pub relabel_place : ((i j : ℕ) → i < j → j < count → slot i < slot j) → (i : ℕ) → i < count →
+      relabel K (slot_of old count slot) (place K (slot i)) ≡ place K (old + i)
   unfolding relabel
   relabel_place up i l = fun_ext (λ k. go k (slot_cases old count slot k) (ℕ_discrete (old + i) k))
     where
       differ : (j : ℕ) → j < count → i ≢ j → slot i ≢ slot j
-      differ j m d e = elim (dec_lt i j) [ yes t ↦ (let u = up i j t m in absurd (omega (arith, u, e))) | no t ↦ (let u = up j i (omega arith) l in absurd (omega (arith, u, e))) ]
+      differ j m d e = elim (dec_lt i j) [
+        | yes t ↦ (let u = up i j t m in absurd (omega (arith, u, e)))
+        | no t ↦
+            (let u = up j i (omega arith) l in absurd (omega (arith, u, e)))
+      ]
 
-      go : (k : ℕ) → (slot_of old count slot k ≡ None) ⊎ ((i : ℕ) × (i < count) × (k ≡ old + i) × (slot_of old count slot k ≡ Some (slot i))) → Dec (old + i ≡ k) →
+      go : (k : ℕ) → (slot_of old count slot k ≡ None) ⊎ ((i : ℕ) × (i < count) × (k ≡ old + i) × (slot_of old count slot k ≡ Some (slot i))) →
+          Dec (old + i ≡ k) →
           at_slot K (place K (slot i)) (slot_of old count slot k) ≡ place K (old + i) k
       go k c (yes e) =
-          ap (λ w. at_slot K (place K (slot i)) (slot_of old count slot w)) (sym e) ∙ ap (at_slot K (place K (slot i))) (slot_new old count slot i l) ∙ place_same K (slot i) ∙ sym (place_same K (old + i)) ∙ ap (place K (old + i)) e
+          ap (λ w. at_slot K (place K (slot i)) (slot_of old count slot w)) (sym e) ∙ ap (at_slot K (place K (slot i))) (slot_new old count slot i l)
+          ∙ place_same K (slot i) ∙ sym (place_same K (old + i)) ∙ ap (place K (old + i)) e
       go k (inl c) (no d) = ap (at_slot K (place K (slot i))) c ∙ sym (place_other K (old + i) k d)
       go k (inr c) (no d) =
-          ap (at_slot K (place K (slot i))) c.3 ∙ place_other K (slot i) (slot c.0) (differ c.0 c.1 (λ e. d (ap (λ w. old + w) e ∙ sym c.2))) ∙ sym (place_other K (old + i) k d)
+          ap (at_slot K (place K (slot i))) c.3 ∙ place_other K (slot i) (slot c.0) (differ c.0 c.1 (λ e. d (ap (λ w. old + w) e ∙ sym c.2))) ∙
+          sym (place_other K (old + i) k d)
 
 -- combinations that differ only past what the vector reaches
 module _ (K : Field) (P : Presentation K.Carrier) (tree : ℕ → Expression K) where
@@ -96,7 +107,8 @@ module _ (K : Field) (P : Presentation K.Carrier) (tree : ℕ → Expression K) 
   longer n (suc c) v h =
       let e : n + suc c ≡ suc (n + c) = omega arith in
       then (of_path K P _ _ (ap (λ w. combined K tree w v) e))
-      (then (both_same K P (longer n c v h) (then (of_path K P _ _ (ap (λ w. multiple w (tree (n + c))) (h (n + c) (omega arith)))) (multiple_nought (tree (n + c))))) (both_none K P _))
+      (then (both_same K P (longer n c v h) (then (of_path K P _ _ (ap (λ w. multiple w (tree (n + c))) (h (n + c) (omega arith))))
+      (multiple_nought (tree (n + c))))) (both_none K P _))
 
   pub trees_same : (tree' : ℕ → Expression K) (n : ℕ) (v : Vector K) → ((k : ℕ) → k < n → tree' k ≡ tree k) → combined K tree' n v ≡ combined K tree n v
   unfolding combined
@@ -104,14 +116,16 @@ module _ (K : Field) (P : Presentation K.Carrier) (tree : ℕ → Expression K) 
   trees_same tree' (suc n) v h = ap₂ (λ a b. both K P a (multiple (v n) b)) (trees_same tree' n v (λ k l. h k (omega arith))) (h n (omega arith))
 
   -- what lies in the span of what is derivably 0 is derivably 0
-  pub span_derived : (m : ℕ) (Kind : Vector K → Type 0) → ((v : Vector K) → Kind v → DerivesFreely K P (combined K tree m v) none) → (v : Vector K) → Spanned K Kind v → DerivesFreely K P (combined K tree m v) none
+  pub span_derived : (m : ℕ) (Kind : Vector K → Type 0) → ((v : Vector K) → Kind v → DerivesFreely K P (combined K tree m v) none) → (v : Vector K) →
+      Spanned K Kind v → DerivesFreely K P (combined K tree m v) none
   span_derived m Kind h =
       by_span K Kind (λ v. DerivesFreely K P (combined K tree m v) none) (combined_vzero K P tree m)
       (λ v w k l. then (combined_vplus K P tree m v w) (then (both_same K P k l) (none_both K P none)))
       (λ c v k. then (combined_scale K P tree m c v) (then (in_multiple c k) (multiple_none K P c)))
       h
 
-pub of_past : (K : Field) (T : Table K) (d : ℕ) (x : Vector K) → ((i : ℕ) → i < length T.basis → weight_at T i ≤ T.weight) → T.weight < d → IsOf K T d x → x ≡ vzero K
+pub of_past : (K : Field) (T : Table K) (d : ℕ) (x : Vector K) → ((i : ℕ) → i < length T.basis → weight_at T i ≤ T.weight) → T.weight < d →
+    IsOf K T d x → x ≡ vzero K
 unfolding vzero
 of_past K T d x within m h = fun_ext (λ i. go i (h i))
   where
@@ -127,7 +141,8 @@ of_none K T x positive h = fun_ext (λ i. go i (h i))
     go i (inl e) = e
     go i (inr f) = absurd (omega (arith, positive i f.0, f.1))
 
-module _ (K : Field) (P : Presentation K.Carrier) (hom : IsHomogeneous P) (T T' : Table K) (tree : ℕ → Expression K) (facts : Facts K P T tree) (next : IsNext K P T T') where
+module _ (K : Field) (P : Presentation K.Carrier) (hom : IsHomogeneous P) (T T' : Table K) (tree : ℕ → Expression K) (facts : Facts K P T tree)
+    (next : IsNext K P T T') where
   abbrev m : ℕ
   m = length (symbols P T)
 
@@ -203,9 +218,11 @@ module _ (K : Field) (P : Presentation K.Carrier) (hom : IsHomogeneous P) (T T' 
   rows_only =
       row_parity K (parity_of K P T tree facts) next.number_of_rows next.row next.pivot next.form.closed
       (λ t i l.
-      part_span K (parity_of K P T tree facts) next.number_of_rows next.row next.pivot next.form.closed t (IsSource K P T) next.form.spans.each (source_only K P T tree facts hom) (next.row i) (next.form.spans.from i l))
+      part_span K (parity_of K P T tree facts) next.number_of_rows next.row next.pivot next.form.closed t (IsSource K P T) next.form.spans.each
+      (source_only K P T tree facts hom) (next.row i) (next.form.spans.from i l))
 
-  pub swept_only : (t : Parity) (v : Vector K) → Only K (λ s. parity_of K P T tree facts s ≡ t) v → Only K (λ s. parity_of K P T tree facts s ≡ t) (swept K next.number_of_rows next.row next.pivot v)
+  pub swept_only : (t : Parity) (v : Vector K) → Only K (λ s. parity_of K P T tree facts s ≡ t) v →
+      Only K (λ s. parity_of K P T tree facts s ≡ t) (swept K next.number_of_rows next.row next.pivot v)
   swept_only t v h = only_vplus K _ _ _ h (only_scale K _ _ _ (only_total K _ _ _ (λ i l. term i l (h (next.pivot i)))))
     where
       term : (i : ℕ) → i < next.number_of_rows → (v (next.pivot i) ≡ K.nought) ⊎ (parity_of K P T tree facts (next.pivot i) ≡ t) →
@@ -213,7 +230,8 @@ module _ (K : Field) (P : Presentation K.Carrier) (hom : IsHomogeneous P) (T T' 
       term i l (inl e) = subst (Only K (λ s. parity_of K P T tree facts s ≡ t)) (sym (ap (λ w. scale K w (next.row i)) e ∙ scale-nought K _)) (only_vzero K _)
       term i l (inr e) = only_scale K _ _ _ (subst (λ t. Only K (λ s. parity_of K P T tree facts s ≡ t) (next.row i)) e (rows_only i l))
 
-  new_below : (x : Vector K) (Q : ℕ → Type 0) → ((k : ℕ) → (x k ≡ K.nought) ⊎ ((k < n + next.count) × Q k)) → (k : ℕ) → (x k ≡ K.nought) ⊎ ((k < length T'.basis) × Q k)
+  new_below : (x : Vector K) (Q : ℕ → Type 0) → ((k : ℕ) → (x k ≡ K.nought) ⊎ ((k < n + next.count) × Q k)) → (k : ℕ) →
+      (x k ≡ K.nought) ⊎ ((k < length T'.basis) × Q k)
   new_below x Q h k = go (h k)
     where
       go : (x k ≡ K.nought) ⊎ ((k < n + next.count) × Q k) → (x k ≡ K.nought) ⊎ ((k < length T'.basis) × Q k)
@@ -224,7 +242,8 @@ module _ (K : Field) (P : Presentation K.Carrier) (hom : IsHomogeneous P) (T T' 
   unfolding meaning_of
   meaning_in t v h =
       new_below _ (λ k. parity_at T' k ≡ t)
-      (relabel_kind K n next.count next.slot (λ s. parity_of K P T tree facts s ≡ t) (λ k. parity_at T' k ≡ t) (λ i l e. parity_new i l ∙ e) _ (swept_only t v h))
+      (relabel_kind K n next.count next.slot (λ s. parity_of K P T tree facts s ≡ t) (λ k. parity_at T' k ≡ t) (λ i l e. parity_new i l ∙ e) _
+      (swept_only t v h))
 
   pub meaning_weight : (v : Vector K) → IsOf K T' (suc T.weight) (meaning v)
   unfolding meaning_of
@@ -269,8 +288,10 @@ module _ (K : Field) (P : Presentation K.Carrier) (hom : IsHomogeneous P) (T T' 
   pub entry_of' : (i j : ℕ) → i < length T'.basis → j < length T'.basis → IsOf K T' (weight_at T' i + weight_at T' j) (product K T' i j)
   entry_of' =
       product_cases (λ i j x. IsOf K T' (weight_at T' i + weight_at T' j) x) (λ i j. of_vzero K T' _)
-      (λ i j l k w. subst (λ d. IsOf K T' d (product K T i j)) (sym (ap₂ (λ a b. a + b) (weight_old i l) (weight_old j k))) (of_lift _ _ (facts.entry_of i j l k)))
-      (λ i j l k w. subst (λ d. IsOf K T' d (meaning (outer_place K T (pair_number P T) i j))) (sym (ap₂ (λ a b. a + b) (weight_old i l) (weight_old j k) ∙ w)) (meaning_weight _))
+      (λ i j l k w. subst (λ d. IsOf K T' d (product K T i j)) (sym (ap₂ (λ a b. a + b) (weight_old i l) (weight_old j k)))
+      (of_lift _ _ (facts.entry_of i j l k)))
+      (λ i j l k w. subst (λ d. IsOf K T' d (meaning (outer_place K T (pair_number P T) i j)))
+      (sym (ap₂ (λ a b. a + b) (weight_old i l) (weight_old j k) ∙ w)) (meaning_weight _))
 
   pub entry_in' : (i j : ℕ) → i < length T'.basis → j < length T'.basis → IsIn K T' (parity_sum (parity_at T' i) (parity_at T' j)) (product K T' i j)
   entry_in' =
@@ -281,8 +302,10 @@ module _ (K : Field) (P : Presentation K.Carrier) (hom : IsHomogeneous P) (T T' 
       (meaning_in _ _ (outer_place_only K P T tree facts i j l k)))
 
   -- an image of the next table is an old one, or what its symbol means, or 0
-  pub image_cases : (Q : ℕ → Vector K → Type 0) → ((g : ℕ) → Q g (vzero K)) → ((g : ℕ) → g < length P.generators → (generator P g).weight ≤ T.weight → Q g (T.image g)) →
-      ((g : ℕ) → g < length P.generators → (generator P g).weight ≡ suc T.weight → Q g (meaning (place K (generator_number P T g)))) → (g : ℕ) → g < length P.generators → Q g (T'.image g)
+  pub image_cases : (Q : ℕ → Vector K → Type 0) → ((g : ℕ) → Q g (vzero K)) → ((g : ℕ) → g < length P.generators → (generator P g).weight ≤ T.weight →
+      Q g (T.image g)) →
+      ((g : ℕ) → g < length P.generators → (generator P g).weight ≡ suc T.weight → Q g (meaning (place K (generator_number P T g)))) → (g : ℕ) →
+      g < length P.generators → Q g (T'.image g)
   image_cases Q start kept filled g l = go (dec_le (generator P g).weight T.weight) (ℕ_discrete (generator P g).weight (suc T.weight))
     where
       go : Dec ((generator P g).weight ≤ T.weight) → Dec ((generator P g).weight ≡ suc T.weight) → Q g (T'.image g)
@@ -309,8 +332,10 @@ module _ (K : Field) (P : Presentation K.Carrier) (hom : IsHomogeneous P) (T T' 
       jacobi_next K T T' (pair_number P T) meaning linear step facts.entry_of entry_of' facts.jacobis
       (λ i j k o o' l w. source_zero _ (of_triple i j k o o' l w))
 
-  pub cubes' : three K ≡ K.nought → (i : ℕ) → i < length T'.basis → parity_at T' i ≡ odd → bracket K T' (place K i) (bracket K T' (place K i) (place K i)) ≡ vzero K
-  cubes' c i l o = go (dec_lt i n) (dec_le (weight_at T i + weight_at T i + weight_at T i) T.weight) (ℕ_discrete (weight_at T i + weight_at T i + weight_at T i) (suc T.weight))
+  pub cubes' : three K ≡ K.nought → (i : ℕ) → i < length T'.basis → parity_at T' i ≡ odd → bracket K T' (place K i)
+      (bracket K T' (place K i) (place K i)) ≡ vzero K
+  cubes' c i l o = go (dec_lt i n) (dec_le (weight_at T i + weight_at T i + weight_at T i) T.weight)
+      (ℕ_discrete (weight_at T i + weight_at T i + weight_at T i) (suc T.weight))
     where
       past : T'.weight < weight_at T' i + (weight_at T' i + weight_at T' i) → bracket K T' (place K i) (bracket K T' (place K i) (place K i)) ≡ vzero K
       past h =
@@ -319,7 +344,8 @@ module _ (K : Field) (P : Presentation K.Carrier) (hom : IsHomogeneous P) (T T' 
 
       go : Dec (i < n) → Dec (weight_at T i + weight_at T i + weight_at T i ≤ T.weight) → Dec (weight_at T i + weight_at T i + weight_at T i ≡ suc T.weight) →
           bracket K T' (place K i) (bracket K T' (place K i) (place K i)) ≡ vzero K
-      go (yes h) (yes d) e = right_kept K T T' (pair_number P T) meaning linear step facts.entry_of entry_of' i i i h h h (omega arith) ∙ facts.cubes c i h (sym (parity_old i h) ∙ o)
+      go (yes h) (yes d) e = right_kept K T T' (pair_number P T) meaning linear step facts.entry_of entry_of' i i i h h h (omega arith) ∙
+          facts.cubes c i h (sym (parity_old i h) ∙ o)
       go (yes h) (no d) (yes e) =
           right_filled K T T' (pair_number P T) meaning linear step facts.entry_of entry_of' i i i h h h (facts.positive i h) (omega arith)
           ∙ source_zero _ (of_cube i c h (sym (parity_old i h) ∙ o) e)
@@ -336,7 +362,8 @@ module _ (K : Field) (P : Presentation K.Carrier) (hom : IsHomogeneous P) (T T' 
       kept h d = val_kept K P T T' (pair_number P T) meaning linear step (generator_number P T) facts.image_of facts.entry_of next.keeps.images next.images h d
 
       filled : {e : Tree K.Carrier} → WeightIs P e w.0 → w.0 ≡ suc T.weight → val K T' e ≡ meaning (row_of K T (pair_number P T) (generator_number P T) e)
-      filled h d = val_filled K P T T' (pair_number P T) meaning linear step (generator_number P T) facts.image_of facts.entry_of next.keeps.images next.images facts.positive h d
+      filled h d = val_filled K P T T' (pair_number P T) meaning linear step (generator_number P T) facts.image_of facts.entry_of next.keeps.images
+          next.images facts.positive h d
 
       past : {e : Tree K.Carrier} → WeightIs P e w.0 → T'.weight < w.0 → val K T' e ≡ vzero K
       past h d = of_past K T' w.0 _ within' d (val_of K T' P image_of' entry_of' h)
@@ -346,7 +373,8 @@ module _ (K : Field) (P : Presentation K.Carrier) (hom : IsHomogeneous P) (T T' 
       go (no d) (yes e) =
           here (hom.is k (suc T.weight) l (subst (WeightIs P (left P k)) e w.1) (subst (WeightIs P (right P k)) e w.2))
         where
-          here : (IsVoid (left P k) × IsVoid (right P k)) ⊎ (weight_of_both P (left P k) (right P k) ≡ exact (suc T.weight)) → val K T' (left P k) ≡ val K T' (right P k)
+          here : (IsVoid (left P k) × IsVoid (right P k)) ⊎ (weight_of_both P (left P k) (right P k) ≡ exact (suc T.weight)) →
+              val K T' (left P k) ≡ val K T' (right P k)
           here (inl v) = void_val K T' v.0 ∙ sym (void_val K T' v.1)
           here (inr r) =
               filled w.1 e

@@ -39,7 +39,8 @@ use Rattle.math_values.proofs.Facts.{Facts, below, of_short, val_combined}
 use Rattle.math_values.proofs.SourceRows.{numbered, generators_numbered, outer_place_short, outer_vzero, vzero_outer, row_void}
 use Rattle.math_standard.proofs.Next.{relabel_place, longer, trees_same, span_derived, of_none, meaning, linear, split, weight_old, parity_old, weight_new, parity_new, weight_fresh, positive', within', step, entry_of', entry_in', image_of', image_in', jacobis', cubes', relations'}
 
-module _ (K : Field) (P : Presentation K.Carrier) (hom : IsHomogeneous P) (T T' : Table K) (tree : ℕ → Expression K) (facts : Facts K P T tree) (next : IsNext K P T T') where
+module _ (K : Field) (P : Presentation K.Carrier) (hom : IsHomogeneous P) (T T' : Table K) (tree : ℕ → Expression K) (facts : Facts K P T tree)
+    (next : IsNext K P T T') where
   abbrev m : ℕ
   m = length (symbols P T)
 
@@ -75,8 +76,11 @@ module _ (K : Field) (P : Presentation K.Carrier) (hom : IsHomogeneous P) (T T' 
   -- a symbol's tree has its parity and the new weight
   pub symbol_kind : (x : Symbol) → IsSymbol P T x → (HasParity P (symbol_tree tree x) (symbol_parity P T x)) × (WeightIs P (symbol_tree tree x) (suc T.weight))
   symbol_kind _ (is_generator g l w) = (parity_gen g l, subst (WeightIs P (gen g)) w (weight_gen g l))
-  symbol_kind _ (is_pair i j l k w r) =
-      (parity_bracket (facts.tree_parity i l) (facts.tree_parity j k), subst (WeightIs P (bracket_of (tree i) (tree j))) w (weight_bracket (facts.tree_weight i l) (facts.tree_weight j k)))
+  symbol_kind _ (is_pair i j l k w r) = (
+    parity_bracket (facts.tree_parity i l) (facts.tree_parity j k),
+    subst (WeightIs P (bracket_of (tree i) (tree j))) w
+        (weight_bracket (facts.tree_weight i l) (facts.tree_weight j k)),
+  )
 
   pub symbol_over : (x : Symbol) → IsSymbol P T x → IsOver P (symbol_tree tree x)
   symbol_over _ (is_generator g l w) = over_gen g l
@@ -90,35 +94,42 @@ module _ (K : Field) (P : Presentation K.Carrier) (hom : IsHomogeneous P) (T T' 
     where
       go : (k < n) ⊎ ((i : ℕ) × (i < next.count) × (k ≡ n + i)) → IsOver P (tree_next k)
       go (inl h) = subst (IsOver P) (sym (tree_old k h)) (facts.tree_over k h)
-      go (inr f) = subst (λ k. IsOver P (tree_next k)) (sym f.2) (subst (IsOver P) (sym (tree_new f.0)) (symbols_over (next.slot f.0) (next.free.there f.0 f.1).0))
+      go (inr f) = subst (λ k. IsOver P (tree_next k)) (sym f.2) (subst (IsOver P) (sym (tree_new f.0))
+          (symbols_over (next.slot f.0) (next.free.there f.0 f.1).0))
 
   tree_parity' : (k : ℕ) → k < length T'.basis → HasParity P (tree_next k) (parity_at T' k)
   tree_parity' k l = go (split K P hom T T' tree facts next k l)
     where
       go : (k < n) ⊎ ((i : ℕ) × (i < next.count) × (k ≡ n + i)) → HasParity P (tree_next k) (parity_at T' k)
-      go (inl h) = subst (λ e. HasParity P e (parity_at T' k)) (sym (tree_old k h)) (subst (HasParity P (tree k)) (sym (parity_old K P hom T T' tree facts next k h)) (facts.tree_parity k h))
+      go (inl h) = subst (λ e. HasParity P e (parity_at T' k)) (sym (tree_old k h)) (subst (HasParity P (tree k))
+          (sym (parity_old K P hom T T' tree facts next k h)) (facts.tree_parity k h))
       go (inr f) =
           subst (λ k. HasParity P (tree_next k) (parity_at T' k)) (sym f.2)
           (subst (λ e. HasParity P e (parity_at T' (n + f.0))) (sym (tree_new f.0))
-          (subst (HasParity P (symbol' (next.slot f.0))) (sym (parity_new K P hom T T' tree facts next f.0 f.1)) (symbol_kind _ (place_symbol K P T (next.slot f.0) (next.free.there f.0 f.1).0)).0))
+          (subst (HasParity P (symbol' (next.slot f.0))) (sym (parity_new K P hom T T' tree facts next f.0 f.1))
+          (symbol_kind _ (place_symbol K P T (next.slot f.0) (next.free.there f.0 f.1).0)).0))
 
   tree_weight' : (k : ℕ) → k < length T'.basis → WeightIs P (tree_next k) (weight_at T' k)
   tree_weight' k l = go (split K P hom T T' tree facts next k l)
     where
       go : (k < n) ⊎ ((i : ℕ) × (i < next.count) × (k ≡ n + i)) → WeightIs P (tree_next k) (weight_at T' k)
-      go (inl h) = subst (λ e. WeightIs P e (weight_at T' k)) (sym (tree_old k h)) (subst (WeightIs P (tree k)) (sym (weight_old K P hom T T' tree facts next k h)) (facts.tree_weight k h))
+      go (inl h) = subst (λ e. WeightIs P e (weight_at T' k)) (sym (tree_old k h)) (subst (WeightIs P (tree k))
+          (sym (weight_old K P hom T T' tree facts next k h)) (facts.tree_weight k h))
       go (inr f) =
           subst (λ k. WeightIs P (tree_next k) (weight_at T' k)) (sym f.2)
           (subst (λ e. WeightIs P e (weight_at T' (n + f.0))) (sym (tree_new f.0))
-          (subst (WeightIs P (symbol' (next.slot f.0))) (sym (weight_new K P hom T T' tree facts next f.0 f.1)) (symbol_kind _ (place_symbol K P T (next.slot f.0) (next.free.there f.0 f.1).0)).1))
+          (subst (WeightIs P (symbol' (next.slot f.0))) (sym (weight_new K P hom T T' tree facts next f.0 f.1))
+          (symbol_kind _ (place_symbol K P T (next.slot f.0) (next.free.there f.0 f.1).0)).1))
 
   -- values of symbols
   tree_val_old : (i : ℕ) → i < n → val K T' (tree i) ≡ place K i
   tree_val_old i l =
-      val_kept K P T T' (pair_number P T) means linear' step' (generator_number P T) facts.image_of facts.entry_of next.keeps.images next.images (facts.tree_weight i l) (facts.within i l)
+      val_kept K P T T' (pair_number P T) means linear' step' (generator_number P T) facts.image_of facts.entry_of next.keeps.images next.images
+      (facts.tree_weight i l) (facts.within i l)
       ∙ facts.tree_val i l
 
-  pub outer_regular : (i j : ℕ) → weight_at T i + weight_at T j ≡ suc T.weight → IsRegular T i j → outer_place K T (pair_number P T) i j ≡ place K (pair_number P T i j)
+  pub outer_regular : (i j : ℕ) → weight_at T i + weight_at T j ≡ suc T.weight → IsRegular T i j →
+      outer_place K T (pair_number P T) i j ≡ place K (pair_number P T i j)
   outer_regular i j w (inl l) = outer_within K T (pair_number P T) i j w ∙ signed_below K (parity_at T) (λ i j. place K (pair_number P T i j)) i j l
   outer_regular i j w (inr r) =
       outer_within K T (pair_number P T) i j w
@@ -159,16 +170,19 @@ module _ (K : Field) (P : Presentation K.Carrier) (hom : IsHomogeneous P) (T T' 
       go : (k < n) ⊎ ((i : ℕ) × (i < next.count) × (k ≡ n + i)) → val K T' (tree_next k) ≡ place K k
       go (inl h) = ap (val K T') (tree_old k h) ∙ tree_val_old k h
       go (inr f) =
-          ap (λ k. val K T' (tree_next k)) f.2 ∙ ap (val K T') (tree_new f.0) ∙ value_symbol (next.slot f.0) (next.free.there f.0 f.1).0 ∙ means_slot f.0 f.1 ∙ ap (place K) (sym f.2)
+          ap (λ k. val K T' (tree_next k)) f.2 ∙ ap (val K T') (tree_new f.0) ∙ value_symbol (next.slot f.0) (next.free.there f.0 f.1).0 ∙
+          means_slot f.0 f.1 ∙ ap (place K) (sym f.2)
 
   -- source rows are derivably 0
   pub source_none : (v : Vector K) → IsSource K P T v → DerivesFreely K P (combined K symbol' m v) none
   source_none _ (of_relation k l e) =
       let w = hom.has k (suc T.weight) l e in
       then (combined_vplus K P symbol' m _ _)
-      (then (both_same K P (back (rowed w.0)) (then (combined_scale K P symbol' m _ _) (in_multiple _ (then (back (rowed w.1)) (back (relation k l)))))) (less_none K P _))
+      (then (both_same K P (back (rowed w.0)) (then (combined_scale K P symbol' m _ _) (in_multiple _
+      (then (back (rowed w.1)) (back (relation k l)))))) (less_none K P _))
     where
-      rowed : {e : Tree K.Carrier} → WeightIs P e (suc T.weight) → DerivesFreely K P e (combined K symbol' m (row_of K T (pair_number P T) (generator_number P T) e))
+      rowed : {e : Tree K.Carrier} → WeightIs P e (suc T.weight) →
+          DerivesFreely K P e (combined K symbol' m (row_of K T (pair_number P T) (generator_number P T) e))
       rowed h =
           row_derived K P T tree symbol' m (pair_number P T) (generator_number P T)
           (λ e d h. val_of K T P facts.image_of facts.entry_of h) (λ x h. of_none K T x facts.positive h)
@@ -195,14 +209,16 @@ module _ (K : Field) (P : Presentation K.Carrier) (hom : IsHomogeneous P) (T T' 
       let f = next.free.all s l h in (
         n + f.0,
         omega (arith, f.1, next.basis.more),
-        subst (λ s. relabel K (slot_of n next.count next.slot) (place K s) ≡ place K (n + f.0)) f.2 (relabel_place K n next.count next.slot next.free.ascend f.0 f.1),
+        subst (λ s. relabel K (slot_of n next.count next.slot) (place K s) ≡ place K (n + f.0)) f.2
+            (relabel_place K n next.count next.slot next.free.ascend f.0 f.1),
         tree_new f.0 ∙ ap symbol' f.2,
       )
 
   -- a symbol is derivably equal to the combination that it means
   pub symbol_means : (s : ℕ) → s < m → DerivesFreely K P (symbol' s) (combined K tree_next (length T'.basis) (means (place K s)))
   symbol_means =
-      symbol_sound K P symbol' m tree_next (length T'.basis) next.number_of_rows next.row next.pivot next.form.closed (slot_of n next.count next.slot) row_none next.form.ends free_place
+      symbol_sound K P symbol' m tree_next (length T'.basis) next.number_of_rows next.row next.pivot next.form.closed
+      (slot_of n next.count next.slot) row_none next.form.ends free_place
 
   pub combination_means : (u : Vector K) → Only K (λ s. s < m) u → DerivesFreely K P (combined K symbol' m u) (combined K tree_next (length T'.basis) (means u))
   combination_means u h =
@@ -212,7 +228,8 @@ module _ (K : Field) (P : Presentation K.Carrier) (hom : IsHomogeneous P) (T T' 
       then (combined_vplus K P symbol' m u v)
       (then (both_same K P p q) (back (then (of_path K P _ _ (ap comb (linear'.of_plus u v))) (combined_vplus K P tree_next _ _ _)))))
       (λ c u p.
-      then (combined_scale K P symbol' m c u) (then (in_multiple c p) (back (then (of_path K P _ _ (ap comb (linear'.of_scale c u))) (combined_scale K P tree_next _ c _)))))
+      then (combined_scale K P symbol' m c u) (then (in_multiple c p)
+      (back (then (of_path K P _ _ (ap comb (linear'.of_scale c u))) (combined_scale K P tree_next _ c _)))))
       (λ s l t. then (combined_place K P symbol' m s l) (symbol_means s l)) u (λ s. turn s (h s))
     where
       comb : Vector K → Expression K
@@ -229,35 +246,58 @@ module _ (K : Field) (P : Presentation K.Carrier) (hom : IsHomogeneous P) (T T' 
       (then (of_path K P _ _ (ap (λ w. combined K tree_next w v) next.basis.more))
       (then (longer K P tree_next n next.count v h) (of_path K P _ _ (trees_same K P tree tree_next n v tree_old))))
 
-  images' : (g : ℕ) → g < length P.generators → (generator P g).weight ≤ T'.weight → DerivesFreely K P (gen g) (combined K tree_next (length T'.basis) (T'.image g))
+  images' : (g : ℕ) → g < length P.generators → (generator P g).weight ≤ T'.weight → DerivesFreely K P (gen g)
+      (combined K tree_next (length T'.basis) (T'.image g))
   images' g l w = go (dec_le (generator P g).weight T.weight)
     where
       go : Dec ((generator P g).weight ≤ T.weight) → DerivesFreely K P (gen g) (combined K tree_next (length T'.basis) (T'.image g))
       go (yes h) =
-          then (facts.images g l h) (then (old_combined _ (of_short K T _ _ (facts.image_of g l))) (of_path K P _ _ (ap (combined K tree_next (length T'.basis)) (sym (next.keeps.images g l h)))))
+          then (facts.images g l h) (then (old_combined _ (of_short K T _ _ (facts.image_of g l)))
+          (of_path K P _ _ (ap (combined K tree_next (length T'.basis)) (sym (next.keeps.images g l h)))))
       go (no h) =
           let e : (generator P g).weight ≡ suc T.weight = omega (arith, w, next.basis.weight) in
           let f = generators_numbered K P T tree facts g l e in
-          then (of_path K P _ _ (sym f.1)) (then (symbol_means (generator_number P T g) f.0) (of_path K P _ _ (ap (combined K tree_next (length T'.basis)) (sym (next.images g l e)))))
+          then (of_path K P _ _ (sym f.1)) (then (symbol_means (generator_number P T g) f.0)
+          (of_path K P _ _ (ap (combined K tree_next (length T'.basis)) (sym (next.images g l e)))))
 
   entries' : (i j : ℕ) → i < length T'.basis → j < length T'.basis → weight_at T' i + weight_at T' j ≤ T'.weight →
       DerivesFreely K P (bracket_of (tree_next i) (tree_next j)) (combined K tree_next (length T'.basis) (product K T' i j))
   entries' i j l k w = go (dec_lt i n) (dec_lt j n)
     where
-      inside : i < n → j < n → Dec (weight_at T i + weight_at T j ≤ T.weight) → DerivesFreely K P (bracket_of (tree i) (tree j)) (combined K tree_next (length T'.basis) (product K T' i j))
+      inside : i < n → j < n → Dec (weight_at T i + weight_at T j ≤ T.weight) → DerivesFreely K P (bracket_of (tree i) (tree j))
+          (combined K tree_next (length T'.basis) (product K T' i j))
       inside p q (yes h) =
           then (facts.entries i j p q h)
-          (then (old_combined _ (of_short K T _ _ (facts.entry_of i j p q))) (of_path K P _ _ (ap (combined K tree_next (length T'.basis)) (sym (product_kept K T T' (pair_number P T) means linear' step' i j p q h)))))
+          (then (old_combined _ (of_short K T _ _ (facts.entry_of i j p q))) (of_path K P _ _
+          (ap (combined K tree_next (length T'.basis)) (sym (product_kept K T T' (pair_number P T) means linear' step' i j p q h)))))
       inside p q (no h) =
-          let e : weight_at T i + weight_at T j ≡ suc T.weight = omega (arith, w, weight_old K P hom T T' tree facts next i p, weight_old K P hom T T' tree facts next j q, next.basis.weight) in
+          let e : weight_at T i + weight_at T j ≡ suc T.weight = omega (
+            arith,
+            w,
+            weight_old K P hom T T' tree facts next i p,
+            weight_old K P hom T T' tree facts next j q,
+            next.basis.weight,
+          ) in
           then (pair_derived K P T tree symbol' m (pair_number P T) K.two≢nought facts.tree_parity (numbered K P T tree facts) i j p q e)
           (then (combination_means _ (outer_place_short K P T tree facts i j p q))
           (of_path K P _ _ (ap (combined K tree_next (length T'.basis)) (sym (product_filled K T T' (pair_number P T) means linear' step' i j p q e)))))
 
       go : Dec (i < n) → Dec (j < n) → DerivesFreely K P (bracket_of (tree_next i) (tree_next j)) (combined K tree_next (length T'.basis) (product K T' i j))
       go (yes p) (yes q) = then (of_path K P _ _ (ap₂ bracket_of (tree_old i p) (tree_old j q))) (inside p q (dec_le (weight_at T i + weight_at T j) T.weight))
-      go (no p) d = absurd (omega (arith, w, weight_fresh K P hom T T' tree facts next i (omega arith) l, positive' K P hom T T' tree facts next j k, next.basis.weight))
-      go (yes p) (no q) = absurd (omega (arith, w, weight_fresh K P hom T T' tree facts next j (omega arith) k, positive' K P hom T T' tree facts next i l, next.basis.weight))
+      go (no p) d = absurd (omega (
+        arith,
+        w,
+        weight_fresh K P hom T T' tree facts next i (omega arith) l,
+        positive' K P hom T T' tree facts next j k,
+        next.basis.weight,
+      ))
+      go (yes p) (no q) = absurd (omega (
+        arith,
+        w,
+        weight_fresh K P hom T T' tree facts next j (omega arith) k,
+        positive' K P hom T T' tree facts next i l,
+        next.basis.weight,
+      ))
 
   pub facts_next : Facts K P T' tree_next
   facts_next = record {

@@ -45,7 +45,8 @@ free_are (suc m) n pivot = go (is_pivot n pivot m) refl (free_are m n pivot)
     L = free_places m n pivot
 
     go : (b : Bool) → is_pivot n pivot m ≡ b → AreThose m (Free n pivot) (length (free_places m n pivot)) (λ i. get_or (free_places m n pivot) i 0) →
-        AreThose (suc m) (Free n pivot) (length (cond b (free_places m n pivot) (free_places m n pivot ++ m ∷ []))) (λ i. get_or (cond b (free_places m n pivot) (free_places m n pivot ++ m ∷ [])) i 0)
+        AreThose (suc m) (Free n pivot) (length (cond b (free_places m n pivot) (free_places m n pivot ++ m ∷ [])))
+        (λ i. get_or (cond b (free_places m n pivot) (free_places m n pivot ++ m ∷ [])) i 0)
     go true e h = record {
       there = λ i l. let f = h.there i l in (omega (arith, f.0), f.1);
       ascend = h.ascend;
@@ -77,13 +78,19 @@ free_are (suc m) n pivot = go (is_pivot n pivot m) refl (free_are m n pivot)
         there : (i : ℕ) → i < length (free_places m n pivot ++ m ∷ []) → Dec (i < length (free_places m n pivot)) →
             (get_or (free_places m n pivot ++ m ∷ []) i 0 < suc m) × Free n pivot (get_or (free_places m n pivot ++ m ∷ []) i 0)
         there i l (yes k) =
-            subst (λ w. (w < suc m) × Free n pivot w) (sym (get_or_append_left (free_places m n pivot) (m ∷ []) 0 i k)) (let f = h.there i k in (omega (arith, f.0), f.1))
+            subst (λ w. (w < suc m) × Free n pivot w) (sym (get_or_append_left (free_places m n pivot) (m ∷ []) 0 i k))
+            (let f = h.there i k in (omega (arith, f.0), f.1))
         there i l (no k) = subst (λ w. (w < suc m) × Free n pivot w) (sym (at_end i l (omega arith))) (omega arith, no_pivot_is n pivot m e)
 
         ascend : (i j : ℕ) → i < j → j < length (free_places m n pivot ++ m ∷ []) → Dec (j < length (free_places m n pivot)) →
             get_or (free_places m n pivot ++ m ∷ []) i 0 < get_or (free_places m n pivot ++ m ∷ []) j 0
         ascend i j l k (yes d) =
-            omega (arith, get_or_append_left (free_places m n pivot) (m ∷ []) 0 i (omega arith), get_or_append_left (free_places m n pivot) (m ∷ []) 0 j d, h.ascend i j l d)
+            omega (
+              arith,
+              get_or_append_left (free_places m n pivot) (m ∷ []) 0 i (omega arith),
+              get_or_append_left (free_places m n pivot) (m ∷ []) 0 j d,
+              h.ascend i j l d,
+            )
         ascend i j l k (no d) =
             let o : i < length (free_places m n pivot) = omega (arith, l, k, long, d) in
             omega (arith, get_or_append_left (free_places m n pivot) (m ∷ []) 0 i o, at_end j k (omega arith), (h.there i o).0)
@@ -102,7 +109,8 @@ module _ (K : Field) (P : Presentation K.Carrier) (T : Table K) (n : ℕ) (row :
   unfolding next_table
   image_kept g l = grind arith
 
-  pub image_filled : (g : ℕ) → (generator P g).weight ≡ suc T.weight → (next_table K P T n row pivot).image g ≡ means_next K P T n row pivot (place K (generator_number P T g))
+  pub image_filled : (g : ℕ) → (generator P g).weight ≡ suc T.weight → (next_table K P T n row pivot).image g ≡
+      means_next K P T n row pivot (place K (generator_number P T g))
   unfolding next_table
   image_filled g l = grind arith
 
@@ -114,7 +122,8 @@ module _ (K : Field) (P : Presentation K.Carrier) (T : Table K) (n : ℕ) (row :
   unfolding next_table
   entry_kept i j l = grind arith
 
-  pub entry_filled : (i j : ℕ) → weight_at T i + weight_at T j ≡ suc T.weight → (next_table K P T n row pivot).entry i j ≡ means_next K P T n row pivot (place K (pair_number P T i j))
+  pub entry_filled : (i j : ℕ) → weight_at T i + weight_at T j ≡ suc T.weight → (next_table K P T n row pivot).entry i j ≡
+      means_next K P T n row pivot (place K (pair_number P T i j))
   unfolding next_table
   entry_filled i j l = grind arith
 
@@ -122,14 +131,17 @@ module _ (K : Field) (P : Presentation K.Carrier) (T : Table K) (n : ℕ) (row :
   unfolding next_table
   basis_old i l = get_or_append_left T.basis (map (new_basis P T) (free_list K P T n row pivot)) no_basis i l
 
-  basis_new : (i : ℕ) → i < length (free_list K P T n row pivot) → basis_at (next_table K P T n row pivot) (length T.basis + i) ≡ new_basis P T (get_or (free_list K P T n row pivot) i 0)
+  basis_new : (i : ℕ) → i < length (free_list K P T n row pivot) → basis_at (next_table K P T n row pivot) (length T.basis + i) ≡
+      new_basis P T (get_or (free_list K P T n row pivot) i 0)
   unfolding next_table
   basis_new i l =
-      get_or-append-add T.basis (map (new_basis P T) (free_list K P T n row pivot)) i no_basis ∙ get_or_map (new_basis P T) (free_list K P T n row pivot) i 0 no_basis l
+      get_or-append-add T.basis (map (new_basis P T) (free_list K P T n row pivot)) i no_basis ∙
+      get_or_map (new_basis P T) (free_list K P T n row pivot) i 0 no_basis l
 
   basis_more : length (next_table K P T n row pivot).basis ≡ length T.basis + length (free_list K P T n row pivot)
   unfolding next_table
-  basis_more = length-append T.basis (map (new_basis P T) (free_list K P T n row pivot)) ∙ ap (λ w. length T.basis + w) (length_map (new_basis P T) (free_list K P T n row pivot))
+  basis_more = length-append T.basis (map (new_basis P T) (free_list K P T n row pivot)) ∙ ap (λ w. length T.basis + w)
+      (length_map (new_basis P T) (free_list K P T n row pivot))
 
   pub weight_next : (next_table K P T n row pivot).weight ≡ suc T.weight
   unfolding next_table

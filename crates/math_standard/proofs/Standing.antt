@@ -35,7 +35,8 @@ val_none : (K : Field) (T : Table K) → val K T none ≡ vzero K
 unfolding val
 val_none K T = refl
 
-module _ (K : Field) (P : Presentation K.Carrier) (hom : IsHomogeneous P) (T T' : Table K) (tree : ℕ → Expression K) (facts : Facts K P T tree) (next : IsNext K P T T') where
+module _ (K : Field) (P : Presentation K.Carrier) (hom : IsHomogeneous P) (T T' : Table K) (tree : ℕ → Expression K) (facts : Facts K P T tree)
+    (next : IsNext K P T T') where
   abbrev m : ℕ
   m = length (symbols P T)
 
@@ -52,11 +53,13 @@ module _ (K : Field) (P : Presentation K.Carrier) (hom : IsHomogeneous P) (T T' 
     where
       means_zero : meaning_of K (slot_of n next.count next.slot) next.number_of_rows next.row next.pivot v ≡ vzero K
       means_zero =
-          sym (value_is K P hom T T' tree facts next v short) ∙ one_value K P T' (tree_next K P hom T T' tree facts next) (facts_next K P hom T T' tree facts next) _ _ h ∙ val_none K T'
+          sym (value_is K P hom T T' tree facts next v short) ∙ one_value K P T' (tree_next K P hom T T' tree facts next)
+          (facts_next K P hom T T' tree facts next) _ _ h ∙ val_none K T'
 
       stands : (s : ℕ) → (swept K next.number_of_rows next.row next.pivot v s ≡ K.nought) ⊎ ((s < m) × ((i : ℕ) → i < next.number_of_rows → next.pivot i ≢ s))
       stands =
-          swept_stands K P symbol' m (tree_next K P hom T T' tree facts next) (length T'.basis) next.number_of_rows next.row next.pivot next.form.closed (slot_of n next.count next.slot)
+          swept_stands K P symbol' m (tree_next K P hom T T' tree facts next) (length T'.basis) next.number_of_rows next.row next.pivot
+          next.form.closed (slot_of n next.count next.slot)
           (row_none K P hom T T' tree facts next) next.form.ends (free_place K P hom T T' tree facts next) v short
 
       at : (s : ℕ) → (swept K next.number_of_rows next.row next.pivot v s ≡ K.nought) ⊎ ((s < m) × ((i : ℕ) → i < next.number_of_rows → next.pivot i ≢ s)) →
@@ -64,7 +67,8 @@ module _ (K : Field) (P : Presentation K.Carrier) (hom : IsHomogeneous P) (T T' 
       at s (inl e) = e
       at s (inr f) =
           let g = next.free.all s f.0 f.1 in
-          ap (swept K next.number_of_rows next.row next.pivot v) (sym g.2) ∙ sym (relabel_new K n next.count next.slot (swept K next.number_of_rows next.row next.pivot v) g.0 g.1)
+          ap (swept K next.number_of_rows next.row next.pivot v) (sym g.2) ∙
+          sym (relabel_new K n next.count next.slot (swept K next.number_of_rows next.row next.pivot v) g.0 g.1)
           ∙ ap (λ w. w (n + g.0)) means_zero ∙ zero_at K (n + g.0)
 
   span_zero : (v : Vector K) → InSpan K next.number_of_rows next.row v → DerivesFreely K P (combined K symbol' m v) none
@@ -95,10 +99,12 @@ unfolding joined
 joined_more n zero f h = let e : n + zero ≡ n = omega arith in ap (λ w. joined w f) e
 joined_more n (suc c) f h =
     let e : n + suc c ≡ suc (n + c) = omega arith in
-    ap (λ w. joined w f) e ∙ ap₂ (λ a b. a ++ b) (joined_more n c f (λ i l k. h i l (omega arith))) (h (n + c) (omega arith) (omega arith)) ∙ append_none (joined n f)
+    ap (λ w. joined w f) e ∙ ap₂ (λ a b. a ++ b) (joined_more n c f (λ i l k. h i l (omega arith))) (h (n + c) (omega arith) (omega arith)) ∙
+    append_none (joined n f)
 
 abbrev pair_if : Basis → Basis → ℕ → ℕ → ℕ → List Symbol
-pair_if b c w i j = cond (cond (nat_eq (b.weight + c.weight) w) (cond (nat_lt i j) true (cond (nat_eq i j) (is_odd b.parity) false)) false) (of_pair i j ∷ []) []
+pair_if b c w i j = cond (cond (nat_eq (b.weight + c.weight) w) (cond (nat_lt i j) true (cond (nat_eq i j) (is_odd b.parity) false)) false)
+    (of_pair i j ∷ []) []
 
 no_pair : (b c : Basis) (w i j : ℕ) → b.weight + c.weight ≢ w → pair_if b c w i j ≡ []
 no_pair b c w i j h = grind arith
@@ -110,7 +116,8 @@ module _ (K : Field) (P : Presentation K.Carrier) (T S : Table K) (low : IsLower
   symbols_lower w l =
       ap (λ x. joined (length P.generators) (λ g. cond (nat_eq (generator P g).weight w) (of_generator g ∷ []) []) ++ x)
       (ap (λ k. joined k (λ i. joined k (λ j. pair_if (basis_at T i) (basis_at T j) w i j))) size
-      ∙ joined_more (length S.basis) c _ (λ i k h. joined_none _ _ (λ j o. no_pair (basis_at T i) (basis_at T j) w i j (heavy i j k (omega arith) (omega arith))))
+      ∙ joined_more (length S.basis) c _ (λ i k h. joined_none _ _ (λ j o. no_pair (basis_at T i) (basis_at T j) w i j
+      (heavy i j k (omega arith) (omega arith))))
       ∙ joined_same (length S.basis) _ _ (λ i k.
       joined_more (length S.basis) c _ (λ j o h. no_pair (basis_at T i) (basis_at T j) w i j (heavy' i j o (omega arith) (omega (arith, k, low.fewer))))
       ∙ joined_same (length S.basis) _ _ (λ j o. ap₂ (λ a b. pair_if a b w i j) (low.basis i k) (low.basis j o))))
@@ -127,9 +134,6 @@ module _ (K : Field) (P : Presentation K.Carrier) (T S : Table K) (low : IsLower
       heavy' : (i j : ℕ) → length S.basis ≤ j → j < length T.basis → i < length T.basis → weight_at T i + weight_at T j ≢ w
       heavy' i j k h o e = absurd (omega (arith, e, l, low.heavier j k h, positive i o))
 
-pub symbols_are : (K : Field) (P : Presentation K.Carrier) (T : Table K) → symbols P T ≡ symbols_of P T (suc T.weight)
-unfolding symbols symbols_of
-symbols_are K P T = refl
-
-pub built_symbols : (K : Field) (P : Presentation K.Carrier) → IsHomogeneous P → (T S : Table K) → Built K P T → IsLower K P T S → (w : ℕ) → w ≤ suc S.weight → symbols_of P T w ≡ symbols_of P S w
+pub built_symbols : (K : Field) (P : Presentation K.Carrier) → IsHomogeneous P → (T S : Table K) → Built K P T → IsLower K P T S → (w : ℕ) →
+    w ≤ suc S.weight → symbols_of P T w ≡ symbols_of P S w
 built_symbols K P hom T S b low w l = symbols_lower K P T S low (built_whole K P hom T b).facts.positive w l

@@ -9,7 +9,8 @@ use Rattle.math_linear.specs.Closed.{IsClosed, swept}
 use Rattle.math_linear.proofs.Vectors.{vplus-vzero, scale-vzero, scale-nought, place_same, place_other, total_none, total_below, total_place}
 
 -- sweeping 1 at one place: where it is no pivot nothing is taken off, and where it is one its row is
-pub swept_free : (K : Field) (n : ℕ) (row : ℕ → Vector K) (pivot : ℕ → ℕ) (s : ℕ) → ((i : ℕ) → i < n → pivot i ≢ s) → swept K n row pivot (place K s) ≡ place K s
+pub swept_free : (K : Field) (n : ℕ) (row : ℕ → Vector K) (pivot : ℕ → ℕ) (s : ℕ) → ((i : ℕ) → i < n → pivot i ≢ s) →
+    swept K n row pivot (place K s) ≡ place K s
 swept_free K n row pivot s h =
     ap (λ w. vplus K (place K s) (scale K (K.minus K.unit) w))
     (total_none K n _ (λ i l. ap (λ w. scale K w (row i)) (place_other K s (pivot i) (λ e. h i l (sym e))) ∙ scale-nought K _))

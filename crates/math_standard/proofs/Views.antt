@@ -5,19 +5,18 @@ use mathlib.Core.Logic.{inl, inr}
 use native.Mathlib.Omega.{arith}
 use native.Mathlib.Decide.{ℕ_discrete, dec_le, dec_lt}
 use Rattle.math_fields.specs.Field.{Field}
-use Rattle.math_linear.specs.Vector.{Vector, vzero, vplus, scale, place, total, bilinear}
+use Rattle.math_linear.specs.Vector.{Vector, vplus, scale, place, total, bilinear}
 use Rattle.math_algebra.specs.Tree.{odd, Presentation, generator}
-use Rattle.math_algebra.specs.Derives.{sign, Expression}
-use Rattle.math_algebra.specs.Table.{Table, parity_at, product, val, weight_at, IsRegular}
+use Rattle.math_algebra.specs.Derives.{sign}
+use Rattle.math_algebra.specs.Table.{Table, parity_at, product, weight_at, IsRegular}
 use Rattle.math_algebra.specs.SourceRows.{outer_place, outer, jacobi_row, cube_row}
-use Rattle.math_algebra.proofs.Homogeneous.{WeightIs, IsHomogeneous}
+use Rattle.math_algebra.proofs.Homogeneous.{IsHomogeneous}
 use Rattle.math_algebra.specs.Symbols.{pair_number}
 use Rattle.math_algebra.specs.Extending.{Agree, IsLower}
 use Rattle.math_algebra.specs.Built.{IsNext, Built}
 use Rattle.math_algebra.specs.Built.Built.{built_start, built_next}
 use Rattle.math_linear.proofs.Vectors.{scale_scale, total_same, total_scale, total_place}
 use Rattle.math_values.proofs.Products.{bracket_places}
-use Rattle.math_values.proofs.Relations.{val_of}
 use Rattle.math_standard.proofs.Next.{of_past}
 use Rattle.math_standard.proofs.BuiltFacts.{built_whole}
 
@@ -47,23 +46,24 @@ module _ (K : Field) (P : Presentation K.Carrier) (T : Table K) where
   unfolding jacobi_row outer
   jacobi_entries i j k p q r =
       ap₂ (λ a b. vplus K a (scale K (K.minus K.unit) b))
-      (ap (bilinear K (length T.basis) (outer_place K T (pair_number P T)) (place K i)) (bracket_places K T j k q r) ∙ place_left K (length T.basis) (outer_place K T (pair_number P T)) i _ p)
+      (ap (bilinear K (length T.basis) (outer_place K T (pair_number P T)) (place K i)) (bracket_places K T j k q r) ∙
+      place_left K (length T.basis) (outer_place K T (pair_number P T)) i _ p)
       (ap₂ (λ a b. vplus K a (scale K (sign K (parity_at T i) (parity_at T j)) b))
-      (ap (λ w. bilinear K (length T.basis) (outer_place K T (pair_number P T)) w (place K k)) (bracket_places K T i j p q) ∙ place_right K (length T.basis) (outer_place K T (pair_number P T)) _ k r)
-      (ap (bilinear K (length T.basis) (outer_place K T (pair_number P T)) (place K j)) (bracket_places K T i k p r) ∙ place_left K (length T.basis) (outer_place K T (pair_number P T)) j _ q))
+      (ap (λ w. bilinear K (length T.basis) (outer_place K T (pair_number P T)) w (place K k)) (bracket_places K T i j p q) ∙
+      place_right K (length T.basis) (outer_place K T (pair_number P T)) _ k r)
+      (ap (bilinear K (length T.basis) (outer_place K T (pair_number P T)) (place K j)) (bracket_places K T i k p r) ∙
+      place_left K (length T.basis) (outer_place K T (pair_number P T)) j _ q))
 
-  pub cube_entries : (i : ℕ) → i < length T.basis → cube_row K P T i ≡ total K (length T.basis) (λ t. scale K (product K T i i t) (outer_place K T (pair_number P T) i t))
+  pub cube_entries : (i : ℕ) → i < length T.basis → cube_row K P T i ≡ total K (length T.basis)
+      (λ t. scale K (product K T i i t) (outer_place K T (pair_number P T) i t))
   unfolding outer
   cube_entries i l =
-      ap (bilinear K (length T.basis) (outer_place K T (pair_number P T)) (place K i)) (bracket_places K T i i l l) ∙ place_left K (length T.basis) (outer_place K T (pair_number P T)) i _ l
-
--- an expression past the table's weight has value 0
-pub built_val_past : (K : Field) (P : Presentation K.Carrier) → IsHomogeneous P → (T : Table K) → Built K P T → (e : Expression K) (d : ℕ) → WeightIs P e d → T.weight < d → val K T e ≡ vzero K
-built_val_past K P hom T b e d h l =
-    let w = built_whole K P hom T b in of_past K T d _ w.facts.within l (val_of K T P w.facts.image_of w.facts.entry_of h)
+      ap (bilinear K (length T.basis) (outer_place K T (pair_number P T)) (place K i)) (bracket_places K T i i l l) ∙
+      place_left K (length T.basis) (outer_place K T (pair_number P T)) i _ l
 
 -- what agrees with a next table is one
-module _ (K : Field) (P : Presentation K.Carrier) (T T' S : Table K) (next : IsNext K P T T') (agree : Agree K P T' S) (positive : (i : ℕ) → i < length T.basis → 0 < weight_at T i) where
+module _ (K : Field) (P : Presentation K.Carrier) (T T' S : Table K) (next : IsNext K P T T') (agree : Agree K P T' S)
+    (positive : (i : ℕ) → i < length T.basis → 0 < weight_at T i) where
   inside : (i : ℕ) → i < length T.basis → i < length T'.basis
   inside i l = omega (arith, l, next.basis.more)
 
@@ -102,7 +102,8 @@ module _ (K : Field) (P : Presentation K.Carrier) (T T' S : Table K) (next : IsN
 
 -- so it doesn't matter what a built table holds where a table says nothing
 pub built_same : (K : Field) (P : Presentation K.Carrier) → IsHomogeneous P → (T S : Table K) → Built K P T → Agree K P T S → Built K P S
-built_same K P hom T S (built_start e) a = built_start (record { weight = sym a.weight ∙ e.weight; basis = sym a.more ∙ e.basis; images = λ g l. sym (a.images g l) ∙ e.images g l })
+built_same K P hom T S (built_start e) a =
+    built_start (record { weight = sym a.weight ∙ e.weight; basis = sym a.more ∙ e.basis; images = λ g l. sym (a.images g l) ∙ e.images g l })
 built_same K P hom T' S (built_next {T = T} b next) a = built_next b (next_same K P T T' S next a (built_whole K P hom T b).facts.positive)
 
 module _ (K : Field) (P : Presentation K.Carrier) (hom : IsHomogeneous P) where
@@ -151,7 +152,8 @@ module _ (K : Field) (P : Presentation K.Carrier) (hom : IsHomogeneous P) where
   built_lower T (built_start e) d l = (T, built_start e, omega (arith, e.weight, l), lower_itself T (built_start e))
   built_lower T' (built_next {T = T} b next) d l = go (ℕ_discrete d T'.weight) (built_lower T b d)
     where
-      go : Dec (d ≡ T'.weight) → (d ≤ T.weight → (S : Table K) × Built K P S × (S.weight ≡ d) × IsLower K P T S) → (S : Table K) × Built K P S × (S.weight ≡ d) × IsLower K P T' S
+      go : Dec (d ≡ T'.weight) → (d ≤ T.weight → (S : Table K) × Built K P S × (S.weight ≡ d) × IsLower K P T S) →
+          (S : Table K) × Built K P S × (S.weight ≡ d) × IsLower K P T' S
       go (yes e) r = (T', built_next b next, sym e, lower_itself T' (built_next b next))
       go (no e) r = let t = r (omega (arith, l, e, next.basis.weight)) in (t.0, t.1, t.2, lower_next T T' t.0 b next t.3)
 
@@ -189,7 +191,15 @@ module _ (K : Field) (P : Presentation K.Carrier) (hom : IsHomogeneous P) where
             entries = λ i j l k o h.
                 sym (r.entries i j l k o h)
                 ∙ low.entries i j (omega arith) (omega arith) (regular R e r i j l (omega arith) o)
-                (omega (arith, h, e, ap (λ b. b.weight) (low.basis i (omega arith)), ap (λ b. b.weight) (r.basis i l), ap (λ b. b.weight) (low.basis j (omega arith)), ap (λ b. b.weight) (r.basis j k)));
+                (omega (
+                  arith,
+                  h,
+                  e,
+                  ap (λ b. b.weight) (low.basis i (omega arith)),
+                  ap (λ b. b.weight) (r.basis i l),
+                  ap (λ b. b.weight) (low.basis j (omega arith)),
+                  ap (λ b. b.weight) (r.basis j k),
+                ));
           }
 
       go : (R : Table K) × Built K P R × (R.weight ≡ S.weight) × IsLower K P T R → Built K P S

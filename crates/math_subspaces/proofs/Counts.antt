@@ -36,7 +36,8 @@ module _ (K : Field) where
         | no l ↦ absurd (nought_not_unit (sym (closed.leads n (omega arith)) ∙ ends n (omega arith) (pivot n) (omega arith)))
       ]
 
-  module _ (n m : ℕ) (row row' : ℕ → Vector K) (pivot pivot' : ℕ → ℕ) (closed : IsClosed K n row pivot) (closed' : IsClosed K m row' pivot') (sub : (v : Vector K) → InSpan K n row v → InSpan K m row' v) where
+  module _ (n m : ℕ) (row row' : ℕ → Vector K) (pivot pivot' : ℕ → ℕ) (closed : IsClosed K n row pivot) (closed' : IsClosed K m row' pivot')
+      (sub : (v : Vector K) → InSpan K n row v → InSpan K m row' v) where
     -- where the i-th pivot of the space within stands among those of the other
     place_in : (i : ℕ) → i < n → (j : ℕ) × (j < m) × (pivot' j ≡ pivot i)
     place_in i l = pivot_within K m n row' row pivot' pivot closed' closed sub i l
@@ -99,7 +100,8 @@ module _ (K : Field) where
       same_pivot : (i : ℕ) → i < n → pivot i ≡ pivot' i
       same_pivot i l =
           let a = at_least n (place_of n n row row' pivot pivot' closed closed' sub) (place_ascend n n row row' pivot pivot' closed closed' sub) i l in
-          let b = at_most n n (place_of n n row row' pivot pivot' closed closed' sub) (place_ascend n n row row' pivot pivot' closed closed' sub) (λ j k. (place_is n n row row' pivot pivot' closed closed' sub j k).0) (n - suc i) i (omega arith) in
+          let b = at_most n n (place_of n n row row' pivot pivot' closed closed' sub) (place_ascend n n row row' pivot pivot' closed closed' sub)
+          (λ j k. (place_is n n row row' pivot pivot' closed closed' sub j k).0) (n - suc i) i (omega arith) in
           let e : place_of n n row row' pivot pivot' closed closed' sub i ≡ i = omega arith in
           sym (place_is n n row row' pivot pivot' closed closed' sub i l).1 ∙ ap pivot' e
 

@@ -1,35 +1,24 @@
 -- Closed forms of spaces and of kernels.
-use Rattle.std.specs.Prelude.{ℕ, ◌≡◌, ◌⊎◌, ◌<◌, ◌↔◌, Option, Some, None}
+use Rattle.std.specs.Prelude.{ℕ, ◌≡◌, ◌⊎◌, ◌<◌, Option, Some, None}
 use mathlib.Core.Path.{refl, subst, sym, ◌∙◌}
 use mathlib.Core.Logic.{inl, inr}
 use Rattle.math_fields.specs.Field.{Field}
 use Rattle.math_linear.specs.Vector.{Vector}
-use Rattle.math_linear.specs.Linear.{IsSpace}
-use Rattle.math_linear.specs.Span.{Spanned, InSpan}
 use Rattle.math_linear.specs.Closed.{IsClosedForm, ClosedForm}
 use Rattle.math_linear.specs.Echelon.{Pivots, IsRow, IsReduced}
 use Rattle.math_linear.specs.Kernel.{IsSolution, IsFree, free_row}
-use Rattle.math_linear.proofs.Span.{by_span, spanned_more, kind_span, span_of_kind}
+use Rattle.math_linear.proofs.Span.{spanned_more, kind_span}
 use Rattle.math_linear.proofs.Closing.{closing_same, finite_if, finite_loop, no_rows}
 use Rattle.math_linear.proofs.Kernel.{free_solves, solution_spanned}
 use Rattle.math_subspaces.specs.Laws.{FreeRowsForm, KernelHasForm}
 
 module _ (K : Field) where
-  -- a space holds what its vectors span
-  pub space_spanned : (Q : Vector K → Type 0) → IsSpace K Q → (v : Vector K) → Spanned K Q v → Q v
-  space_spanned Q space = by_span K Q Q space.holds_none space.holds_sum space.holds_multiple (λ v q. q)
-
-  -- so the closed form of a space spans exactly it
-  pub form_spans_space : (m : ℕ) (Q : Vector K → Type 0) → IsSpace K Q → (n : ℕ) (row : ℕ → Vector K) (pivot : ℕ → ℕ) → IsClosedForm K m Q n row pivot →
-      (v : Vector K) → InSpan K n row v ↔ Q v
-  form_spans_space m Q space n row pivot form v =
-      ((λ h. space_spanned Q space v (span_of_kind K Q n row form.spans v h)), (λ q. form.spans.each v q))
-
   module _ (n : ℕ) (at : Pivots K) (reduced : IsReduced K n at) where
     free_solution : (x : Vector K) → IsFree K n at x → IsSolution K n (IsRow K at) x
     free_solution x h = subst (IsSolution K n (IsRow K at)) (sym h.1.1.1) (free_solves K n at reduced h.0 h.1.0 h.1.1.0)
 
-    turned : (count : ℕ) (row : ℕ → Vector K) (pivot : ℕ → ℕ) → IsClosedForm K n (IsFree K n at) count row pivot → IsClosedForm K n (IsSolution K n (IsRow K at)) count row pivot
+    turned : (count : ℕ) (row : ℕ → Vector K) (pivot : ℕ → ℕ) → IsClosedForm K n (IsFree K n at) count row pivot →
+        IsClosedForm K n (IsSolution K n (IsRow K at)) count row pivot
     turned count row pivot form = record {
       closed = form.closed;
       spans = record {
@@ -58,7 +47,13 @@ module _ (K : Field) where
         there x (inr h) = (h.0, (h.1, h.2))
 
     solutions_form : ClosedForm K n (IsSolution K n (IsRow K at))
-    solutions_form = record { n = free_form.n; row = free_form.row; pivot = free_form.pivot; form = turned free_form.n free_form.row free_form.pivot free_form.form }
+    solutions_form = record {
+      n = free_form.n;
+      row = free_form.row;
+      pivot = free_form.pivot;
+      form =
+          turned free_form.n free_form.row free_form.pivot free_form.form;
+    }
 
   pub free_rows_form : FreeRowsForm K
   free_rows_form n at reduced count row pivot form = turned n at reduced count row pivot form

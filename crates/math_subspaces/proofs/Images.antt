@@ -42,7 +42,8 @@ images_spanned K f bilinear S R v = (
   spanned_more K (IsImage K f S R) (IsImage K f (Spanned K S) (Spanned K R)) (wider K f bilinear S R) v,
 )
 
-image_more : (K : Field) (f : Vector K → Vector K → Vector K) (S S' R R' : Vector K → Type 0) → ((x : Vector K) → S x → S' x) → ((x : Vector K) → R x → R' x) → (v : Vector K) → IsImage K f S R v → IsImage K f S' R' v
+image_more : (K : Field) (f : Vector K → Vector K → Vector K) (S S' R R' : Vector K → Type 0) → ((x : Vector K) → S x → S' x) →
+    ((x : Vector K) → R x → R' x) → (v : Vector K) → IsImage K f S R v → IsImage K f S' R' v
 image_more K f S S' R R' h k v i = record { first = i.first; second = i.second; of_first = h i.first i.of_first; of_second = k i.second i.of_second; is = i.is }
 
 pub images_span : (K : Field) → ImagesSpan K
@@ -51,7 +52,8 @@ images_span K f bilinear n m row row' v =
     let rows' = IsRowOf K m row' in (
       (λ h. (images_spanned K f bilinear rows rows' v).0
           (spanned_more K (IsImage K f (InSpan K n row) (InSpan K m row')) (IsImage K f (Spanned K rows) (Spanned K rows'))
-          (image_more K f (InSpan K n row) (Spanned K rows) (InSpan K m row') (Spanned K rows') (span_of_kind K rows n row (rows_span K n row)) (span_of_kind K rows' m row' (rows_span K m row'))) v h)),
+          (image_more K f (InSpan K n row) (Spanned K rows) (InSpan K m row') (Spanned K rows') (span_of_kind K rows n row (rows_span K n row))
+          (span_of_kind K rows' m row' (rows_span K m row'))) v h)),
       spanned_more K (IsImage K f rows rows') (IsImage K f (InSpan K n row) (InSpan K m row'))
           (image_more K f rows (InSpan K n row) rows' (InSpan K m row') (rows_span K n row).each (rows_span K m row').each) v,
     )

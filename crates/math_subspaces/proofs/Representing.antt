@@ -19,9 +19,11 @@ use Rattle.math_subspaces.specs.Laws.{QuotientRepresented}
 module _ (K : Field) (n m : ℕ) (row row' : ℕ → Vector K) (pivot pivot' : ℕ → ℕ) (closed : IsClosed K n row pivot) (closed' : IsClosed K m row' pivot') where
   -- the pivots of a subspace are pivots of the space
   pub pivot_within : ((v : Vector K) → InSpan K m row' v → InSpan K n row v) → (j : ℕ) → j < m → (i : ℕ) × (i < n) × (pivot i ≡ pivot' j)
-  pivot_within sub j l = pivot_of K n row pivot closed (row' j) (pivot' j) (sub (row' j) (in_span K m row' j l)) (closed'.leads j l) (λ s k. closed'.above j s l k)
+  pivot_within sub j l = pivot_of K n row pivot closed (row' j) (pivot' j) (sub (row' j) (in_span K m row' j l)) (closed'.leads j l)
+      (λ s k. closed'.above j s l k)
 
-  module _ (sub : (v : Vector K) → InSpan K m row' v → InSpan K n row v) (count : ℕ) (slot : ℕ → ℕ) (those : AreThose n (λ i. (j : ℕ) → j < m → pivot' j ≢ pivot i) count slot) where
+  module _ (sub : (v : Vector K) → InSpan K m row' v → InSpan K n row v) (count : ℕ) (slot : ℕ → ℕ)
+      (those : AreThose n (λ i. (j : ℕ) → j < m → pivot' j ≢ pivot i) count slot) where
     rep : ℕ → Vector K
     rep k = row (slot k)
 
@@ -87,7 +89,8 @@ module _ (K : Field) (n m : ℕ) (row row' : ℕ → Vector K) (pivot pivot' : �
       unfolding named
       same_at i l = go (find_pivot m pivot' (pivot i))
         where
-          go : ((j : ℕ) × (j < m) × (pivot' j ≡ pivot i)) ⊎ ((j : ℕ) → j < m → pivot' j ≢ pivot i) → combination K count (λ k. row (slot k)) (λ k. left (pivot (slot k))) (pivot i) ≡ left (pivot i)
+          go : ((j : ℕ) × (j < m) × (pivot' j ≡ pivot i)) ⊎ ((j : ℕ) → j < m → pivot' j ≢ pivot i) →
+              combination K count (λ k. row (slot k)) (λ k. left (pivot (slot k))) (pivot i) ≡ left (pivot i)
           go (inl p) =
               ap (combination K count (λ k. row (slot k)) (λ k. left (pivot (slot k)))) (sym p.2)
               ∙ zero_at_sub (λ k. left (pivot (slot k))) p.0 p.1 ∙ sym (left_zero p.0 p.1) ∙ ap left p.2
@@ -114,4 +117,5 @@ module _ (K : Field) (n m : ℕ) (row row' : ℕ → Vector K) (pivot pivot' : �
     }
 
 pub quotient_represented : (K : Field) → QuotientRepresented K
-quotient_represented K n m row row' pivot pivot' closed closed' sub count slot those = represented K n m row row' pivot pivot' closed closed' sub count slot those
+quotient_represented K n m row row' pivot pivot' closed closed' sub count slot those = represented K n m row row' pivot pivot' closed closed' sub
+    count slot those

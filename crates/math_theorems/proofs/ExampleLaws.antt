@@ -39,11 +39,13 @@ module _ (K : Field) (P : Presentation K.Carrier) (free : length P.relations ≡
   inner : (i j : ℕ) → i < length T.basis → j < length T.basis → IsOf K T (weight_at T i + weight_at T j) (bracket K T (place K i) (place K j))
   inner i j l k = rw (bracket_places K T i j l k) (entry_of i j l k)
 
-  triple_left : (i j k : ℕ) → i < length T.basis → j < length T.basis → k < length T.basis → bracket K T (bracket K T (place K i) (place K j)) (place K k) ≡ vzero K
+  triple_left : (i j k : ℕ) → i < length T.basis → j < length T.basis → k < length T.basis →
+      bracket K T (bracket K T (place K i) (place K j)) (place K k) ≡ vzero K
   triple_left i j k p q r =
       bracket_zero (weight_at T i + weight_at T j) (weight_at T k) (omega (arith, positive i p, positive j q, positive k r)) _ _ (inner i j p q) (here k r)
 
-  triple_right : (i j k : ℕ) → i < length T.basis → j < length T.basis → k < length T.basis → bracket K T (place K i) (bracket K T (place K j) (place K k)) ≡ vzero K
+  triple_right : (i j k : ℕ) → i < length T.basis → j < length T.basis → k < length T.basis →
+      bracket K T (place K i) (bracket K T (place K j) (place K k)) ≡ vzero K
   triple_right i j k p q r =
       bracket_zero (weight_at T i) (weight_at T j + weight_at T k) (omega (arith, positive i p, positive j q, positive k r)) _ _ (here i p) (inner j k q r)
 
@@ -56,7 +58,8 @@ module _ (K : Field) (P : Presentation K.Carrier) (free : length P.relations ≡
     exchanges = λ i j l m. rw (bracket_places K T i j l m, bracket_places K T j i m l) (product_exchange K T i j);
     jacobis = λ i j k p q r.
         triple_right i j k p q r
-        ∙ sym (ap₂ (λ v w. vplus K v (scale K (sign K (parity_at T i) (parity_at T j)) w)) (triple_left i j k p q r) (triple_right j i k q p r) ∙ ap (vplus K (vzero K)) (scale-vzero K _) ∙ vplus-vzero K _);
+        ∙ sym (ap₂ (λ v w. vplus K v (scale K (sign K (parity_at T i) (parity_at T j)) w)) (triple_left i j k p q r) (triple_right j i k q p r) ∙
+        ap (vplus K (vzero K)) (scale-vzero K _) ∙ vplus-vzero K _);
     cubes = λ c i l o. triple_right i i i l l l;
     relations = λ k l. absurd (omega (arith, l, free));
   }
@@ -72,10 +75,12 @@ module _ (K : Field) (T : Table K) (c : ℕ) (entries : (i j : ℕ) → T.entry 
 
       by_order : weight_at T i + weight_at T j ≤ T.weight → Dec (i < j) → Dec (j < i) → Only K S (product K T i j)
       by_order h (yes l) d = subst (Only K S) (sym (product_below K T i j l h ∙ entries i j)) (only_place K S c there)
-      by_order h (no l) (yes d) = subst (Only K S) (sym (product_above K T i j d h ∙ ap (scale K _) (entries j i))) (only_scale K S _ _ (only_place K S c there))
+      by_order h (no l) (yes d) = subst (Only K S) (sym (product_above K T i j d h ∙ ap (scale K _) (entries j i)))
+          (only_scale K S _ _ (only_place K S c there))
       by_order h (no l) (no d) =
           let e : i ≡ j = omega arith in
-          subst (λ j. Only K S (product K T i j)) e (subst (Only K S) (sym (product_itself K T i (subst (λ j. weight_at T i + weight_at T j ≤ T.weight) (sym e) h))) (itself (parity_at T i)))
+          subst (λ j. Only K S (product K T i j)) e
+          (subst (Only K S) (sym (product_itself K T i (subst (λ j. weight_at T i + weight_at T j ≤ T.weight) (sym e) h))) (itself (parity_at T i)))
 
       by_weight : Dec (weight_at T i + weight_at T j ≤ T.weight) → Only K S (product K T i j)
       by_weight (no h) = subst (Only K S) (sym (product_past K T i j (omega arith))) (only_vzero K S)
@@ -86,7 +91,12 @@ module _ (K : Field) where
   abbrev pair_table : Table K
   pair_table = record {
     weight = 2;
-    basis = record { weight = 1; parity = even; symbol = of_generator 0 } ∷ record { weight = 1; parity = even; symbol = of_generator 1 } ∷ record { weight = 2; parity = even; symbol = of_pair 0 1 } ∷ [];
+    basis = record { weight = 1; parity = even; symbol = of_generator 0 } ∷ record {
+      weight = 1;
+      parity = even;
+      symbol =
+          of_generator 1;
+    } ∷ record { weight = 2; parity = even; symbol = of_pair 0 1 } ∷ [];
     image = λ g. place K g;
     entry = λ i j. place K 2;
   }
@@ -133,7 +143,8 @@ module _ (K : Field) where
       (λ i j l m. of_pairs i j l m (dec_le (weight_at pair_table i + weight_at pair_table j) 2))
       (λ i j l m. product_only K pair_table 2 (λ i j. refl) _ (omega arith, sym (ap₂ parity_sum (pair_even i l) (pair_even j m))) i j)
     where
-      of_pairs : (i j : ℕ) → i < 3 → j < 3 → Dec (weight_at pair_table i + weight_at pair_table j ≤ 2) → IsOf K pair_table (weight_at pair_table i + weight_at pair_table j) (product K pair_table i j)
+      of_pairs : (i j : ℕ) → i < 3 → j < 3 → Dec (weight_at pair_table i + weight_at pair_table j ≤ 2) →
+          IsOf K pair_table (weight_at pair_table i + weight_at pair_table j) (product K pair_table i j)
       of_pairs i j l m (yes h) =
           product_only K pair_table 2 (λ i j. refl) (λ k. (k < 3) × (weight_at pair_table k ≡ weight_at pair_table i + weight_at pair_table j))
           (omega arith, omega (arith, h, pair_positive i l, pair_positive j m)) i j
@@ -164,7 +175,8 @@ module _ (K : Field) where
       (λ i j l m. of_pairs i j l m (dec_le (weight_at square_table i + weight_at square_table j) 2))
       (λ i j l m. in_pairs i j l m (dec_le (weight_at square_table i + weight_at square_table j) 2))
     where
-      of_pairs : (i j : ℕ) → i < 2 → j < 2 → Dec (weight_at square_table i + weight_at square_table j ≤ 2) → IsOf K square_table (weight_at square_table i + weight_at square_table j) (product K square_table i j)
+      of_pairs : (i j : ℕ) → i < 2 → j < 2 → Dec (weight_at square_table i + weight_at square_table j ≤ 2) →
+          IsOf K square_table (weight_at square_table i + weight_at square_table j) (product K square_table i j)
       of_pairs i j l m (yes h) =
           product_only K square_table 1 (λ i j. refl) (λ k. (k < 2) × (weight_at square_table k ≡ weight_at square_table i + weight_at square_table j))
           (omega arith, omega (arith, h, square_positive i l, square_positive j m)) i j
@@ -175,7 +187,8 @@ module _ (K : Field) where
       in_pairs i j l m (yes h) =
           let p : i ≡ 0 = square_zero i l (let q = square_positive j m in omega (arith, h, q)) in
           let q : j ≡ 0 = square_zero j m (let r = square_positive i l in omega (arith, h, r)) in
-          product_only K square_table 1 (λ i j. refl) (λ k. (k < 2) × (parity_at square_table k ≡ parity_sum (parity_at square_table i) (parity_at square_table j)))
+          product_only K square_table 1 (λ i j. refl)
+          (λ k. (k < 2) × (parity_at square_table k ≡ parity_sum (parity_at square_table i) (parity_at square_table j)))
           (omega arith, ap₂ (λ a b. parity_sum (parity_at square_table a) (parity_at square_table b)) (sym p) (sym q)) i j
       in_pairs i j l m (no h) = subst (IsIn K square_table _) (sym (product_past K square_table i j (omega arith))) (only_vzero K _)
 
@@ -195,7 +208,8 @@ module _ (K : Field) where
       val_none T = unfold val in refl
 
   pub odd_square_is_free : OddSquareIsFree K
-  odd_square_is_free h = not_zero 1 (sym (value ∙ product_itself K square_table 0 (omega arith)) ∙ sound K (one_odd K) square_table square_obeys (within_derives K (one_odd K) h) ∙ val_none square_table)
+  odd_square_is_free h = not_zero 1 (sym (value ∙ product_itself K square_table 0 (omega arith)) ∙
+      sound K (one_odd K) square_table square_obeys (within_derives K (one_odd K) h) ∙ val_none square_table)
     where
       value : val K square_table (bracket_of (u K) (u K)) ≡ product K square_table 0 0
       value = unfold val in (bracket_places K square_table 0 0 (omega arith) (omega arith))
@@ -230,4 +244,5 @@ module _ (K : Field) where
       low = unfold top is_void in (omega arith)
 
       value : val K T (bracket_of (x K) (y K)) ≡ vzero K
-      value = unfold val bracket bilinear in (total_none K (length T.basis) _ (λ i l. total_none K (length T.basis) _ (λ j m. ap (scale K _) (zeros i j l m) ∙ scale-vzero K _)))
+      value = unfold val bracket bilinear in (total_none K (length T.basis) _ (λ i l. total_none K (length T.basis) _
+          (λ j m. ap (scale K _) (zeros i j l m) ∙ scale-vzero K _)))

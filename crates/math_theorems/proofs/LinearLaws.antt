@@ -27,7 +27,8 @@ module _ (K : Field) where
   -- v - (v - t) = t
   rest_is : (v t : Vector K) → vplus K v (scale K (K.minus K.unit) (vplus K v (scale K (K.minus K.unit) t))) ≡ t
   rest_is v t =
-      ap (vplus K v) (scale-vplus K _ v _ ∙ ap (vplus K (scale K (K.minus K.unit) v)) (scale_scale K _ _ t ∙ ap (λ w. scale K w t) (minus_squared K) ∙ scale-unit K t))
+      ap (vplus K v) (scale-vplus K _ v _ ∙ ap (vplus K (scale K (K.minus K.unit) v)) (scale_scale K _ _ t ∙ ap (λ w. scale K w t) (minus_squared K) ∙
+      scale-unit K t))
       ∙ sym (vplus_assoc K v _ t) ∙ ap (λ w. vplus K w t) (vplus_comm K v _ ∙ minus-vplus K v) ∙ vzero-vplus K t
 
   pub sweeps_in_span : SweepsInSpan K
@@ -40,8 +41,10 @@ module _ (K : Field) where
   some_closed_list m n row ends = rows_closing K m n row ends
 
   pub one_closed_list : OneClosedList K
-  one_closed_list n m row row' pivot pivot' a b same =
-      (rows_number K n row pivot a m row' pivot' b (λ v h. (same v).0 h) (λ v h. (same v).1 h), rows_same K n row pivot a m row' pivot' b (λ v h. (same v).0 h) (λ v h. (same v).1 h))
+  one_closed_list n m row row' pivot pivot' a b same = (
+    rows_number K n row pivot a m row' pivot' b (λ v h. (same v).0 h) (λ v h. (same v).1 h),
+    rows_same K n row pivot a m row' pivot' b (λ v h. (same v).0 h) (λ v h. (same v).1 h),
+  )
 
   pub reduces_to_zero : ReducesToZero K
   reduces_to_zero n at echelon v = reduce_iff K n at echelon v
@@ -68,6 +71,8 @@ module _ (K : Field) where
   pub kernel_of_rows : KernelOfRows K
   kernel_of_rows n at r count row same x =
       let s = solutions_are K n at r x in (
-        (λ h. same_solutions K n (IsRow K at) (IsRowOf K count row) (λ u f. (same u).1 (subst (InSpan K count row) (sym f.2) (in_span K count row f.0 f.1))) x (s.0 h)),
-        (λ h. s.1 (same_solutions K n (IsRowOf K count row) (IsRow K at) (λ u f. (spans_are_one count row u).1 ((same u).0 (spanned_one K (IsRow K at) u f))) x h)),
+        (λ h. same_solutions K n (IsRow K at) (IsRowOf K count row)
+            (λ u f. (same u).1 (subst (InSpan K count row) (sym f.2) (in_span K count row f.0 f.1))) x (s.0 h)),
+        (λ h. s.1 (same_solutions K n (IsRowOf K count row) (IsRow K at) (λ u f. (spans_are_one count row u).1
+            ((same u).0 (spanned_one K (IsRow K at) u f))) x h)),
       )

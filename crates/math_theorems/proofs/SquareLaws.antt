@@ -44,7 +44,8 @@ module _ (K : Field) (P : Presentation K.Carrier) where
           (then (multiple_plus c (K.minus c) e) (then (of_path K P _ _ (ap (λ w. multiple w e) (K.plus-minus c))) (multiple_nought e))))
 
   -- [e, [e, e]] = [[e, e], e] - [e, [e, e]] = -2 [e, [e, e]]
-  cube_twice : (e : Expression K) → HasParity P e odd → DerivesFreely K P (bracket_of e (bracket_of e e)) (multiple (K.plus (K.minus K.unit) (K.minus K.unit)) (bracket_of e (bracket_of e e)))
+  cube_twice : (e : Expression K) → HasParity P e odd → DerivesFreely K P (bracket_of e (bracket_of e e))
+      (multiple (K.plus (K.minus K.unit) (K.minus K.unit)) (bracket_of e (bracket_of e e)))
   cube_twice e h =
       then (jacobi odd odd odd e e e h h h)
       (then (both_same K P (exchange even odd (bracket_of e e) e (parity_bracket h h) h) same)
@@ -57,11 +58,13 @@ module _ (K : Field) where
   minus_two : three K ≢ K.nought → K.plus (K.minus K.unit) (K.minus K.unit) ≢ K.unit
   minus_two n e =
       n (ap (K.plus (K.plus K.unit K.unit)) (sym e)
-      ∙ K.plus_assoc K.unit K.unit _ ∙ ap (K.plus K.unit) (sym (K.plus_assoc K.unit _ _) ∙ ap (λ w. K.plus w (K.minus K.unit)) (K.plus-minus K.unit) ∙ nought-plus K _) ∙ K.plus-minus K.unit)
+      ∙ K.plus_assoc K.unit K.unit _ ∙ ap (K.plus K.unit) (sym (K.plus_assoc K.unit _ _) ∙ ap (λ w. K.plus w (K.minus K.unit)) (K.plus-minus K.unit) ∙
+      nought-plus K _) ∙ K.plus-minus K.unit)
 
   pub even_squares_are_zero : EvenSquaresAreZero K
   even_squares_are_zero P sound e o h =
-      derives_within K P sound.over _ _ (over_bracket o o) over_none (self_multiple K P (bracket_of e e) (K.minus K.unit) minus_one (exchange even even e e h h))
+      derives_within K P sound.over _ _ (over_bracket o o) over_none (self_multiple K P (bracket_of e e) (K.minus K.unit) minus_one
+      (exchange even even e e h h))
 
   pub odd_cubes_are_zero : OddCubesAreZero K
   odd_cubes_are_zero P sound e o h = derives_within K P sound.over _ _ (over_bracket o (over_bracket o o)) over_none (go (K.same (three K) K.nought))
@@ -73,7 +76,8 @@ module _ (K : Field) where
   -- a number of which a multiple by a number other than 0 is 0 is 0
   no_factor : (a t : K.Carrier) → t ≢ K.nought → K.times a t ≡ K.nought → a ≡ K.nought
   no_factor a t n e =
-      sym (K.times-unit a) ∙ ap (K.times a) (sym (K.times-inverse t n)) ∙ sym (K.times_assoc a t (K.inverse t)) ∙ ap (λ w. K.times w (K.inverse t)) e ∙ nought-times K _
+      sym (K.times-unit a) ∙ ap (K.times a) (sym (K.times-inverse t n)) ∙ sym (K.times_assoc a t (K.inverse t)) ∙ ap (λ w. K.times w (K.inverse t)) e
+      ∙ nought-times K _
 
   twice : (a : K.Carrier) → K.times a (K.plus K.unit K.unit) ≡ K.plus a a
   twice a = K.times-plus a K.unit K.unit ∙ ap₂ K.plus (K.times-unit a) (K.times-unit a)

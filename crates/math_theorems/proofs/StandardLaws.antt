@@ -95,7 +95,8 @@ module _ (K : Field) (P : Presentation K.Carrier) (s : IsSoundPresentation P) (T
   same_combined : (v : Vector K) → combined K whole.tree (length T.basis) v ≡ combined K tree (length T.basis) v
   same_combined v = trees_same K P tree whole.tree (length T.basis) v twins.trees
 
-  turned : (e : Expression K) (v : Vector K) → IsOver P e → DerivesFreely K P e (combined K whole.tree (length T.basis) v) → Derives K P e (combined K tree (length T.basis) v)
+  turned : (e : Expression K) (v : Vector K) → IsOver P e → DerivesFreely K P e (combined K whole.tree (length T.basis) v) →
+      Derives K P e (combined K tree (length T.basis) v)
   turned e v o h =
       derives_within K P s.over e _ o (combined_over K P tree (length T.basis) v tree_over) (then h (of_path K P _ _ (same_combined v)))
 
@@ -112,9 +113,11 @@ module _ (K : Field) (P : Presentation K.Carrier) (s : IsSoundPresentation P) (T
 
   same_symbols : (v : Vector K) → over_symbols K P T whole.tree v ≡ over_symbols K P T tree v
   same_symbols v =
-      trees_same K P (λ s. symbol_tree tree (symbol_at P T s)) (λ s. symbol_tree whole.tree (symbol_at P T s)) (length (symbols P T)) v (λ k l. symbol_same K P T T whole.tree tree twins k l)
+      trees_same K P (λ s. symbol_tree tree (symbol_at P T s)) (λ s. symbol_tree whole.tree (symbol_at P T s)) (length (symbols P T)) v
+      (λ k l. symbol_same K P T T whole.tree tree twins k l)
 
-  pub closed_rows_zero : (T' : Table K) (next : IsNext K P T T') (v : Vector K) → EndsAt K (length (symbols P T)) v → Derives K P (over_symbols K P T tree v) none ↔ InSpan K next.number_of_rows next.row v
+  pub closed_rows_zero : (T' : Table K) (next : IsNext K P T T') (v : Vector K) → EndsAt K (length (symbols P T)) v →
+      Derives K P (over_symbols K P T tree v) none ↔ InSpan K next.number_of_rows next.row v
   closed_rows_zero T' next v short =
       let r = rows_exact K P hom T T' whole.tree whole.facts next v short in (
         (λ h. r.0 (then (of_path K P _ _ (same_symbols v)) (within_derives K P h))),

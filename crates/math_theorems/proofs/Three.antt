@@ -18,17 +18,21 @@ use Rattle.math_theorems.specs.Values.{CubesModuloThree}
 module _ (N : Normal) where
   thrice : N.norm (N.plus (N.norm (N.plus (N.norm N.unit) (N.norm N.unit))) (N.norm N.unit)) ≡ N.norm (N.plus (N.plus N.unit N.unit) N.unit)
   thrice =
-      N.norm-plus (N.plus (N.norm N.unit) (N.norm N.unit)) (N.norm N.unit) ∙ right-plus N _ N.unit ∙ sym (N.norm-plus (N.plus (N.norm N.unit) (N.norm N.unit)) N.unit)
+      N.norm-plus (N.plus (N.norm N.unit) (N.norm N.unit)) (N.norm N.unit) ∙ right-plus N _ N.unit ∙
+      sym (N.norm-plus (N.plus (N.norm N.unit) (N.norm N.unit)) N.unit)
       ∙ ap (λ w. N.norm (N.plus w N.unit)) (N.norm-plus N.unit (N.norm N.unit) ∙ right-plus N N.unit N.unit) ∙ N.norm-plus (N.plus N.unit N.unit) N.unit
 
   three_normal : (three (field_of_normal N) ≡ (field_of_normal N).nought) ↔ (N.norm (N.plus (N.plus N.unit N.unit) N.unit) ≡ N.norm N.nought)
   unfolding field_of_normal
   three_normal = ((λ e. sym thrice ∙ ap (λ a. a.0) e), (λ e. number_same N _ _ (thrice ∙ e)))
 
-three_residue : (p : ℕ) (h : IsPrime p) (l : 2 < p) → (three (field_of_normal (residue_normal p h l)) ≡ (field_of_normal (residue_normal p h l)).nought) ↔ (p ≡ 3)
+three_residue : (p : ℕ) (h : IsPrime p) (l : 2 < p) →
+    (three (field_of_normal (residue_normal p h l)) ≡ (field_of_normal (residue_normal p h l)).nought) ↔ (p ≡ 3)
 unfolding residue_normal
-three_residue p h l =
-    ((λ e. is_three (ℕ_discrete p 3) ((three_normal (residue_normal p h l)).0 e)), (λ e. (three_normal (residue_normal p h l)).1 (subst (λ p. 3 % p ≡ 0 % p) (sym e) refl)))
+three_residue p h l = (
+  (λ e. is_three (ℕ_discrete p 3) ((three_normal (residue_normal p h l)).0 e)),
+  (λ e. (three_normal (residue_normal p h l)).1 (subst (λ p. 3 % p ≡ 0 % p) (sym e) refl)),
+)
   where
     is_three : Dec (p ≡ 3) → 3 % p ≡ 0 % p → p ≡ 3
     is_three (yes d) e = d
@@ -57,4 +61,7 @@ IsPrimeKind (Prime p) = Unit {0}
 pub three_is : (k : Kind) → CubesModuloThree k
 unfolding field_of ℕ_discrete
 three_is Rational = ((λ e. absurd (three_fraction e)), (λ e. absurd (subst IsPrimeKind (sym e) tt)))
-three_is (Prime p) = ((λ e. ap Prime (three_if p (known p) e)), (λ e. subst (λ k. three (field_of k) ≡ (field_of k).nought) (sym e) (if_three (known 3) (λ d. subst (IsInList 3) d tt))))
+three_is (Prime p) = (
+  (λ e. ap Prime (three_if p (known p) e)),
+  (λ e. subst (λ k. three (field_of k) ≡ (field_of k).nought) (sym e) (if_three (known 3) (λ d. subst (IsInList 3) d tt))),
+)

@@ -31,7 +31,8 @@ abbrev pub SweepsInSpan : Field → Type 0
 SweepsInSpan K = (n : ℕ) (row : ℕ → Vector K) (pivot : ℕ → ℕ) (v : Vector K) → InSpan K n row (vplus K v (scale K (K.minus K.unit) (swept K n row pivot v)))
 
 abbrev pub SweepsPivots : Field → Type 0
-SweepsPivots K = (n : ℕ) (row : ℕ → Vector K) (pivot : ℕ → ℕ) → IsClosed K n row pivot → (v : Vector K) (i : ℕ) → i < n → swept K n row pivot v (pivot i) ≡ K.nought
+SweepsPivots K = (n : ℕ) (row : ℕ → Vector K) (pivot : ℕ → ℕ) → IsClosed K n row pivot → (v : Vector K) (i : ℕ) → i < n →
+    swept K n row pivot v (pivot i) ≡ K.nought
 
 abbrev pub SomeClosedList : Field → Type 0
 SomeClosedList K = (m n : ℕ) (row : ℕ → Vector K) → ((i : ℕ) → i < n → EndsAt K m (row i)) → ClosedForm K m (IsRowOf K n row)
@@ -56,11 +57,13 @@ PutSpansMore K =
 
 abbrev pub ClosesReduced : Field → Type 0
 ClosesReduced K =
-    (n : ℕ) (at : Pivots K) → IsEchelon K n at → IsReduced K n (close K at n) × ((v : Vector K) → Spanned K (IsRow K (close K at n)) v ↔ Spanned K (IsRow K at) v)
+    (n : ℕ) (at : Pivots K) → IsEchelon K n at → IsReduced K n (close K at n) × ((v : Vector K) → Spanned K (IsRow K (close K at n)) v ↔
+    Spanned K (IsRow K at) v)
 
 abbrev pub OneReduced : Field → Type 0
 OneReduced K =
-    (n : ℕ) (at at' : Pivots K) → IsReduced K n at → IsReduced K n at' → ((v : Vector K) → Spanned K (IsRow K at) v ↔ Spanned K (IsRow K at') v) → (s : ℕ) → at s ≡ at' s
+    (n : ℕ) (at at' : Pivots K) → IsReduced K n at → IsReduced K n at' → ((v : Vector K) → Spanned K (IsRow K at) v ↔ Spanned K (IsRow K at') v) →
+    (s : ℕ) → at s ≡ at' s
 
 abbrev pub ReducedIsClosed : Field → Type 0
 ReducedIsClosed K =

@@ -36,7 +36,8 @@ BuiltObeys K = (P : Presentation K.Carrier) → IsSoundPresentation P → (T : T
 
 abbrev pub Headline : Field → Type 0
 Headline K =
-    (P : Presentation K.Carrier) → IsSoundPresentation P → (T : Table K) → Built K P T → (e f : Expression K) → IsOver P e → IsOver P f → top P e ≤ T.weight → top P f ≤ T.weight →
+    (P : Presentation K.Carrier) → IsSoundPresentation P → (T : Table K) → Built K P T → (e f : Expression K) → IsOver P e → IsOver P f →
+    top P e ≤ T.weight → top P f ≤ T.weight →
     (val K T e ≡ val K T f) ↔ Derives K P e f
 
 abbrev pub BuiltIsStandard : Field → Type 0
@@ -46,11 +47,13 @@ abbrev pub StandardIsBuilt : Field → Type 0
 StandardIsBuilt K = (P : Presentation K.Carrier) → IsSoundPresentation P → (T : Table K) (tree : ℕ → Expression K) → IsStandard K P T tree → Built K P T
 
 abbrev pub SomeStandard : Field → Type 0
-SomeStandard K = (P : Presentation K.Carrier) → IsSoundPresentation P → (d : ℕ) → (T : Table K) × (tree : ℕ → Expression K) × IsStandard K P T tree × (T.weight ≡ d)
+SomeStandard K = (P : Presentation K.Carrier) → IsSoundPresentation P → (d : ℕ) → (T : Table K) × (tree : ℕ → Expression K) ×
+    IsStandard K P T tree × (T.weight ≡ d)
 
 abbrev pub OneStandard : Field → Type 0
 OneStandard K =
-    (P : Presentation K.Carrier) → IsSoundPresentation P → (T S : Table K) (tree twig : ℕ → Expression K) → IsStandard K P T tree → IsStandard K P S twig → T.weight ≡ S.weight →
+    (P : Presentation K.Carrier) → IsSoundPresentation P → (T S : Table K) (tree twig : ℕ → Expression K) → IsStandard K P T tree →
+    IsStandard K P S twig → T.weight ≡ S.weight →
     Agree K P T S × ((i : ℕ) → i < length T.basis → tree i ≡ twig i)
 
 pub record IsSoundTable (K : Field) (P : Presentation K.Carrier) (T : Table K) (tree : ℕ → Expression K) : Type 0 where
@@ -62,11 +65,13 @@ pub record IsSoundTable (K : Field) (P : Presentation K.Carrier) (T : Table K) (
   pub unique : (e : Expression K) (v : Vector K) → EndsAt K (length T.basis) v → Derives K P e (combined K tree (length T.basis) v) → v ≡ val K T e
 
 abbrev pub StandardIsSound : Field → Type 0
-StandardIsSound K = (P : Presentation K.Carrier) → IsSoundPresentation P → (T : Table K) (tree : ℕ → Expression K) → IsStandard K P T tree → IsSoundTable K P T tree
+StandardIsSound K = (P : Presentation K.Carrier) → IsSoundPresentation P → (T : Table K) (tree : ℕ → Expression K) → IsStandard K P T tree →
+    IsSoundTable K P T tree
 
 abbrev pub ImagesPastAreZero : Field → Type 0
 ImagesPastAreZero K =
-    (P : Presentation K.Carrier) → IsSoundPresentation P → (T : Table K) → Built K P T → (g : ℕ) → g < length P.generators → T.weight < (generator P g).weight → T.image g ≡ vzero K
+    (P : Presentation K.Carrier) → IsSoundPresentation P → (T : Table K) → Built K P T → (g : ℕ) → g < length P.generators →
+    T.weight < (generator P g).weight → T.image g ≡ vzero K
 
 -- the combination of the symbols of the next weight
 abbrev pub over_symbols : (K : Field) → Presentation K.Carrier → Table K → (ℕ → Expression K) → Vector K → Expression K
@@ -74,22 +79,26 @@ over_symbols K P T tree v = combined K (λ s. symbol_tree tree (symbol_at P T s)
 
 abbrev pub RowsAreZero : Field → Type 0
 RowsAreZero K =
-    (P : Presentation K.Carrier) → IsSoundPresentation P → (T : Table K) (tree : ℕ → Expression K) → IsStandard K P T tree → (v : Vector K) → EndsAt K (length (symbols P T)) v →
+    (P : Presentation K.Carrier) → IsSoundPresentation P → (T : Table K) (tree : ℕ → Expression K) → IsStandard K P T tree → (v : Vector K) →
+    EndsAt K (length (symbols P T)) v →
     Derives K P (over_symbols K P T tree v) none ↔ Spanned K (IsSource K P T) v
 
 abbrev pub ClosedRowsAreZero : Field → Type 0
 ClosedRowsAreZero K =
-    (P : Presentation K.Carrier) → IsSoundPresentation P → (T : Table K) (tree : ℕ → Expression K) → IsStandard K P T tree → (T' : Table K) (next : IsNext K P T T') (v : Vector K) →
+    (P : Presentation K.Carrier) → IsSoundPresentation P → (T : Table K) (tree : ℕ → Expression K) → IsStandard K P T tree →
+    (T' : Table K) (next : IsNext K P T T') (v : Vector K) →
     EndsAt K (length (symbols P T)) v → Derives K P (over_symbols K P T tree v) none ↔ InSpan K next.number_of_rows next.row v
 
 abbrev pub LowerIsBuilt : Field → Type 0
 LowerIsBuilt K =
-    (P : Presentation K.Carrier) → IsSoundPresentation P → (T S : Table K) → Built K P T → IsLower K P T S → Built K P S × ((w : ℕ) → w ≤ S.weight + 1 → symbols_of P T w ≡ symbols_of P S w)
+    (P : Presentation K.Carrier) → IsSoundPresentation P → (T S : Table K) → Built K P T → IsLower K P T S →
+    Built K P S × ((w : ℕ) → w ≤ S.weight + 1 → symbols_of P T w ≡ symbols_of P S w)
 
 abbrev pub AgreeingIsBuilt : Field → Type 0
 AgreeingIsBuilt K = (P : Presentation K.Carrier) → IsSoundPresentation P → (T S : Table K) → Built K P T → Agree K P T S → Built K P S
 
 abbrev pub ClosedRowsBuild : Field → Type 0
 ClosedRowsBuild K =
-    (P : Presentation K.Carrier) (T : Table K) → Built K P T → (n : ℕ) (row : ℕ → Vector K) (pivot : ℕ → ℕ) → IsClosedForm K (length (symbols P T)) (IsSource K P T) n row pivot →
+    (P : Presentation K.Carrier) (T : Table K) → Built K P T → (n : ℕ) (row : ℕ → Vector K) (pivot : ℕ → ℕ) →
+    IsClosedForm K (length (symbols P T)) (IsSource K P T) n row pivot →
     Built K P (next_table K P T n row pivot)

@@ -65,7 +65,8 @@ EvenSquaresAreZero K =
 
 abbrev pub OddCubesAreZero : Field → Type 0
 OddCubesAreZero K =
-    (P : Presentation K.Carrier) → IsSoundPresentation P → (e : Expression K) → IsOver P e → HasParity P e odd → Derives K P (bracket_of e (bracket_of e e)) none
+    (P : Presentation K.Carrier) → IsSoundPresentation P → (e : Expression K) → IsOver P e → HasParity P e odd →
+    Derives K P (bracket_of e (bracket_of e e)) none
 
 abbrev pub WeightBoundsTop : Field → Type 0
 WeightBoundsTop K =
@@ -74,7 +75,8 @@ WeightBoundsTop K =
 
 abbrev pub ParityAsWritten : Field → Type 0
 ParityAsWritten K =
-    (P : Presentation K.Carrier) (e : Expression K) → IsOver P e → ((s : Parity) → parity_of P e ≡ exact s → HasParity P e s) × (parity_of P e ≡ any → (s : Parity) → HasParity P e s)
+    (P : Presentation K.Carrier) (e : Expression K) → IsOver P e → ((s : Parity) → parity_of P e ≡ exact s → HasParity P e s) ×
+    (parity_of P e ≡ any → (s : Parity) → HasParity P e s)
 
 abbrev pub ParityIsTested : Field → Type 0
 ParityIsTested K = (P : Presentation K.Carrier) (e : Expression K) → IsOver P e → (s : Parity) → (has_parity P e s ≡ true) ↔ HasParity P e s

@@ -69,7 +69,8 @@ of_short K T d x h k l = go (h k)
     go (inr f) = absurd (omega (arith, f.0))
 
 -- the value of a combination
-pub val_combined : (K : Field) (T : Table K) (tree : ℕ → Expression K) (n : ℕ) (v : Vector K) → val K T (combined K tree n v) ≡ total K n (λ i. scale K (v i) (val K T (tree i)))
+pub val_combined : (K : Field) (T : Table K) (tree : ℕ → Expression K) (n : ℕ) (v : Vector K) →
+    val K T (combined K tree n v) ≡ total K n (λ i. scale K (v i) (val K T (tree i)))
 unfolding val combined total
 val_combined K T tree zero v = refl
 val_combined K T tree (suc n) v = ap₂ (vplus K) (val_combined K T tree n v) (vplus-vzero K _)

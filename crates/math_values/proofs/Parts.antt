@@ -78,7 +78,8 @@ module _ (K : Field) (T : Table K) where
       twice : (s t : Parity) (v : Vector K) → v ≡ scale K (K.minus (sign K s t)) (scale K (K.minus (sign K t s)) v)
       twice s t v = sym (scale_scale K _ _ v ∙ ap (λ w. scale K w v) (sign_sign K s t) ∙ scale-unit K v)
 
-      by_order : (basis_at T i).weight + (basis_at T j).weight ≤ T.weight → Dec (i < j) → Dec (j < i) → product K T i j ≡ scale K (K.minus (sign K (parity_at T i) (parity_at T j))) (product K T j i)
+      by_order : (basis_at T i).weight + (basis_at T j).weight ≤ T.weight → Dec (i < j) → Dec (j < i) →
+          product K T i j ≡ scale K (K.minus (sign K (parity_at T i) (parity_at T j))) (product K T j i)
       by_order h (yes l) d = rw (product_below i j l h, product_above j i l (omega arith)) (twice _ _ _)
       by_order h (no l) (yes d) = rw (product_above i j d h, product_below j i d (omega arith)) refl
       by_order h (no l) (no d) =
@@ -86,7 +87,8 @@ module _ (K : Field) (T : Table K) where
           subst (λ w. product K T i w ≡ scale K (K.minus (sign K (parity_at T i) (parity_at T w))) (product K T w i)) e
           (rw (product_itself i (subst (λ w. (basis_at T i).weight + (basis_at T w).weight ≤ T.weight) (sym e) h)) (itself_exchange _ _))
 
-      by_weight : Dec ((basis_at T i).weight + (basis_at T j).weight ≤ T.weight) → product K T i j ≡ scale K (K.minus (sign K (parity_at T i) (parity_at T j))) (product K T j i)
+      by_weight : Dec ((basis_at T i).weight + (basis_at T j).weight ≤ T.weight) → product K T i j ≡
+          scale K (K.minus (sign K (parity_at T i) (parity_at T j))) (product K T j i)
       by_weight (yes h) = by_order h (dec_lt i j) (dec_lt j i)
       by_weight (no h) = rw (product_past i j (omega arith), product_past j i (omega arith)) (sym (scale-vzero K _))
 
@@ -187,7 +189,8 @@ module _ (K : Field) (T : Table K) (graded : IsGraded K T) where
   pub jacobi_last : (s t u : Parity) (x y z : Vector K) → IsIn K T s x → IsIn K T t y → IsIn K T u z → JacobiAt s t x y z → JacobiAt s u x z y
   jacobi_last s t u x y z h k m e =
       ap (bracket K T x) (exchange_parts K T u t z y m k) ∙ bracket-scale K T _ _ _ ∙ ap (scale K (K.minus (sign K u t))) e ∙ scale-vplus K _ _ _
-      ∙ ap (vplus K _) (scale_scale K _ _ _ ∙ ap (λ w. scale K w (bracket K T y (bracket K T x z))) (sign_left K s t u) ∙ sym (exchange_parts K T (parity_sum s u) t (bracket K T x z) y (in_bracket s u x z h m) k))
+      ∙ ap (vplus K _) (scale_scale K _ _ _ ∙ ap (λ w. scale K w (bracket K T y (bracket K T x z))) (sign_left K s t u) ∙
+      sym (exchange_parts K T (parity_sum s u) t (bracket K T x z) y (in_bracket s u x z h m) k))
       ∙ vplus_comm K _ _
       ∙ ap (vplus K (bracket K T (bracket K T x z) y))
       (ap (λ w. scale K w (bracket K T (bracket K T x y) z)) (sym (sign_right K s t u)) ∙ sym (scale_scale K _ _ _)
@@ -208,10 +211,13 @@ module _ (K : Field) (T : Table K) (graded : IsGraded K T) where
       by_order (yes a) (yes b) c = ordered i j k a b r
       by_order (yes a) (no b) (yes c) = jacobi_last (par i) (par k) (par j) _ _ _ (at i p) (at k r) (at j q) (ordered i k j c (omega arith) q)
       by_order (yes a) (no b) (no c) =
-          jacobi_last (par i) (par k) (par j) _ _ _ (at i p) (at k r) (at j q) (jacobi_first (par k) (par i) _ _ _ (at k r) (at i p) (ordered k i j (omega arith) a q))
+          jacobi_last (par i) (par k) (par j) _ _ _ (at i p) (at k r) (at j q) (jacobi_first (par k) (par i) _ _ _ (at k r) (at i p)
+          (ordered k i j (omega arith) a q))
       by_order (no a) (yes b) (yes c) = jacobi_first (par j) (par i) _ _ _ (at j q) (at i p) (ordered j i k (omega arith) c r)
       by_order (no a) (yes b) (no c) =
-          jacobi_first (par j) (par i) _ _ _ (at j q) (at i p) (jacobi_last (par j) (par k) (par i) _ _ _ (at j q) (at k r) (at i p) (ordered j k i b (omega arith) p))
+          jacobi_first (par j) (par i) _ _ _ (at j q) (at i p) (jacobi_last (par j) (par k) (par i) _ _ _ (at j q) (at k r) (at i p)
+          (ordered j k i b (omega arith) p))
       by_order (no a) (no b) c =
           jacobi_first (par j) (par i) _ _ _ (at j q) (at i p)
-          (jacobi_last (par j) (par k) (par i) _ _ _ (at j q) (at k r) (at i p) (jacobi_first (par k) (par j) _ _ _ (at k r) (at j q) (ordered k j i (omega arith) (omega arith) p)))
+          (jacobi_last (par j) (par k) (par i) _ _ _ (at j q) (at k r) (at i p) (jacobi_first (par k) (par j) _ _ _ (at k r) (at j q)
+          (ordered k j i (omega arith) (omega arith) p)))

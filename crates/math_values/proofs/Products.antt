@@ -53,7 +53,8 @@ module _ (K : Field) (T : Table K) where
   vzero-bracket x = linear_vzero K _ (bracket_linear_left x)
 
   -- what is so of 0, of sums, of multiples and of the places of parity s is so of the part of parity s
-  pub by_part : (s : Parity) (P : Vector K → Type 0) → P (vzero K) → ((x y : Vector K) → P x → P y → P (vplus K x y)) → ((c : K.Carrier) (x : Vector K) → P x → P (scale K c x)) →
+  pub by_part : (s : Parity) (P : Vector K → Type 0) → P (vzero K) → ((x y : Vector K) → P x → P y → P (vplus K x y)) →
+      ((c : K.Carrier) (x : Vector K) → P x → P (scale K c x)) →
       ((i : ℕ) → i < length T.basis → parity_at T i ≡ s → P (place K i)) → (x : Vector K) → IsIn K T s x → P x
   by_part s P none both times there x h = by_places K (length T.basis) (λ i. parity_at T i ≡ s) P none both times there x h
 

@@ -76,7 +76,8 @@ module _ (K : Field) (T : Table K) where
       vals_of weight_end = of_vzero _
       vals_of (weight_more h k) = of_vplus _ _ _ (val_of h) (vals_of k)
 
-module _ (K : Field) (P : Presentation K.Carrier) (T T' : Table K) (number : ℕ → ℕ → ℕ) (meaning : Vector K → Vector K) (linear : IsLinear K meaning) (step : Extends K T T' number meaning)
+module _ (K : Field) (P : Presentation K.Carrier) (T T' : Table K) (number : ℕ → ℕ → ℕ) (meaning : Vector K → Vector K) (linear : IsLinear K meaning)
+    (step : Extends K T T' number meaning)
     (generator_number : ℕ → ℕ)
     (images : (g : ℕ) → g < length P.generators → IsOf K T (generator P g).weight (T.image g))
     (graded : (i j : ℕ) → i < length T.basis → j < length T.basis → IsOf K T (weight_at T i + weight_at T j) (product K T i j))
@@ -136,10 +137,12 @@ module _ (K : Field) (P : Presentation K.Carrier) (T T' : Table K) (number : ℕ
         go : Dec (b ≡ 0) → Dec (c ≡ 0) → bracket K T' x' y' ≡ meaning (outer K T number x y)
         go (yes e) d =
             let z : x ≡ vzero K = of_no_weight x (subst (λ w. IsOf K T w x) e h) in
-            ap (λ w. bracket K T' w y') (p (omega arith) ∙ z) ∙ vzero-bracket K T' y' ∙ sym (ap meaning (ap (λ w. outer K T number w y) z ∙ vzero_outer y) ∙ linear_vzero K meaning linear)
+            ap (λ w. bracket K T' w y') (p (omega arith) ∙ z) ∙ vzero-bracket K T' y' ∙ sym
+            (ap meaning (ap (λ w. outer K T number w y) z ∙ vzero_outer y) ∙ linear_vzero K meaning linear)
         go (no e) (yes d) =
             let z : y ≡ vzero K = of_no_weight y (subst (λ w. IsOf K T w y) d k) in
-            ap (bracket K T' x') (q (omega arith) ∙ z) ∙ bracket-vzero K T' x' ∙ sym (ap meaning (ap (outer K T number x) z ∙ outer_vzero x) ∙ linear_vzero K meaning linear)
+            ap (bracket K T' x') (q (omega arith) ∙ z) ∙ bracket-vzero K T' x' ∙ sym (ap meaning (ap (outer K T number x) z ∙ outer_vzero x) ∙
+            linear_vzero K meaning linear)
         go (no e) (no d) = ap₂ (bracket K T') (p (omega arith)) (q (omega arith)) ∙ bracket_filled K T T' number meaning linear step b c m x y h k
 
     mutual
@@ -151,8 +154,10 @@ module _ (K : Field) (P : Presentation K.Carrier) (T T' : Table K) (number : ℕ
       val_filled (weight_sum h) m = vals_filled h m
       val_filled (weight_multiple {c = c} h) m = ap (scale K c) (val_filled h m) ∙ sym (linear.of_scale c _)
       val_filled (weight_bracket {e = e} {f = f} {b = b} {c = c} h k) m =
-          at_bracket b c m (val K T e) (val K T' e) (val K T f) (val K T' f) (λ l. val_kept h l) (λ l. val_kept k l) (val_of K T P images graded h) (val_of K T P images graded k)
+          at_bracket b c m (val K T e) (val K T' e) (val K T f) (val K T' f) (λ l. val_kept h l) (λ l. val_kept k l) (val_of K T P images graded h)
+          (val_of K T P images graded k)
 
-      pub vals_filled : {es : Trees K.Carrier} {d : ℕ} → WeightsAre P es d → d ≡ suc T.weight → vals K T' es ≡ meaning (rows_of_all K T number generator_number es)
+      pub vals_filled : {es : Trees K.Carrier} {d : ℕ} → WeightsAre P es d → d ≡ suc T.weight →
+          vals K T' es ≡ meaning (rows_of_all K T number generator_number es)
       vals_filled weight_end m = sym (linear_vzero K meaning linear)
       vals_filled (weight_more h k) m = ap₂ (vplus K) (val_filled h m) (vals_filled k m) ∙ sym (linear.of_plus _ _)

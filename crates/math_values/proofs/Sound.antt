@@ -29,16 +29,19 @@ module _ (K : Field) (P : Presentation K.Carrier) (T : Table K) (law : ObeysLaw 
       (λ n l d. at_third n l d) z m
     where
       at_second : (n : ℕ) → n < length T.basis → parity_at T n ≡ u → (j : ℕ) → j < length T.basis → parity_at T j ≡ t →
-          bracket K T x (bracket K T (place K j) (place K n)) ≡ vplus K (bracket K T (bracket K T x (place K j)) (place K n)) (scale K (sign K s t) (bracket K T (place K j) (bracket K T x (place K n))))
+          bracket K T x (bracket K T (place K j) (place K n)) ≡ vplus K (bracket K T (bracket K T x (place K j)) (place K n))
+          (scale K (sign K s t) (bracket K T (place K j) (bracket K T x (place K n))))
       at_second n l d j l' d' =
           linear_same K T s (λ x. bracket K T x (bracket K T (place K j) (place K n)))
           (λ x. vplus K (bracket K T (bracket K T x (place K j)) (place K n)) (scale K (sign K s t) (bracket K T (place K j) (bracket K T x (place K n)))))
           (bracket_linear_left K T _)
-          (linear_vplus K _ _ (linear_left K T _ _ (bracket_linear_left K T (place K j))) (linear_scale K _ _ (linear_right K T _ _ (bracket_linear_left K T (place K n)))))
+          (linear_vplus K _ _ (linear_left K T _ _ (bracket_linear_left K T (place K j))) (linear_scale K _ _
+          (linear_right K T _ _ (bracket_linear_left K T (place K n)))))
           (λ i k' e. rw (← e, ← d') (law.jacobis i j n k' l' l)) x h
 
       at_third : (n : ℕ) → n < length T.basis → parity_at T n ≡ u →
-          bracket K T x (bracket K T y (place K n)) ≡ vplus K (bracket K T (bracket K T x y) (place K n)) (scale K (sign K s t) (bracket K T y (bracket K T x (place K n))))
+          bracket K T x (bracket K T y (place K n)) ≡ vplus K (bracket K T (bracket K T x y) (place K n))
+          (scale K (sign K s t) (bracket K T y (bracket K T x (place K n))))
       at_third n l d =
           linear_same K T t (λ y. bracket K T x (bracket K T y (place K n)))
           (λ y. vplus K (bracket K T (bracket K T x y) (place K n)) (scale K (sign K s t) (bracket K T y (bracket K T x (place K n)))))
@@ -69,7 +72,8 @@ module _ (K : Field) (P : Presentation K.Carrier) (T : Table K) (law : ObeysLaw 
       vplus K (bracket K T x (bracket K T x y)) (vplus K (bracket K T x (bracket K T x y)) (bracket K T y (bracket K T x x))) ≡ vzero K
   odd_thrice x y h k =
       ap (λ w. vplus K w (vplus K (bracket K T x (bracket K T x y)) (bracket K T y (bracket K T x x))))
-      (jacobi_parts odd odd odd x x y h h k ∙ ap (λ w. vplus K w (scale K (K.minus K.unit) (bracket K T x (bracket K T x y)))) (exchange_parts K T even odd (bracket K T x x) y (in_bracket K T law.graded odd odd x x h h) k))
+      (jacobi_parts odd odd odd x x y h h k ∙ ap (λ w. vplus K w (scale K (K.minus K.unit) (bracket K T x (bracket K T x y))))
+      (exchange_parts K T even odd (bracket K T x x) y (in_bracket K T law.graded odd odd x x h h) k))
       ∙ cancels (bracket K T y (bracket K T x x)) (bracket K T x (bracket K T x y))
     where
       cancels : (u v : Vector K) → vplus K (vplus K (scale K (K.minus K.unit) u) (scale K (K.minus K.unit) v)) (vplus K v u) ≡ vzero K
@@ -93,15 +97,18 @@ module _ (K : Field) (P : Presentation K.Carrier) (T : Table K) (law : ObeysLaw 
 
       square : bracket K T (vplus K x y) (vplus K x y) ≡ whole
       square =
-          vplus-bracket K T x y (vplus K x y) ∙ ap (λ w. vplus K w (bracket K T y (vplus K x y))) (bracket-vplus K T x x y) ∙ ap (vplus K _) (bracket-vplus K T y x y)
+          vplus-bracket K T x y (vplus K x y) ∙ ap (λ w. vplus K w (bracket K T y (vplus K x y))) (bracket-vplus K T x x y) ∙
+          ap (vplus K _) (bracket-vplus K T y x y)
           ∙ ap (λ w. vplus K (vplus K (bracket K T x x) (bracket K T x y)) (vplus K w (bracket K T y y))) (odd_symmetric y x k h)
           ∙ vplus_assoc K _ _ _
 
-      spread : (z : Vector K) → bracket K T z whole ≡ vplus K (bracket K T z (bracket K T x x)) (vplus K (bracket K T z (bracket K T x y)) (vplus K (bracket K T z (bracket K T x y)) (bracket K T z (bracket K T y y))))
+      spread : (z : Vector K) → bracket K T z whole ≡ vplus K (bracket K T z (bracket K T x x))
+          (vplus K (bracket K T z (bracket K T x y)) (vplus K (bracket K T z (bracket K T x y)) (bracket K T z (bracket K T y y))))
       spread z = simp (bracket-vplus K T)
 
       regroup : (a b c d e f : Vector K) →
-          vplus K (vplus K a (vplus K b (vplus K b c))) (vplus K d (vplus K e (vplus K e f))) ≡ vplus K (vplus K a f) (vplus K (vplus K b (vplus K b d)) (vplus K e (vplus K e c)))
+          vplus K (vplus K a (vplus K b (vplus K b c))) (vplus K d (vplus K e (vplus K e f))) ≡
+          vplus K (vplus K a f) (vplus K (vplus K b (vplus K b d)) (vplus K e (vplus K e c)))
       regroup a b c d e f = simp (vplus_assoc K, vplus_comm K, vplus_left_comm K)
 
       cancel : (a b : Vector K) → a ≡ vzero K → b ≡ vzero K → vplus K a b ≡ vzero K

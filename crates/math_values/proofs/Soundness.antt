@@ -37,7 +37,8 @@ module _ (K : Field) (P : Presentation K.Carrier) (T : Table K) (tree : ℕ → 
   comb v = combined K tree (length T.basis) v
 
   -- what is so of 0, of sums, of multiples and of the places of weight at most d is so of all that lies below d
-  by_below : (d : ℕ) (Q : Vector K → Type 0) → Q (vzero K) → ((x y : Vector K) → Q x → Q y → Q (vplus K x y)) → ((c : K.Carrier) (x : Vector K) → Q x → Q (scale K c x)) →
+  by_below : (d : ℕ) (Q : Vector K → Type 0) → Q (vzero K) → ((x y : Vector K) → Q x → Q y → Q (vplus K x y)) →
+      ((c : K.Carrier) (x : Vector K) → Q x → Q (scale K c x)) →
       ((i : ℕ) → i < length T.basis → weight_at T i ≤ d → Q (place K i)) → (x : Vector K) → IsBelow K T d x → Q x
   by_below d Q start plus times there x h = by_places K (length T.basis) (λ i. weight_at T i ≤ d) Q start plus times there x h
 
@@ -45,10 +46,12 @@ module _ (K : Field) (P : Presentation K.Carrier) (T : Table K) (tree : ℕ → 
       DerivesFreely K P (bracket_of (comb x) (comb y)) (comb (bracket K T x y))
   bracket_combined b c m x y h k =
       by_below b (λ x. DerivesFreely K P (bracket_of (comb x) (comb y)) (comb (bracket K T x y)))
-      (then (in_left (comb y) (combined_vzero K P tree n)) (then (none_left K P (comb y)) (back (then (of_path K P _ _ (ap comb (vzero-bracket K T y))) (combined_vzero K P tree n)))))
+      (then (in_left (comb y) (combined_vzero K P tree n))
+      (then (none_left K P (comb y)) (back (then (of_path K P _ _ (ap comb (vzero-bracket K T y))) (combined_vzero K P tree n)))))
       (λ u v p q.
       then (in_left (comb y) (combined_vplus K P tree n u v))
-      (then (both_left K P _ _ _) (then (both_same K P p q) (back (then (of_path K P _ _ (ap comb (vplus-bracket K T u v y))) (combined_vplus K P tree n _ _))))))
+      (then (both_left K P _ _ _) (then (both_same K P p q)
+      (back (then (of_path K P _ _ (ap comb (vplus-bracket K T u v y))) (combined_vplus K P tree n _ _))))))
       (λ a u p.
       then (in_left (comb y) (combined_scale K P tree n a u))
       (then (left_multiple a _ _) (then (in_multiple a p) (back (then (of_path K P _ _ (ap comb (scale-bracket K T a u y))) (combined_scale K P tree n a _))))))
@@ -60,13 +63,16 @@ module _ (K : Field) (P : Presentation K.Carrier) (T : Table K) (tree : ℕ → 
       at_place : (i : ℕ) → i < n → weight_at T i ≤ b → DerivesFreely K P (bracket_of (tree i) (comb y)) (comb (bracket K T (place K i) y))
       at_place i l d =
           by_below c (λ y. DerivesFreely K P (bracket_of (tree i) (comb y)) (comb (bracket K T (place K i) y)))
-          (then (in_right (tree i) (combined_vzero K P tree n)) (then (none_right K P (tree i)) (back (then (of_path K P _ _ (ap comb (bracket-vzero K T (place K i)))) (combined_vzero K P tree n)))))
+          (then (in_right (tree i) (combined_vzero K P tree n)) (then (none_right K P (tree i))
+          (back (then (of_path K P _ _ (ap comb (bracket-vzero K T (place K i)))) (combined_vzero K P tree n)))))
           (λ u v p q.
           then (in_right (tree i) (combined_vplus K P tree n u v))
-          (then (both_right K P _ _ _) (then (both_same K P p q) (back (then (of_path K P _ _ (ap comb (bracket-vplus K T (place K i) u v))) (combined_vplus K P tree n _ _))))))
+          (then (both_right K P _ _ _) (then (both_same K P p q)
+          (back (then (of_path K P _ _ (ap comb (bracket-vplus K T (place K i) u v))) (combined_vplus K P tree n _ _))))))
           (λ a u p.
           then (in_right (tree i) (combined_scale K P tree n a u))
-          (then (right_multiple a _ _) (then (in_multiple a p) (back (then (of_path K P _ _ (ap comb (bracket-scale K T a (place K i) u))) (combined_scale K P tree n a _))))))
+          (then (right_multiple a _ _) (then (in_multiple a p)
+          (back (then (of_path K P _ _ (ap comb (bracket-scale K T a (place K i) u))) (combined_scale K P tree n a _))))))
           (λ j l' d'.
           then (in_right (tree i) (combined_place K P tree n j l'))
           (then (sound.entries i j l l' (omega arith)) (of_path K P _ _ (ap comb (sym (bracket_places K T i j l l')))))) y k

@@ -79,11 +79,13 @@ outer_kind K T number S i j a b c = go (ℕ_discrete (weight_at T i + weight_at 
     by_order : weight_at T i + weight_at T j ≡ suc T.weight → Dec (i < j) → Dec (j < i) → Only K S (signed K (parity_at T) (λ i j. place K (number i j)) i j)
     by_order w (yes l) d = subst (Only K S) (sym (signed_below K (parity_at T) (λ i j. place K (number i j)) i j l)) (only_place K S (number i j) (a w l))
     by_order w (no l) (yes d) =
-        subst (Only K S) (sym (signed_above K (parity_at T) (λ i j. place K (number i j)) i j d)) (only_scale K S _ _ (only_place K S (number j i) (b (omega arith) d)))
+        subst (Only K S) (sym (signed_above K (parity_at T) (λ i j. place K (number i j)) i j d))
+        (only_scale K S _ _ (only_place K S (number j i) (b (omega arith) d)))
     by_order w (no l) (no d) =
         let e : i ≡ j = omega arith in
         subst (λ j. Only K S (signed K (parity_at T) (λ i j. place K (number i j)) i j)) e
-        (subst (Only K S) (sym (signed_itself K (parity_at T) (λ i j. place K (number i j)) i)) (itself e (parity_at T i) refl (subst (λ u. weight_at T i + weight_at T u ≡ suc T.weight) (sym e) w)))
+        (subst (Only K S) (sym (signed_itself K (parity_at T) (λ i j. place K (number i j)) i))
+        (itself e (parity_at T i) refl (subst (λ u. weight_at T i + weight_at T u ≡ suc T.weight) (sym e) w)))
 
     go : Dec (weight_at T i + weight_at T j ≡ suc T.weight) → Only K S (outer_place K T number i j)
     go (yes w) = subst (Only K S) (sym (outer_within K T number i j w)) (by_order w (dec_lt i j) (dec_lt j i))
@@ -96,14 +98,17 @@ module _ (K : Field) (P : Presentation K.Carrier) (T : Table K) (tree : ℕ → 
   abbrev pub parity_of : ℕ → Parity
   parity_of s = symbol_parity P T (symbol_at P T s)
 
-  pub numbered : (i j : ℕ) → i < length T.basis → j < length T.basis → weight_at T i + weight_at T j ≡ suc T.weight → (i < j) ⊎ ((i ≡ j) × (parity_at T i ≡ odd)) →
+  pub numbered : (i j : ℕ) → i < length T.basis → j < length T.basis → weight_at T i + weight_at T j ≡ suc T.weight →
+      (i < j) ⊎ ((i ≡ j) × (parity_at T i ≡ odd)) →
       (pair_number P T i j < length (symbols P T)) × (symbol (pair_number P T i j) ≡ bracket_of (tree i) (tree j))
   numbered i j l k w r = let h = number_of K P T (of_pair i j) (is_pair i j l k w r) in (h.0, ap (symbol_tree tree) h.1)
 
-  pub generators_numbered : (g : ℕ) → g < length P.generators → (generator P g).weight ≡ suc T.weight → (generator_number P T g < length (symbols P T)) × (symbol (generator_number P T g) ≡ gen g)
+  pub generators_numbered : (g : ℕ) → g < length P.generators → (generator P g).weight ≡ suc T.weight →
+      (generator_number P T g < length (symbols P T)) × (symbol (generator_number P T g) ≡ gen g)
   generators_numbered g l w = let h = number_of K P T (of_generator g) (is_generator g l w) in (h.0, ap (symbol_tree tree) h.1)
 
-  pub pair_parity : (i j : ℕ) → i < length T.basis → j < length T.basis → weight_at T i + weight_at T j ≡ suc T.weight → (i < j) ⊎ ((i ≡ j) × (parity_at T i ≡ odd)) →
+  pub pair_parity : (i j : ℕ) → i < length T.basis → j < length T.basis → weight_at T i + weight_at T j ≡ suc T.weight →
+      (i < j) ⊎ ((i ≡ j) × (parity_at T i ≡ odd)) →
       parity_of (pair_number P T i j) ≡ parity_sum (parity_at T i) (parity_at T j)
   pair_parity i j l k w r = let h = number_of K P T (of_pair i j) (is_pair i j l k w r) in ap (symbol_parity P T) h.1
 
@@ -112,7 +117,8 @@ module _ (K : Field) (P : Presentation K.Carrier) (T : Table K) (tree : ℕ → 
       outer_kind K T (pair_number P T) (λ s. s < length (symbols P T)) i j
       (λ w h. (numbered i j l k w (inl h)).0) (λ w h. (numbered j i k l w (inl h)).0) (λ e w h. (numbered i i l l w (inr (refl, h))).0)
 
-  pub outer_place_only : (i j : ℕ) → i < length T.basis → j < length T.basis → Only K (λ s. parity_of s ≡ parity_sum (parity_at T i) (parity_at T j)) (outer_place K T (pair_number P T) i j)
+  pub outer_place_only : (i j : ℕ) → i < length T.basis → j < length T.basis → Only K (λ s. parity_of s ≡ parity_sum (parity_at T i) (parity_at T j))
+      (outer_place K T (pair_number P T) i j)
   outer_place_only i j l k =
       outer_kind K T (pair_number P T) (λ s. parity_of s ≡ parity_sum (parity_at T i) (parity_at T j)) i j
       (λ w h. pair_parity i j l k w (inl h)) (λ w h. pair_parity j i k l w (inl h) ∙ parity_comm (parity_at T j) (parity_at T i))
@@ -121,7 +127,8 @@ module _ (K : Field) (P : Presentation K.Carrier) (T : Table K) (tree : ℕ → 
   pub outer_only : (s t : Parity) (x y : Vector K) → IsIn K T s x → IsIn K T t y → Only K (λ u. parity_of u ≡ parity_sum s t) (outer K T (pair_number P T) x y)
   unfolding outer
   outer_only s t =
-      bilinear_kind K (length T.basis) (outer_place K T (pair_number P T)) (λ i. parity_at T i ≡ s) (λ i. parity_at T i ≡ t) (Only K (λ u. parity_of u ≡ parity_sum s t))
+      bilinear_kind K (length T.basis) (outer_place K T (pair_number P T)) (λ i. parity_at T i ≡ s) (λ i. parity_at T i ≡ t)
+      (Only K (λ u. parity_of u ≡ parity_sum s t))
       (only_vzero K _) (only_vplus K _) (only_scale K _)
       (λ i j l k d e. subst (λ w. Only K (λ u. parity_of u ≡ w) (outer_place K T (pair_number P T) i j)) (ap₂ parity_sum d e) (outer_place_only i j l k))
 
@@ -144,7 +151,8 @@ module _ (K : Field) (P : Presentation K.Carrier) (T : Table K) (tree : ℕ → 
       turn {s} {t} {x} e h = subst (λ w. Only K (λ u. parity_of u ≡ w) x) e h
 
   cube_only : (i : ℕ) → i < length T.basis → parity_at T i ≡ odd → Only K (λ s. parity_of s ≡ odd) (cube_row K P T i)
-  cube_only i l e = outer_only odd even (place K i) _ (in_place K T i odd l e) (in_bracket K T (graded K P T tree facts) odd odd _ _ (in_place K T i odd l e) (in_place K T i odd l e))
+  cube_only i l e = outer_only odd even (place K i) _ (in_place K T i odd l e) (in_bracket K T (graded K P T tree facts) odd odd _ _
+      (in_place K T i odd l e) (in_place K T i odd l e))
 
   pub outer_vzero : (x : Vector K) → outer K T (pair_number P T) x (vzero K) ≡ vzero K
   unfolding outer
@@ -175,7 +183,8 @@ module _ (K : Field) (P : Presentation K.Carrier) (T : Table K) (tree : ℕ → 
   mutual
     unfolding row_of
 
-    pub row_only : {e : Tree K.Carrier} {d : ℕ} {s : Parity} → WeightIs P e d → d ≡ suc T.weight → HasParity P e s → Only K (λ u. parity_of u ≡ s) (row_of K T (pair_number P T) (generator_number P T) e)
+    pub row_only : {e : Tree K.Carrier} {d : ℕ} {s : Parity} → WeightIs P e d → d ≡ suc T.weight → HasParity P e s →
+        Only K (λ u. parity_of u ≡ s) (row_of K T (pair_number P T) (generator_number P T) e)
     row_only (weight_void d h) w k = void_only _ h
     row_only (weight_gen g l) w (parity_void s h) = void_only s h
     row_only (weight_gen g l) w (parity_gen _ m) = only_place K _ _ (ap (symbol_parity P T) (number_of K P T (of_generator g) (is_generator g l w)).1)
@@ -184,9 +193,11 @@ module _ (K : Field) (P : Presentation K.Carrier) (T : Table K) (tree : ℕ → 
     row_only (weight_multiple h) w (parity_void s v) = void_only s v
     row_only (weight_multiple {c = c} h) w (parity_multiple k) = only_scale K _ c _ (row_only h w k)
     row_only (weight_bracket h k) w (parity_void s v) = void_only s v
-    row_only (weight_bracket h k) w (parity_bracket p q) = outer_only _ _ _ _ (val_in K P T (obeys K P T tree facts) p) (val_in K P T (obeys K P T tree facts) q)
+    row_only (weight_bracket h k) w (parity_bracket p q) = outer_only _ _ _ _ (val_in K P T (obeys K P T tree facts) p)
+        (val_in K P T (obeys K P T tree facts) q)
 
-    pub rows_only : {es : Trees K.Carrier} {d : ℕ} {s : Parity} → WeightsAre P es d → d ≡ suc T.weight → HaveParity P es s → Only K (λ u. parity_of u ≡ s) (rows_of_all K T (pair_number P T) (generator_number P T) es)
+    pub rows_only : {es : Trees K.Carrier} {d : ℕ} {s : Parity} → WeightsAre P es d → d ≡ suc T.weight → HaveParity P es s →
+        Only K (λ u. parity_of u ≡ s) (rows_of_all K T (pair_number P T) (generator_number P T) es)
     rows_only weight_end w k = only_vzero K _
     rows_only (weight_more h k) w (parity_more p q) = only_vplus K _ _ _ (row_only h w p) (rows_only k w q)
 

@@ -44,7 +44,8 @@ module _ (K : Field) (parity : ℕ → Parity) (entry : ℕ → ℕ → Vector K
 
 -- a linear function goes through signs, and signs go by the parities of the pair
 signed_linear : (K : Field) (parity parity' : ℕ → Parity) (f : Vector K → Vector K) → IsLinear K f → (entry entry' : ℕ → ℕ → Vector K) (i j : ℕ) →
-    parity' i ≡ parity i → parity' j ≡ parity j → (i < j → entry' i j ≡ f (entry i j)) → (j < i → entry' j i ≡ f (entry j i)) → (i ≡ j → parity i ≡ odd → entry' i i ≡ f (entry i i)) →
+    parity' i ≡ parity i → parity' j ≡ parity j → (i < j → entry' i j ≡ f (entry i j)) → (j < i → entry' j i ≡ f (entry j i)) →
+    (i ≡ j → parity i ≡ odd → entry' i i ≡ f (entry i i)) →
     signed K parity' entry' i j ≡ f (signed K parity entry i j)
 signed_linear K parity parity' f h entry entry' i j p q a b c = go (dec_lt i j) (dec_lt j i)
   where
@@ -60,7 +61,8 @@ signed_linear K parity parity' f h entry entry' i j p q a b c = go (dec_lt i j) 
     go (no l) (no d) =
         let e : i ≡ j = omega arith in
         subst (λ w. signed K parity' entry' i w ≡ f (signed K parity entry i w)) e
-        (signed_itself K parity' entry' i ∙ ap (λ s. with_itself K s (entry' i i)) p ∙ at_itself (parity i) (entry i i) (entry' i i) (c e) ∙ ap f (sym (signed_itself K parity entry i)))
+        (signed_itself K parity' entry' i ∙ ap (λ s. with_itself K s (entry' i i)) p ∙ at_itself (parity i) (entry i i) (entry' i i) (c e) ∙
+        ap f (sym (signed_itself K parity entry i)))
 
 product_within : (K : Field) (T : Table K) (i j : ℕ) → weight_at T i + weight_at T j ≤ T.weight → product K T i j ≡ signed K (parity_at T) T.entry i j
 unfolding product
@@ -71,7 +73,8 @@ pub outer_within : (K : Field) (T : Table K) (number : ℕ → ℕ → ℕ) (i j
 unfolding outer_place
 outer_within K T number i j h = grind arith
 
-module _ (K : Field) (T T' : Table K) (number : ℕ → ℕ → ℕ) (meaning : Vector K → Vector K) (linear : IsLinear K meaning) (step : Extends K T T' number meaning) where
+module _ (K : Field) (T T' : Table K) (number : ℕ → ℕ → ℕ) (meaning : Vector K → Vector K) (linear : IsLinear K meaning)
+    (step : Extends K T T' number meaning) where
   weight_old : (i : ℕ) → i < length T.basis → weight_at T' i ≡ weight_at T i
   weight_old i l = ap (λ b. b.weight) (step.old i l)
 
@@ -81,15 +84,19 @@ module _ (K : Field) (T T' : Table K) (number : ℕ → ℕ → ℕ) (meaning : 
   pub product_kept : (i j : ℕ) → i < length T.basis → j < length T.basis → weight_at T i + weight_at T j ≤ T.weight → product K T' i j ≡ product K T i j
   product_kept i j l k h =
       product_within K T' i j (omega (arith, weight_old i l, weight_old j k, step.weight))
-      ∙ signed_linear K (parity_at T) (parity_at T') (λ v. v) (record { of_plus = λ u v. refl; of_scale = λ c u. refl }) T.entry T'.entry i j (parity_old i l) (parity_old j k)
-      (λ m. step.kept i j l k (inl m) h) (λ m. step.kept j i k l (inl m) (omega arith)) (λ e o. step.kept i i l l (inr (refl, o)) (subst (λ w. weight_at T i + weight_at T w ≤ T.weight) (sym e) h))
+      ∙ signed_linear K (parity_at T) (parity_at T') (λ v. v) (record { of_plus = λ u v. refl; of_scale = λ c u. refl }) T.entry T'.entry i j
+      (parity_old i l) (parity_old j k)
+      (λ m. step.kept i j l k (inl m) h) (λ m. step.kept j i k l (inl m) (omega arith)) (λ e o. step.kept i i l l (inr (refl, o))
+      (subst (λ w. weight_at T i + weight_at T w ≤ T.weight) (sym e) h))
       ∙ sym (product_within K T i j h)
 
-  pub product_filled : (i j : ℕ) → i < length T.basis → j < length T.basis → weight_at T i + weight_at T j ≡ suc T.weight → product K T' i j ≡ meaning (outer_place K T number i j)
+  pub product_filled : (i j : ℕ) → i < length T.basis → j < length T.basis → weight_at T i + weight_at T j ≡ suc T.weight →
+      product K T' i j ≡ meaning (outer_place K T number i j)
   product_filled i j l k h =
       product_within K T' i j (omega (arith, weight_old i l, weight_old j k, step.weight))
       ∙ signed_linear K (parity_at T) (parity_at T') meaning linear (λ i j. place K (number i j)) T'.entry i j (parity_old i l) (parity_old j k)
-      (λ m. step.filled i j l k (inl m) h) (λ m. step.filled j i k l (inl m) (omega arith)) (λ e o. step.filled i i l l (inr (refl, o)) (subst (λ w. weight_at T i + weight_at T w ≡ suc T.weight) (sym e) h))
+      (λ m. step.filled i j l k (inl m) h) (λ m. step.filled j i k l (inl m) (omega arith))
+      (λ e o. step.filled i i l l (inr (refl, o)) (subst (λ w. weight_at T i + weight_at T w ≡ suc T.weight) (sym e) h))
       ∙ ap meaning (sym (outer_within K T number i j h))
 
   n : ℕ
@@ -108,7 +115,8 @@ module _ (K : Field) (T T' : Table K) (number : ℕ → ℕ → ℕ) (meaning : 
       (bracket_linear_left K T') (bracket_linear_right K T')
       (λ y. linear_after K meaning _ linear (outer_left y)) (λ x. linear_after K meaning _ linear (outer_right x))
       (λ i j l k p q.
-      bracket_places K T' i j (omega (arith, step.more)) (omega (arith, step.more)) ∙ product_filled i j l k (omega arith) ∙ ap meaning (sym (outer_places i j l k)))
+      bracket_places K T' i j (omega (arith, step.more)) (omega (arith, step.more)) ∙ product_filled i j l k (omega arith) ∙
+      ap meaning (sym (outer_places i j l k)))
     where
       outer_left : (y : Vector K) → IsLinear K (λ x. outer K T number x y)
       outer_left y = unfold outer in (bilinear_left K (length T.basis) (outer_place K T number) y)
@@ -140,7 +148,8 @@ module _ (K : Field) (T T' : Table K) (number : ℕ → ℕ → ℕ) (meaning : 
     here' i l = place_stands K (length T'.basis) (λ k. weight_at T' k ≡ weight_at T' i) i l refl
 
     -- past the new weight
-    jacobi_past : (i j k : ℕ) → i < length T'.basis → j < length T'.basis → k < length T'.basis → suc T.weight < weight_at T' i + weight_at T' j + weight_at T' k → HasJacobi K T' i j k
+    jacobi_past : (i j k : ℕ) → i < length T'.basis → j < length T'.basis → k < length T'.basis →
+        suc T.weight < weight_at T' i + weight_at T' j + weight_at T' k → HasJacobi K T' i j k
     jacobi_past i j k p q r m =
         bracket_past (weight_at T' i) (weight_at T' j + weight_at T' k) (omega arith) _ _ (here' i p) (inner' j k q r)
         ∙ sym
@@ -162,7 +171,8 @@ module _ (K : Field) (T T' : Table K) (number : ℕ → ℕ → ℕ) (meaning : 
         ap (λ w. bracket K T' w (place K k)) (bracket_kept (weight_at T i) (weight_at T j) (omega arith) _ _ (here i p) (here j q))
         ∙ bracket_kept (weight_at T i + weight_at T j) (weight_at T k) m _ _ (inner i j p q) (here k r)
 
-    jacobi_kept : (i j k : ℕ) → i < length T.basis → j < length T.basis → k < length T.basis → weight_at T i + weight_at T j + weight_at T k ≤ T.weight → HasJacobi K T i j k → HasJacobi K T' i j k
+    jacobi_kept : (i j k : ℕ) → i < length T.basis → j < length T.basis → k < length T.basis →
+        weight_at T i + weight_at T j + weight_at T k ≤ T.weight → HasJacobi K T i j k → HasJacobi K T' i j k
     jacobi_kept i j k p q r m e =
         right_kept i j k p q r (omega arith) ∙ e
         ∙ ap₂ (vplus K) (sym (left_kept i j k p q r m))
@@ -170,13 +180,15 @@ module _ (K : Field) (T T' : Table K) (number : ℕ → ℕ → ℕ) (meaning : 
         ∙ ap (scale K (sign K (parity_at T' i) (parity_at T' j))) (sym (right_kept j i k q p r (omega arith))))
 
     -- at the new weight
-    pub right_filled : (i j k : ℕ) → i < length T.basis → j < length T.basis → k < length T.basis → 0 < weight_at T i → weight_at T i + (weight_at T j + weight_at T k) ≡ suc T.weight →
+    pub right_filled : (i j k : ℕ) → i < length T.basis → j < length T.basis → k < length T.basis → 0 < weight_at T i →
+        weight_at T i + (weight_at T j + weight_at T k) ≡ suc T.weight →
         bracket K T' (place K i) (bracket K T' (place K j) (place K k)) ≡ meaning (outer K T number (place K i) (bracket K T (place K j) (place K k)))
     right_filled i j k p q r z m =
         ap (bracket K T' (place K i)) (bracket_kept (weight_at T j) (weight_at T k) (omega arith) _ _ (here j q) (here k r))
         ∙ bracket_filled (weight_at T i) (weight_at T j + weight_at T k) m _ _ (here i p) (inner j k q r)
 
-    left_filled : (i j k : ℕ) → i < length T.basis → j < length T.basis → k < length T.basis → 0 < weight_at T k → weight_at T i + weight_at T j + weight_at T k ≡ suc T.weight →
+    left_filled : (i j k : ℕ) → i < length T.basis → j < length T.basis → k < length T.basis → 0 < weight_at T k →
+        weight_at T i + weight_at T j + weight_at T k ≡ suc T.weight →
         bracket K T' (bracket K T' (place K i) (place K j)) (place K k) ≡ meaning (outer K T number (bracket K T (place K i) (place K j)) (place K k))
     left_filled i j k p q r z m =
         ap (λ w. bracket K T' w (place K k)) (bracket_kept (weight_at T i) (weight_at T j) (omega arith) _ _ (here i p) (here j q))
@@ -191,14 +203,17 @@ module _ (K : Field) (T T' : Table K) (number : ℕ → ℕ → ℕ) (meaning : 
         ∙ linear.of_plus _ _
         ∙ ap₂ (vplus K) (sym (left_filled i j k p q r zk m))
         (linear.of_scale _ _
-        ∙ ap₂ (λ s t. scale K (sign K s t) (meaning (outer K T number (place K j) (bracket K T (place K i) (place K k))))) (sym (parity_old i p)) (sym (parity_old j q))
+        ∙ ap₂ (λ s t. scale K (sign K s t) (meaning (outer K T number (place K j) (bracket K T (place K i) (place K k))))) (sym (parity_old i p))
+        (sym (parity_old j q))
         ∙ ap (scale K (sign K (parity_at T' i) (parity_at T' j))) (sym (right_filled j i k q p r zj (omega arith))))
 
     -- all triples, ordered or not
     pub jacobi_next : ((i j k : ℕ) → i ≤ j → j ≤ k → k < length T.basis → HasJacobi K T i j k) →
-        ((i j k : ℕ) → i ≤ j → j ≤ k → k < length T.basis → weight_at T i + weight_at T j + weight_at T k ≡ suc T.weight → meaning (jacobi_row K T number i j k) ≡ vzero K) →
+        ((i j k : ℕ) → i ≤ j → j ≤ k → k < length T.basis → weight_at T i + weight_at T j + weight_at T k ≡ suc T.weight →
+        meaning (jacobi_row K T number i j k) ≡ vzero K) →
         (i j k : ℕ) → i ≤ j → j ≤ k → k < length T'.basis → HasJacobi K T' i j k
-    jacobi_next before rows i j k o o' l = go (dec_lt k (length T.basis)) (dec_le (weight_at T i + weight_at T j + weight_at T k) T.weight) (ℕ_discrete (weight_at T i + weight_at T j + weight_at T k) (suc T.weight))
+    jacobi_next before rows i j k o o' l = go (dec_lt k (length T.basis)) (dec_le (weight_at T i + weight_at T j + weight_at T k) T.weight)
+        (ℕ_discrete (weight_at T i + weight_at T j + weight_at T k) (suc T.weight))
       where
         i' : i < length T'.basis
         i' = omega arith
@@ -209,9 +224,11 @@ module _ (K : Field) (T T' : Table K) (number : ℕ → ℕ → ℕ) (meaning : 
         positive : (m : ℕ) → m < length T.basis → 0 < weight_at T m
         positive m h = omega (arith, weight_old m h, step.positive m (omega (arith, step.more)))
 
-        go : Dec (k < length T.basis) → Dec (weight_at T i + weight_at T j + weight_at T k ≤ T.weight) → Dec (weight_at T i + weight_at T j + weight_at T k ≡ suc T.weight) → HasJacobi K T' i j k
+        go : Dec (k < length T.basis) → Dec (weight_at T i + weight_at T j + weight_at T k ≤ T.weight) →
+            Dec (weight_at T i + weight_at T j + weight_at T k ≡ suc T.weight) → HasJacobi K T' i j k
         go (yes h) (yes b) d = jacobi_kept i j k (omega arith) (omega arith) h b (before i j k o o' h)
-        go (yes h) (no b) (yes d) = jacobi_filled i j k (omega arith) (omega arith) h (positive i (omega arith)) (positive j (omega arith)) (positive k h) d (rows i j k o o' h d)
+        go (yes h) (no b) (yes d) = jacobi_filled i j k (omega arith) (omega arith) h (positive i (omega arith)) (positive j (omega arith))
+            (positive k h) d (rows i j k o o' h d)
         go (yes h) (no b) (no d) =
             jacobi_past i j k i' j' l (omega (arith, weight_old i (omega arith), weight_old j (omega arith), weight_old k h))
         go (no h) b d = jacobi_past i j k i' j' l (omega (arith, step.fresh k (omega arith) l, step.positive i i', step.positive j j'))

@@ -31,7 +31,15 @@ at_either l l' k x h = go (dec_lt k (length l))
     go (yes m) = inl (m, sym (get_or_append_left l l' no_symbol k m) ∙ h.1)
     go (no m) =
         let e : k ≡ length l + (k - length l) = omega arith in
-        inr (k - length l, (omega (arith, length-append l l', h.0), sym (get_or-append-add l l' (k - length l) no_symbol) ∙ ap (λ w. get_or (l ++ l') w no_symbol) (sym e) ∙ h.1), e)
+        inr (
+          k - length l,
+          (
+            omega (arith, length-append l l', h.0),
+            sym (get_or-append-add l l' (k - length l) no_symbol) ∙
+                ap (λ w. get_or (l ++ l') w no_symbol) (sym e) ∙ h.1,
+          ),
+          e,
+        )
 
 joined_at : (n : ℕ) (f : ℕ → List Symbol) (i k : ℕ) (x : Symbol) → i < n → At (f i) k x → (k' : ℕ) × At (joined n f) k' x
 unfolding joined
@@ -47,7 +55,8 @@ unfolding joined
 at_joined zero f k x h = absurd (omega (arith, h.0))
 at_joined (suc n) f k x h = go (at_either (joined n f) (f n) k x h) (at_joined n f k x)
   where
-    go : (At (joined n f) k x) ⊎ ((k' : ℕ) × (At (f n) k' x) × (k ≡ length (joined n f) + k')) → (At (joined n f) k x → (i : ℕ) × (i < n) × (k' : ℕ) × At (f i) k' x) →
+    go : (At (joined n f) k x) ⊎ ((k' : ℕ) × (At (f n) k' x) × (k ≡ length (joined n f) + k')) →
+        (At (joined n f) k x → (i : ℕ) × (i < n) × (k' : ℕ) × At (f i) k' x) →
         (i : ℕ) × (i < suc n) × (k' : ℕ) × At (f i) k' x
     go (inl g) t = let r = t g in (r.0, omega (arith, r.1), r.2, r.3)
     go (inr g) t = (n, omega arith, g.0, g.1)
@@ -109,7 +118,8 @@ at_place_of (y ∷ ys) k x h = go (same_symbol x y) refl (λ k. at_place_of ys k
     go false e t = later e t k h
 
 module _ (K : Field) (P : Presentation K.Carrier) (T : Table K) where
-  regular_is : (i j : ℕ) → is_pair_of T (suc T.weight) i j ≡ true → (weight_at T i + weight_at T j ≡ suc T.weight) × ((i < j) ⊎ ((i ≡ j) × (parity_at T i ≡ odd)))
+  regular_is : (i j : ℕ) → is_pair_of T (suc T.weight) i j ≡ true → (weight_at T i + weight_at T j ≡ suc T.weight) ×
+      ((i < j) ⊎ ((i ≡ j) × (parity_at T i ≡ odd)))
   regular_is i j e = go (ℕ_discrete (weight_at T i + weight_at T j) (suc T.weight)) (dec_lt i j) (ℕ_discrete i j) (parity_at T i) refl
     where
       go : Dec (weight_at T i + weight_at T j ≡ suc T.weight) → Dec (i < j) → Dec (i ≡ j) → (s : Parity) → parity_at T i ≡ s →
@@ -120,7 +130,8 @@ module _ (K : Field) (P : Presentation K.Carrier) (T : Table K) where
       go (yes a) (no b) (no c) s p = absurd (grind arith)
       go (no a) b c s p = absurd (grind arith)
 
-  is_regular_pair : (i j : ℕ) → weight_at T i + weight_at T j ≡ suc T.weight → (i < j) ⊎ ((i ≡ j) × (parity_at T i ≡ odd)) → is_pair_of T (suc T.weight) i j ≡ true
+  is_regular_pair : (i j : ℕ) → weight_at T i + weight_at T j ≡ suc T.weight → (i < j) ⊎ ((i ≡ j) × (parity_at T i ≡ odd)) →
+      is_pair_of T (suc T.weight) i j ≡ true
   is_regular_pair i j a (inl b) = grind arith
   is_regular_pair i j a (inr b) = let e = b.0 in let f = b.1 in grind arith
 
@@ -131,25 +142,30 @@ module _ (K : Field) (P : Presentation K.Carrier) (T : Table K) where
   pub symbol_stands : (x : Symbol) → IsSymbol P T x → (k : ℕ) × At (symbols P T) k x
   unfolding symbols symbols_of
   symbol_stands _ (is_generator g l e) =
-      let r = joined_at (length P.generators) (λ g. cond (nat_eq (generator P g).weight (suc T.weight)) (of_generator g ∷ []) []) g 0 (of_generator g) l (if_one _ (of_generator g) (grind arith)) in
+      let r = joined_at (length P.generators) (λ g. cond (nat_eq (generator P g).weight (suc T.weight)) (of_generator g ∷ []) []) g 0
+      (of_generator g) l (if_one _ (of_generator g) (grind arith)) in
       (r.0, at_left (generators_of P (suc T.weight)) (pairs_of T (suc T.weight)) r.0 (of_generator g) r.1)
   symbol_stands _ (is_pair i j l m a b) =
-      let r = joined_at (length T.basis) (λ j. cond (is_pair_of T (suc T.weight) i j) (of_pair i j ∷ []) []) j 0 (of_pair i j) m (if_one _ (of_pair i j) (is_regular_pair i j a b)) in
+      let r = joined_at (length T.basis) (λ j. cond (is_pair_of T (suc T.weight) i j) (of_pair i j ∷ []) []) j 0 (of_pair i j) m
+      (if_one _ (of_pair i j) (is_regular_pair i j a b)) in
       let t = joined_at (length T.basis) row_of_pairs i r.0 (of_pair i j) l r.1 in
       (length (generators_of P (suc T.weight)) + t.0, at_right (generators_of P (suc T.weight)) (pairs_of T (suc T.weight)) t.0 (of_pair i j) t.1)
 
-  in_generators : (x : Symbol) (k : ℕ) → At (generators_of P (suc T.weight)) k x → (g : ℕ) × (g < length P.generators) × ((generator P g).weight ≡ suc T.weight) × (x ≡ of_generator g)
+  in_generators : (x : Symbol) (k : ℕ) → At (generators_of P (suc T.weight)) k x → (g : ℕ) × (g < length P.generators) ×
+      ((generator P g).weight ≡ suc T.weight) × (x ≡ of_generator g)
   in_generators x k h =
       let r = at_joined (length P.generators) (λ g. cond (nat_eq (generator P g).weight (suc T.weight)) (of_generator g ∷ []) []) k x h in
       let t = one_if _ (of_generator r.0) x r.2 r.3 in
       (r.0, r.1, (let e = t.0 in grind arith), t.1)
 
-  in_row : (i : ℕ) (x : Symbol) (k : ℕ) → At (row_of_pairs i) k x → (j : ℕ) × (j < length T.basis) × (is_pair_of T (suc T.weight) i j ≡ true) × (x ≡ of_pair i j)
+  in_row : (i : ℕ) (x : Symbol) (k : ℕ) → At (row_of_pairs i) k x → (j : ℕ) × (j < length T.basis) × (is_pair_of T (suc T.weight) i j ≡ true) ×
+      (x ≡ of_pair i j)
   in_row i x k h =
       let r = at_joined (length T.basis) (λ j. cond (is_pair_of T (suc T.weight) i j) (of_pair i j ∷ []) []) k x h in
       let t = one_if _ (of_pair i r.0) x r.2 r.3 in (r.0, r.1, t.0, t.1)
 
-  in_pairs : (x : Symbol) (k : ℕ) → At (pairs_of T (suc T.weight)) k x → (i : ℕ) × (i < length T.basis) × (j : ℕ) × (j < length T.basis) × (is_pair_of T (suc T.weight) i j ≡ true) × (x ≡ of_pair i j)
+  in_pairs : (x : Symbol) (k : ℕ) → At (pairs_of T (suc T.weight)) k x → (i : ℕ) × (i < length T.basis) × (j : ℕ) × (j < length T.basis) ×
+      (is_pair_of T (suc T.weight) i j ≡ true) × (x ≡ of_pair i j)
   in_pairs x k h =
       let r = at_joined (length T.basis) row_of_pairs k x h in
       let t = in_row r.0 x r.2 r.3 in (r.0, r.1, t.0, t.1, t.2, t.3)
@@ -159,7 +175,8 @@ module _ (K : Field) (P : Presentation K.Carrier) (T : Table K) where
   unfolding symbols symbols_of
   is_symbol x k h = go (at_either (generators_of P (suc T.weight)) (pairs_of T (suc T.weight)) k x h)
     where
-      go : (At (generators_of P (suc T.weight)) k x) ⊎ ((k' : ℕ) × (At (pairs_of T (suc T.weight)) k' x) × (k ≡ length (generators_of P (suc T.weight)) + k')) → IsSymbol P T x
+      go : (At (generators_of P (suc T.weight)) k x) ⊎ ((k' : ℕ) × (At (pairs_of T (suc T.weight)) k' x) ×
+          (k ≡ length (generators_of P (suc T.weight)) + k')) → IsSymbol P T x
       go (inl a) = let r = in_generators x k a in subst (IsSymbol P T) (sym r.3) (is_generator r.0 r.1 r.2)
       go (inr a) = let r = in_pairs x a.0 a.1 in let t = regular_is r.0 r.2 r.4 in subst (IsSymbol P T) (sym r.5) (is_pair r.0 r.2 r.1 r.3 t.0 t.1)
 

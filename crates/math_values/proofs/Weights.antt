@@ -46,7 +46,8 @@ meaning_linear K slot n row pivot = record {
 }
 
 -- what lies in the span of the closed rows means 0
-pub meaning_zero : (K : Field) (slot : ℕ → Option ℕ) (n : ℕ) (row : ℕ → Vector K) (pivot : ℕ → ℕ) → IsClosed K n row pivot → (v : Vector K) → InSpan K n row v → meaning_of K slot n row pivot v ≡ vzero K
+pub meaning_zero : (K : Field) (slot : ℕ → Option ℕ) (n : ℕ) (row : ℕ → Vector K) (pivot : ℕ → ℕ) → IsClosed K n row pivot → (v : Vector K) →
+    InSpan K n row v → meaning_of K slot n row pivot v ≡ vzero K
 unfolding meaning_of
 meaning_zero K slot n row pivot closed v h = ap (relabel K slot) (swept_span K n row pivot closed v h) ∙ linear_vzero K _ (relabel_linear K slot)
 
@@ -132,7 +133,8 @@ module _ (K : Field) (parity : ℕ → Parity) where
 
   module _ (n : ℕ) (row : ℕ → Vector K) (pivot : ℕ → ℕ) (closed : IsClosed K n row pivot) where
     -- the parts of what is spanned by vectors in the span that each lie in one parity are in the span
-    pub part_span : (t : Parity) (Kind : Vector K → Type 0) → ((v : Vector K) → Kind v → InSpan K n row v) → ((v : Vector K) → Kind v → (u : Parity) × Only K (λ s. parity s ≡ u) v) →
+    pub part_span : (t : Parity) (Kind : Vector K → Type 0) → ((v : Vector K) → Kind v → InSpan K n row v) →
+        ((v : Vector K) → Kind v → (u : Parity) × Only K (λ s. parity s ≡ u) v) →
         (v : Vector K) → Spanned K Kind v → InSpan K n row (part t v)
     part_span t Kind within lies =
         by_span K Kind (λ v. InSpan K n row (part t v)) (subst (InSpan K n row) (sym (linear_vzero K (part t) (part_linear t))) (span_vzero K n row))
@@ -176,11 +178,13 @@ module _ (K : Field) (P : Presentation K.Carrier) (symbol : ℕ → Expression K
   abbrev pub Free : ℕ → Type 0
   Free s = (i : ℕ) → i < n → pivot i ≢ s
 
-  total_zero : (l : ℕ) (f : ℕ → Vector K) → ((i : ℕ) → i < l → DerivesFreely K P (combined K symbol m (f i)) none) → DerivesFreely K P (combined K symbol m (total K l f)) none
+  total_zero : (l : ℕ) (f : ℕ → Vector K) → ((i : ℕ) → i < l → DerivesFreely K P (combined K symbol m (f i)) none) →
+      DerivesFreely K P (combined K symbol m (total K l f)) none
   unfolding total
   total_zero zero f h = combined_vzero K P symbol m
   total_zero (suc l) f h =
-      then (combined_vplus K P symbol m (total K l f) (f l)) (then (both_same K P (total_zero l f (λ i k. h i (omega arith))) (h l (omega arith))) (none_both K P none))
+      then (combined_vplus K P symbol m (total K l f) (f l)) (then (both_same K P (total_zero l f (λ i k. h i (omega arith))) (h l (omega arith)))
+      (none_both K P none))
 
   -- every combination of the closed rows is derivably 0
   pub span_zero : (v : Vector K) → InSpan K n row v → DerivesFreely K P (combined K symbol m v) none
@@ -193,14 +197,16 @@ module _ (K : Field) (P : Presentation K.Carrier) (symbol : ℕ → Expression K
   swept_derived v =
       back
       (then (combined_vplus K P symbol m v _)
-      (then (both_same K P same (then (combined_scale K P symbol m (K.minus K.unit) _) (then (in_multiple _ (span_zero _ ((λ i. v (pivot i)), refl))) (multiple_none K P _)))) (both_none K P _)))
+      (then (both_same K P same (then (combined_scale K P symbol m (K.minus K.unit) _) (then (in_multiple _ (span_zero _ ((λ i. v (pivot i)), refl)))
+      (multiple_none K P _)))) (both_none K P _)))
 
   pub swept_stands : (v : Vector K) → EndsAt K m v → Stands K m Free (swept K n row pivot v)
   swept_stands v h s = go (dec_lt s m) (find_pivot n pivot s)
     where
       go : Dec (s < m) → ((i : ℕ) × (i < n) × (pivot i ≡ s)) ⊎ ((i : ℕ) → i < n → pivot i ≢ s) → (swept K n row pivot v s ≡ K.nought) ⊎ ((s < m) × Free s)
       go (no l) d = inl (less_at K v _ s (combination_none K n row _ s (λ i k. rows_below i k s (omega arith)) ∙ sym (h s (omega arith))))
-      go (yes l) (inl f) = inl (subst (λ w. swept K n row pivot v w ≡ K.nought) f.2 (less_at K v _ (pivot f.0) (at_pivot K n row pivot closed (λ i. v (pivot i)) f.0 f.1)))
+      go (yes l) (inl f) = inl (subst (λ w. swept K n row pivot v w ≡ K.nought) f.2 (less_at K v _ (pivot f.0)
+          (at_pivot K n row pivot closed (λ i. v (pivot i)) f.0 f.1)))
       go (yes l) (inr f) = inr (l, f)
 
   pub symbol_sound : (s : ℕ) → s < m → DerivesFreely K P (symbol s) (combined K tree n' (meaning (place K s)))
@@ -209,13 +215,16 @@ module _ (K : Field) (P : Presentation K.Carrier) (symbol : ℕ → Expression K
       then (back (combined_place K P symbol m s l))
       (then (swept_derived (place K s))
       (by_places K m Free (λ u. DerivesFreely K P (combined K symbol m u) (combined K tree n' (relabel K slot u)))
-      (then (combined_vzero K P symbol m) (back (then (of_path K P _ _ (ap (combined K tree n') (linear_vzero K _ (relabel_linear K slot)))) (combined_vzero K P tree n'))))
+      (then (combined_vzero K P symbol m) (back (then (of_path K P _ _ (ap (combined K tree n') (linear_vzero K _ (relabel_linear K slot))))
+      (combined_vzero K P tree n'))))
       (λ u v p q.
       then (combined_vplus K P symbol m u v)
-      (then (both_same K P p q) (back (then (of_path K P _ _ (ap (combined K tree n') ((relabel_linear K slot).of_plus u v))) (combined_vplus K P tree n' _ _)))))
+      (then (both_same K P p q) (back (then (of_path K P _ _ (ap (combined K tree n') ((relabel_linear K slot).of_plus u v)))
+      (combined_vplus K P tree n' _ _)))))
       (λ c u p.
       then (combined_scale K P symbol m c u)
-      (then (in_multiple c p) (back (then (of_path K P _ _ (ap (combined K tree n') ((relabel_linear K slot).of_scale c u))) (combined_scale K P tree n' c _)))))
+      (then (in_multiple c p) (back (then (of_path K P _ _ (ap (combined K tree n') ((relabel_linear K slot).of_scale c u)))
+      (combined_scale K P tree n' c _)))))
       (λ t k f. let g = free t k f in
       then (combined_place K P symbol m t k)
       (back (then (of_path K P _ _ (ap (combined K tree n') g.2)) (then (combined_place K P tree n' g.0 g.1) (of_path K P _ _ g.3)))))
@@ -238,7 +247,8 @@ module _ (K : Field) (P : Presentation K.Carrier) (symbol : ℕ → Expression K
 
         one : d s ≡ K.unit
         one =
-            unfold vplus scale in (ap₂ (λ a b. K.plus a (K.times (K.minus K.unit) b)) (place_same K s) (small s (omega arith))) ∙ ap (K.plus K.unit) (times-nought K _) ∙ K.plus-nought _
+            unfold vplus scale in (ap₂ (λ a b. K.plus a (K.times (K.minus K.unit) b)) (place_same K s) (small s (omega arith))) ∙
+            ap (K.plus K.unit) (times-nought K _) ∙ K.plus-nought _
 
         past : (t : ℕ) → s < t → d t ≡ K.nought
         past t h = less_at K (place K s) u t (small t (omega arith) ∙ sym (place_other K s t (omega arith)))
@@ -247,7 +257,8 @@ module _ (K : Field) (P : Presentation K.Carrier) (symbol : ℕ → Expression K
         same_meaning =
             (meaning_linear K slot n row pivot).of_plus (place K s) _ ∙ ap (vplus K (meaning (place K s))) ((meaning_linear K slot n row pivot).of_scale _ u)
             ∙ ap (λ w. vplus K w (scale K (K.minus K.unit) (meaning u)))
-            (sym (value_is (place K s) (λ t h. place_other K s t (omega arith))) ∙ one_value _ _ (then (combined_place K P symbol m s l) e) ∙ value_is u (λ t h. small t (omega arith)))
+            (sym (value_is (place K s) (λ t h. place_other K s t (omega arith))) ∙ one_value _ _ (then (combined_place K P symbol m s l) e) ∙
+            value_is u (λ t h. small t (omega arith)))
             ∙ vplus_comm K _ _ ∙ minus-vplus K (meaning u)
 
         at : (t : ℕ) → (swept K n row pivot d t ≡ K.nought) ⊎ ((t < m) × Free t) → swept K n row pivot d t ≡ K.nought

@@ -51,13 +51,16 @@ some_not_none e = cc
 
 -- ascending lists in which the same is found at each position are one, as far as f tells
 module _ (X : Type 0) (f : PivotRow → X) where
-  pub ascending_same : (m n : ℕ) (ps qs : List PivotRow) → AscendsFrom m n ps → AscendsFrom m n qs → ((s : ℕ) → m < s → option_map f (find (stands_at s) ps) ≡ option_map f (find (stands_at s) qs)) → map f ps ≡ map f qs
+  pub ascending_same : (m n : ℕ) (ps qs : List PivotRow) → AscendsFrom m n ps → AscendsFrom m n qs →
+      ((s : ℕ) → m < s → option_map f (find (stands_at s) ps) ≡ option_map f (find (stands_at s) qs)) → map f ps ≡ map f qs
   ascending_same m n [] [] h k same = refl
   ascending_same m n [] (q ∷ qs) h k same = absurd (some_not_none (ap (option_map f) (sym (found_first q qs)) ∙ sym (same q.lead k.0)))
   ascending_same m n (p ∷ ps) [] h k same = absurd (some_not_none (ap (option_map f) (sym (found_first p ps)) ∙ same p.lead h.0))
-  ascending_same m n (p ∷ ps) (q ∷ qs) h k same = ap₂ (λ r rs. r ∷ rs) first (ascending_same p.lead n ps qs h.1 (subst (λ w. AscendsFrom w n qs) (sym leads) k.1) rest)
+  ascending_same m n (p ∷ ps) (q ∷ qs) h k same =
+      ap₂ (λ r rs. r ∷ rs) first (ascending_same p.lead n ps qs h.1 (subst (λ w. AscendsFrom w n qs) (sym leads) k.1) rest)
     where
-      at_least : (p q : PivotRow) (qs : List PivotRow) → AscendsFrom q.lead n qs → Some (f p) ≡ option_map f (find (stands_at p.lead) (q ∷ qs)) → Dec (p.lead < q.lead) → q.lead ≤ p.lead
+      at_least : (p q : PivotRow) (qs : List PivotRow) → AscendsFrom q.lead n qs → Some (f p) ≡ option_map f (find (stands_at p.lead) (q ∷ qs)) →
+          Dec (p.lead < q.lead) → q.lead ≤ p.lead
       at_least p q qs a e (yes l) = absurd (some_not_none (e ∙ ap (option_map f) (not_below p.lead n p.lead (q ∷ qs) (l, a) (omega arith))))
       at_least p q qs a e (no l) = omega arith
 
@@ -67,8 +70,10 @@ module _ (X : Type 0) (f : PivotRow → X) where
           let v = at_least q p ps h.1 (ap (option_map f) (sym (found_first q qs)) ∙ sym (same q.lead k.0)) (dec_lt q.lead p.lead) in omega arith
 
       first : f p ≡ f q
-      first = some_same (ap (option_map f) (sym (found_first p ps)) ∙ same p.lead h.0 ∙ ap (λ w. option_map f (find (stands_at w) (q ∷ qs))) leads ∙ ap (option_map f) (found_first q qs))
+      first = some_same (ap (option_map f) (sym (found_first p ps)) ∙ same p.lead h.0 ∙ ap (λ w. option_map f (find (stands_at w) (q ∷ qs))) leads ∙
+          ap (option_map f) (found_first q qs))
 
       rest : (s : ℕ) → p.lead < s → option_map f (find (stands_at s) ps) ≡ option_map f (find (stands_at s) qs)
       rest s l =
-          ap (option_map f) (sym (found_later p ps s l)) ∙ same s (let a = h.0 in omega arith) ∙ ap (option_map f) (found_later q qs s (let a = leads in omega arith))
+          ap (option_map f) (sym (found_later p ps s l)) ∙ same s (let a = h.0 in omega arith) ∙
+          ap (option_map f) (found_later q qs s (let a = leads in omega arith))

@@ -33,7 +33,8 @@ found_lead s pivots p e = (let t : nat_eq p.lead s ≡ true = test_passes (stand
 module _ (kind : Kind) (K : Field) (value : Num → K.Carrier) (reads : Reads kind K value) (listed : IsField kind) (n : ℕ) where
   pub pivot_leads : (p : PivotRow) → IsPivotRow kind n p → HasLead K (p.lead - 1) (vector_of K value p.row)
   pivot_leads p h = record {
-    leads = at_place kind K value reads p.row (p.lead - 1) (residue 0) (let a = h.from_one in let b = h.to_end in let c = h.length_is in omega arith) ∙ ap value h.leads ∙ one_is kind K value reads listed;
+    leads = at_place kind K value reads p.row (p.lead - 1) (residue 0) (let a = h.from_one in let b = h.to_end in let c = h.length_is in omega arith)
+        ∙ ap value h.leads ∙ one_is kind K value reads listed;
     above = λ t l. go t (let a = h.from_one in omega arith) (dec_lt t n);
   }
     where
@@ -41,14 +42,17 @@ module _ (kind : Kind) (K : Field) (value : Num → K.Carrier) (reads : Reads ki
       go t l (yes m) = nought_at kind K value reads p.row t h.elements (let c = h.length_is in omega arith) (h.above t l m)
       go t l (no m) = vector_past K value p.row t (let c = h.length_is in omega arith)
 
-  pub pivot_row : (p : PivotRow) → AreElements kind p.row → length p.row ≡ n → 1 ≤ p.lead → p.lead ≤ n → HasLead K (p.lead - 1) (vector_of K value p.row) → IsPivotRow kind n p
+  pub pivot_row : (p : PivotRow) → AreElements kind p.row → length p.row ≡ n → 1 ≤ p.lead → p.lead ≤ n →
+      HasLead K (p.lead - 1) (vector_of K value p.row) → IsPivotRow kind n p
   pivot_row p a len one end h = record {
     elements = a;
     length_is = len;
     from_one = one;
     to_end = end;
-    leads = reads.apart _ _ (a (p.lead - 1) (residue 0) (omega arith)) (one_element kind listed) (sym (at_place kind K value reads p.row (p.lead - 1) (residue 0) (omega arith)) ∙ h.leads ∙ sym (one_is kind K value reads listed));
-    above = λ t l m. is_nought_from kind K value reads _ (a t (residue 0) (omega arith)) (sym (at_place kind K value reads p.row t (residue 0) (omega arith)) ∙ h.above t (omega arith));
+    leads = reads.apart _ _ (a (p.lead - 1) (residue 0) (omega arith)) (one_element kind listed)
+        (sym (at_place kind K value reads p.row (p.lead - 1) (residue 0) (omega arith)) ∙ h.leads ∙ sym (one_is kind K value reads listed));
+    above = λ t l m. is_nought_from kind K value reads _ (a t (residue 0) (omega arith)) (sym
+        (at_place kind K value reads p.row t (residue 0) (omega arith)) ∙ h.above t (omega arith));
   }
 
   pub pivots_echelon : (pivots : List PivotRow) → All (IsPivotRow kind n) pivots → IsEchelon K n (table_of K value pivots)
@@ -57,9 +61,12 @@ module _ (kind : Kind) (K : Field) (value : Num → K.Carrier) (reads : Reads ki
     below = λ s u e. (found s u (find (stands_at (s + 1)) pivots) refl e).1;
   }
     where
-      found : (s : ℕ) (u : Vector K) (o : Option PivotRow) → find (stands_at (s + 1)) pivots ≡ o → option_map (λ p. vector_of K value p.row) o ≡ Some u → HasLead K s u × (s < n)
+      found : (s : ℕ) (u : Vector K) (o : Option PivotRow) → find (stands_at (s + 1)) pivots ≡ o →
+          option_map (λ p. vector_of K value p.row) o ≡ Some u → HasLead K s u × (s < n)
       found s u None f e = absurd (none_some e)
       found s u (Some p) f e =
           let h = all_found (IsPivotRow kind n) (stands_at (s + 1)) pivots p all (sym f) in
-          let l = found_lead (s + 1) pivots p (sym f) in
-          (subst (λ w. HasLead K w u) (let a : p.lead - 1 ≡ s = omega arith in a) (subst (HasLead K (p.lead - 1)) (some_same e) (pivot_leads p h)), (let b = h.to_end in omega arith))
+          let l = found_lead (s + 1) pivots p (sym f) in (
+            subst (λ w. HasLead K w u) (let a : p.lead - 1 ≡ s = omega arith in a) (subst (HasLead K (p.lead - 1)) (some_same e) (pivot_leads p h)),
+            (let b = h.to_end in omega arith),
+          )

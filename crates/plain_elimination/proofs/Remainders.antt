@@ -46,13 +46,16 @@ module _ (K : Field) where
   minus_twice : (a : K.Carrier) (u : Vector K) → scale K (K.minus a) u ≡ scale K (K.minus K.unit) (scale K a u)
   minus_twice a u = sym (scale_scale K (K.minus K.unit) a u ∙ ap (λ w. scale K w u) (minus-times K K.unit a ∙ ap K.minus (unit-times K a)))
 
-  one_more : (v t u : Vector K) (a : K.Carrier) → vplus K (vplus K v (scale K (K.minus K.unit) t)) (scale K (K.minus a) u) ≡ vplus K v (scale K (K.minus K.unit) (vplus K (scale K a u) t))
+  one_more : (v t u : Vector K) (a : K.Carrier) → vplus K (vplus K v (scale K (K.minus K.unit) t)) (scale K (K.minus a) u) ≡
+      vplus K v (scale K (K.minus K.unit) (vplus K (scale K a u) t))
   one_more v t u a =
       vplus_assoc K v _ _
       ∙ ap (vplus K v) (vplus_comm K _ _ ∙ ap (λ w. vplus K w (scale K (K.minus K.unit) t)) (minus_twice a u) ∙ sym (scale-vplus K _ _ _))
 
-  none_more : (v t u : Vector K) (a : K.Carrier) → a ≡ K.nought → vplus K v (scale K (K.minus K.unit) t) ≡ vplus K v (scale K (K.minus K.unit) (vplus K (scale K a u) t))
-  none_more v t u a e = ap (λ w. vplus K v (scale K (K.minus K.unit) w)) (sym (ap (λ w. vplus K w t) (ap (λ w. scale K w u) e ∙ scale-nought K u) ∙ vzero-vplus K t))
+  none_more : (v t u : Vector K) (a : K.Carrier) → a ≡ K.nought → vplus K v (scale K (K.minus K.unit) t) ≡
+      vplus K v (scale K (K.minus K.unit) (vplus K (scale K a u) t))
+  none_more v t u a e = ap (λ w. vplus K v (scale K (K.minus K.unit) w))
+      (sym (ap (λ w. vplus K w t) (ap (λ w. scale K w u) e ∙ scale-nought K u) ∙ vzero-vplus K t))
 
 module _ (kind : Kind) (K : Field) (value : Num → K.Carrier) (reads : Reads kind K value) where
   -- what is taken off in all
@@ -60,15 +63,18 @@ module _ (kind : Kind) (K : Field) (value : Num → K.Carrier) (reads : Reads ki
   taken [] v = vzero K
   taken (u ∷ us) v = vplus K (scale K (v (pivot_of u)) (vector_of K value u)) (taken us v)
 
-  taken_at : (us : List (List Num)) (v : Vector K) (s : ℕ) → ((i : ℕ) → i < length us → vector_of K value (get_or us i []) s ≡ K.nought) → taken us v s ≡ K.nought
+  taken_at : (us : List (List Num)) (v : Vector K) (s : ℕ) → ((i : ℕ) → i < length us → vector_of K value (get_or us i []) s ≡ K.nought) →
+      taken us v s ≡ K.nought
   unfolding taken
   taken_at [] v s h = zero_at K s
   taken_at (u ∷ us) v s h = sum_at K _ (vector_of K value u) (taken us v) s (h 0 (omega arith)) (taken_at us v s (λ i l. h (suc i) (omega arith)))
 
-  taken_is : (us : List (List Num)) (v : Vector K) → taken us v ≡ combination K (length us) (λ i. vector_of K value (get_or us i [])) (λ i. v (pivot_of (get_or us i [])))
+  taken_is : (us : List (List Num)) (v : Vector K) → taken us v ≡ combination K (length us) (λ i. vector_of K value (get_or us i []))
+      (λ i. v (pivot_of (get_or us i [])))
   unfolding taken total
   taken_is [] v = refl
-  taken_is (u ∷ us) v = ap (vplus K (scale K (v (pivot_of u)) (vector_of K value u))) (taken_is us v) ∙ sym (total_first K (length us) (λ i. scale K (v (pivot_of (get_or (u ∷ us) i []))) (vector_of K value (get_or (u ∷ us) i []))))
+  taken_is (u ∷ us) v = ap (vplus K (scale K (v (pivot_of u)) (vector_of K value u))) (taken_is us v) ∙
+      sym (total_first K (length us) (λ i. scale K (v (pivot_of (get_or (u ∷ us) i []))) (vector_of K value (get_or (u ∷ us) i []))))
 
   abbrev Closes : List (List Num) → Type 0
   Closes us = IsClosed K (length us) (λ i. vector_of K value (get_or us i [])) (λ i. pivot_of (get_or us i []))
@@ -89,8 +95,10 @@ module _ (kind : Kind) (K : Field) (value : Num → K.Carrier) (reads : Reads ki
       go None e = absurd (K.unit≢nought (sym one ∙ ap (λ w. w (pivot_of u)) (all_nought kind K value reads u a e) ∙ zero_at K (pivot_of u)))
       go (Some s) e = (s, e)
 
-  take_reads : (n : ℕ) (u w z : List Num) (s : ℕ) (v t : Vector K) → IsRowOf kind n u → lead_of u ≡ Some s → IsFor kind K value reads n (vplus K v (scale K (K.minus K.unit) t)) w → t (s - 1) ≡ K.nought →
-      take_at kind u (Some s) w ≡ Ok z → IsFor kind K value reads n (vplus K v (scale K (K.minus K.unit) (vplus K (scale K (v (s - 1)) (vector_of K value u)) t))) z
+  take_reads : (n : ℕ) (u w z : List Num) (s : ℕ) (v t : Vector K) → IsRowOf kind n u → lead_of u ≡ Some s →
+      IsFor kind K value reads n (vplus K v (scale K (K.minus K.unit) t)) w → t (s - 1) ≡ K.nought →
+      take_at kind u (Some s) w ≡ Ok z → IsFor kind K value reads n
+      (vplus K v (scale K (K.minus K.unit) (vplus K (scale K (v (s - 1)) (vector_of K value u)) t))) z
   take_reads n u w z s v t is lead f none e = go (is_nought c) refl e
     where
       k : LeadIs u (length u) s
@@ -108,23 +116,37 @@ module _ (kind : Kind) (K : Field) (value : Num → K.Carrier) (reads : Reads ki
       c_is : v (s - 1) ≡ value c
       c_is = sym (less_same K v t (s - 1) none) ∙ ap (λ x. x (s - 1)) (sym f.vector) ∙ at_place kind K value reads w (s - 1) (residue 0) c_below
 
-      go : (b : Bool) → is_nought c ≡ b → (if b then Ok w else axpy_of kind w (negative_of kind c) u) ≡ Ok z → IsFor kind K value reads n (vplus K v (scale K (K.minus K.unit) (vplus K (scale K (v (s - 1)) (vector_of K value u)) t))) z
+      go : (b : Bool) → is_nought c ≡ b → (if b then Ok w else axpy_of kind w (negative_of kind c) u) ≡ Ok z →
+          IsFor kind K value reads n (vplus K v (scale K (K.minus K.unit) (vplus K (scale K (v (s - 1)) (vector_of K value u)) t))) z
       go true y g =
           subst (IsFor kind K value reads n _) (ok_same g)
-          (record { elements = f.elements; length_is = f.length_is; vector = f.vector ∙ none_more K v t (vector_of K value u) (v (s - 1)) (c_is ∙ reads.zero_is c c_in y) })
+          (record {
+            elements = f.elements;
+            length_is = f.length_is;
+            vector = f.vector ∙ none_more K v t (vector_of K value u) (v (s - 1))
+                (c_is ∙ reads.zero_is c c_in y);
+          })
       go false y g =
-          let r = axpy_reads kind K value reads w u z (negative_of kind c) f.elements (reads.negative c c_in).0 is.elements (f.length_is ∙ sym is.length_is) g in
+          let r = axpy_reads kind K value reads w u z (negative_of kind c) f.elements (reads.negative c c_in).0 is.elements
+          (f.length_is ∙ sym is.length_is) g in
           record {
             elements = r.elements;
             length_is = r.length_is ∙ f.length_is;
-            vector = r.vector ∙ ap₂ (λ x a. vplus K x (scale K a (vector_of K value u))) f.vector ((reads.negative c c_in).1 ∙ ap K.minus (sym c_is)) ∙ one_more K v t (vector_of K value u) (v (s - 1));
+            vector = r.vector ∙ ap₂ (λ x a. vplus K x (scale K a (vector_of K value u))) f.vector ((reads.negative c c_in).1 ∙ ap K.minus (sym c_is))
+                ∙ one_more K v t (vector_of K value u) (v (s - 1));
           }
 
-  rows_swept : (n : ℕ) (us : List (List Num)) (v w : List Num) → AreRows kind n us → Closes us → AreElements kind v → length v ≡ n → sweep_rows kind us v ≡ Ok w →
+  rows_swept : (n : ℕ) (us : List (List Num)) (v w : List Num) → AreRows kind n us → Closes us → AreElements kind v → length v ≡ n →
+      sweep_rows kind us v ≡ Ok w →
       IsFor kind K value reads n (vplus K (vector_of K value v) (scale K (K.minus K.unit) (taken us (vector_of K value v)))) w
   unfolding taken
   rows_swept n [] v w rows closed a len e =
-      subst (IsFor kind K value reads n _) (ok_same e) (record { elements = a; length_is = len; vector = sym (ap (vplus K (vector_of K value v)) (scale-vzero K _) ∙ vplus-vzero K _) })
+      subst (IsFor kind K value reads n _) (ok_same e) (record {
+        elements = a;
+        length_is = len;
+        vector =
+            sym (ap (vplus K (vector_of K value v)) (scale-vzero K _) ∙ vplus-vzero K _);
+      })
   rows_swept n (u ∷ us) v w rows closed a len e =
       let f = first_fits _ (sweep_rows kind us v) w e in
       let r = rows_swept n us v f.0 (all_tail (IsRowOf kind n) u us rows) (closes_tail u us closed) a len f.1.0 in
@@ -132,8 +154,10 @@ module _ (kind : Kind) (K : Field) (value : Num → K.Carrier) (reads : Reads ki
       let s = lead_some u is.elements (closed.leads 0 (omega arith)) in
       let p : pivot_of u ≡ s.0 - 1 = ap (λ o. unwrap_or o 1 - 1) s.1 in
       let none : taken us (vector_of K value v) (s.0 - 1) ≡ K.nought =
-      subst (λ q. taken us (vector_of K value v) q ≡ K.nought) p (taken_at us (vector_of K value v) (pivot_of u) (λ i l. closed.apart (suc i) 0 (omega arith) (omega arith) (λ d. absurd (omega arith)))) in
-      subst (λ q. IsFor kind K value reads n (vplus K (vector_of K value v) (scale K (K.minus K.unit) (vplus K (scale K (vector_of K value v q) (vector_of K value u)) (taken us (vector_of K value v))))) w) (sym p)
+      subst (λ q. taken us (vector_of K value v) q ≡ K.nought) p (taken_at us (vector_of K value v) (pivot_of u)
+      (λ i l. closed.apart (suc i) 0 (omega arith) (omega arith) (λ d. absurd (omega arith)))) in
+      subst (λ q. IsFor kind K value reads n (vplus K (vector_of K value v) (scale K (K.minus K.unit)
+      (vplus K (scale K (vector_of K value v q) (vector_of K value u)) (taken us (vector_of K value v))))) w) (sym p)
       (take_reads n u f.0 w s.0 (vector_of K value v) (taken us (vector_of K value v)) is s.1 r none (ap (λ o. take_at kind u o f.0) (sym s.1) ∙ f.1.1))
 
   -- a row has no lead exactly where its vector is 0
@@ -145,17 +169,20 @@ module _ (kind : Kind) (K : Field) (value : Num → K.Carrier) (reads : Reads ki
       go e (Some s) f =
           let k = lead_is w (length w) s f in
           let l : s - 1 < length w = (let x = k.from_one in let y = k.to_end in omega arith) in
-          absurd (reads.nonzero _ (a (s - 1) (residue 0) l) k.leads (sym (at_place kind K value reads w (s - 1) (residue 0) l) ∙ ap (λ x. x (s - 1)) e ∙ zero_at K (s - 1)))
+          absurd (reads.nonzero _ (a (s - 1) (residue 0) l) k.leads (sym (at_place kind K value reads w (s - 1) (residue 0) l) ∙ ap (λ x. x (s - 1)) e
+          ∙ zero_at K (s - 1)))
 
 -- what sweeping by closed rows means
-pub sweep_means : (kind : Kind) (rows : List (List Num)) (row left : List Num) → IsField kind → IsClosedList kind (length row) rows → AreElements kind row → sweep_rows kind rows row ≡ Ok left →
+pub sweep_means : (kind : Kind) (rows : List (List Num)) (row left : List Num) → IsField kind → IsClosedList kind (length row) rows →
+    AreElements kind row → sweep_rows kind rows row ≡ Ok left →
     IsRowOf kind (length row) left × SweepsTo kind rows row left
 sweep_means kind rows row left listed closed a e =
     let K = field_of kind in
     let value = number_of kind in
     let reads = kind_reads kind listed in
     let f = rows_swept kind K value reads (length row) rows row left closed.are_rows closed.closed a refl e in
-    let is : vector_of K value left ≡ swept K (length rows) (λ i. vector_of K value (get_or rows i [])) (λ i. pivot_of (get_or rows i [])) (vector_of K value row) =
+    let is : vector_of K value left ≡ swept K (length rows) (λ i. vector_of K value (get_or rows i [])) (λ i. pivot_of (get_or rows i []))
+    (vector_of K value row) =
     f.vector ∙ ap (λ w. vplus K (vector_of K value row) (scale K (K.minus K.unit) w)) (taken_is kind K value reads rows (vector_of K value row)) in
     let z = lead_zero kind K value reads left f.elements in
     let i = swept_iff K (length rows) (λ i. vector_of K value (get_or rows i [])) (λ i. pivot_of (get_or rows i [])) closed.closed (vector_of K value row) in (

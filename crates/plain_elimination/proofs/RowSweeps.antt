@@ -31,20 +31,24 @@ drop_at [] k x e = absurd (none_some (sym e))
 drop_at (y ∷ ys) zero x e = ap (λ z. z ∷ ys) (sym (some_same e))
 drop_at (y ∷ ys) (suc k) x e = drop_at ys k x e
 
-pub sweep_next : (kind : Kind) (rows : List (List Num)) (row left new other : List Num) (j k : ℕ) → j ≡ suc k → Some other ≡ slice_get rows k → sweep_rows kind (drop j rows) row ≡ Ok left → take_row kind other left ≡ Ok new → sweep_rows kind (drop k rows) row ≡ Ok new
+pub sweep_next : (kind : Kind) (rows : List (List Num)) (row left new other : List Num) (j k : ℕ) → j ≡ suc k → Some other ≡ slice_get rows k →
+    sweep_rows kind (drop j rows) row ≡ Ok left → take_row kind other left ≡ Ok new → sweep_rows kind (drop k rows) row ≡ Ok new
 sweep_next kind rows row left new other j k is e f g =
     ap (λ us. sweep_rows kind us row) (drop_at rows k other e)
     ∙ ap (and_then (λ w. take_row kind other w)) (ap (λ i. sweep_rows kind (drop i rows) row) (sym is) ∙ f) ∙ g
 
-stops_at : (kind : Kind) (rows : List (List Num)) (row : List Num) (k : ℕ) (u : Unfit) → sweep_rows kind (drop k rows) row ≡ Err u → sweep_rows kind rows row ≡ Err u
+stops_at : (kind : Kind) (rows : List (List Num)) (row : List Num) (k : ℕ) (u : Unfit) → sweep_rows kind (drop k rows) row ≡ Err u →
+    sweep_rows kind rows row ≡ Err u
 stops_at kind [] row zero u e = e
 stops_at kind [] row (suc k) u e = e
 stops_at kind (y ∷ ys) row zero u e = e
 stops_at kind (y ∷ ys) row (suc k) u e = ap (and_then (λ w. take_row kind y w)) (stops_at kind ys row k u e)
 
-pub sweep_stops : (kind : Kind) (rows : List (List Num)) (row left other : List Num) (j k : ℕ) (fault : Fault) → j ≡ suc k → Some other ≡ slice_get rows k → sweep_rows kind (drop j rows) row ≡ Ok left →
+pub sweep_stops : (kind : Kind) (rows : List (List Num)) (row left other : List Num) (j k : ℕ) (fault : Fault) → j ≡ suc k →
+    Some other ≡ slice_get rows k → sweep_rows kind (drop j rows) row ≡ Ok left →
     IsFault fault (take_row kind other left) → IsFault fault (sweep_rows kind rows row)
 sweep_stops kind rows row left other j k NoMemory is e f g = tt
 sweep_stops kind rows row left other j k (Unfits u) is e f g =
     stops_at kind rows row k u
-    (ap (λ us. sweep_rows kind us row) (drop_at rows k other e) ∙ ap (and_then (λ w. take_row kind other w)) (ap (λ i. sweep_rows kind (drop i rows) row) (sym is) ∙ f) ∙ g)
+    (ap (λ us. sweep_rows kind us row) (drop_at rows k other e) ∙ ap (and_then (λ w. take_row kind other w))
+    (ap (λ i. sweep_rows kind (drop i rows) row) (sym is) ∙ f) ∙ g)

@@ -29,13 +29,16 @@ module _ (kind : Kind) (listed : IsField kind) where
       go false f = refl
       go true f =
           let i = reads.inverse a is e in
-          absurd ((field_of kind).unit≢nought (sym i.1 ∙ ap (λ w. (field_of kind).times w (number_of kind a)) (reads.zero_is (inverse_of kind a) i.0 f) ∙ nought-times (field_of kind) (number_of kind a)))
+          absurd ((field_of kind).unit≢nought (sym i.1 ∙ ap (λ w. (field_of kind).times w (number_of kind a))
+          (reads.zero_is (inverse_of kind a) i.0 f) ∙ nought-times (field_of kind) (number_of kind a)))
 
   inverts : (size : ℕ) (h : Held) (row : List Num) → All (IsPivotRow kind size) h.pivots → IsRowOf kind size row → InvertsLeads kind size h row
   inverts size h row rows is x e s lead =
-      let q = sweep_reads kind (field_of kind) (number_of kind) reads h.pivots size size (λ i. vzero (field_of kind)) (record { row = row; terms = [] }) x rows (omega arith) is.elements is.length_is e in
+      let q = sweep_reads kind (field_of kind) (number_of kind) reads h.pivots size size (λ i. vzero (field_of kind))
+      (record { row = row; terms = [] }) x rows (omega arith) is.elements is.length_is e in
       let k = lead_is x.row _ s lead in
-      inverse_stays (get_or x.row (s - 1) (residue 0)) (q.left.elements (s - 1) (residue 0) (let a = k.from_one in let b = k.to_end in omega (arith, a, b))) k.leads
+      inverse_stays (get_or x.row (s - 1) (residue 0)) (q.left.elements (s - 1) (residue 0)
+      (let a = k.from_one in let b = k.to_end in omega (arith, a, b))) k.leads
 
 pub inserts_lean : (k : Kind) → InsertsLean k
 inserts_lean k listed size full lean row origin rows is h = insert_same k size full lean row origin h (inverts k listed size full row rows is)

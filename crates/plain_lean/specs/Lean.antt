@@ -61,11 +61,13 @@ pub record IsInsertedLean (full lean : Inserted) : Type 0 where
 abbrev pub InsertsLean : Kind → Type 0
 InsertsLean k =
     IsField k → (size : ℕ) (full lean : Held) (row : List Num) (origin : Origin) → All (IsPivotRow k size) full.pivots → IsRowOf k size row → IsLean full lean →
-    Agree IsInsertedLean (insert_of (record { kind = k; size = size; held = full }) row origin) (insert_lean (record { kind = k; size = size; held = lean }) row origin)
+    Agree IsInsertedLean (insert_of (record { kind = k; size = size; held = full }) row origin)
+    (insert_lean (record { kind = k; size = size; held = lean }) row origin)
 
 abbrev pub ClosesLean : Kind → Type 0
 ClosesLean k =
-    (size : ℕ) (full lean : Held) → IsLean full lean → Agree IsLean (close_of (record { kind = k; size = size; held = full })) (close_of (record { kind = k; size = size; held = lean }))
+    (size : ℕ) (full lean : Held) → IsLean full lean → Agree IsLean (close_of (record { kind = k; size = size; held = full }))
+    (close_of (record { kind = k; size = size; held = lean }))
 
 abbrev pub SameRows : Type 0
 SameRows = (full lean : Held) → IsLean full lean → rows_of lean.pivots ≡ rows_of full.pivots

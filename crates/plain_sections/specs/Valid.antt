@@ -1,13 +1,13 @@
 -- Valid sections: those that the check of a section of the weight after a held table's accepts, and what can be said of them.
 --
---   IsValid T p s         the check accepts s, with some closed rows
 --   whole_section T o h   the section of a computed weight as it was recorded: with the steps of dependent origins, and telling o origins
 --   TellsOrigins n o      o tells nothing, or the number n
 --   AcceptedInOrder       each step of an accepted section names earlier steps, and a Close step one that is not left out: a row that is zero is never closed
 --   SlimIsAccepted        an accepted section stays accepted as it is kept, with the same rows
 --   SlimIsFor             and is a section of the weight in numbers of the field, as before
 --   SlimIsSlim            what is kept is kept as it is
---   WholeIsAccepted       the section of a computed weight is accepted with the rows that were computed: the check's operations are among those of the computing
+--   WholeIsAccepted       the section of a computed weight is accepted with the rows that were computed: the check's operations are among those of the
+--     computing
 --   SectionIsAccepted     and so it is as it is kept, with the rows of the table's next weight
 --   SectionIsFor          it is a section of the weight in numbers of the field
 --   SectionIsSlim         and is kept as it is
@@ -30,9 +30,6 @@ use Rattle.plain_weights.specs.Section.{slimmed, closed_list, section_after}
 use Rattle.fpl_check.specs.ClosedRows.{close_count}
 use Rattle.fpl_check.specs.Check.{Accepts}
 use Rattle.fpl_check.specs.Premises.{IsSectionFor}
-
-abbrev pub IsValid : PlainTable → Presentation → Section → Type 0
-IsValid T p s = (rows : List (List Num)) × Accepts T p s rows
 
 abbrev pub whole_section : PlainTable → Option ℕ → Held → Section
 whole_section T origins h = record { weight = suc T.weight; origins = origins; steps = h.steps; closed = closed_list (rows_of h.pivots) }

@@ -48,7 +48,8 @@ module _ (kind : Kind) (always : Always kind) where
   axpy_fits [] c ys = ([], refl)
   axpy_fits (x ∷ xs) c [] = (x ∷ xs, refl)
   axpy_fits (x ∷ xs) c (y ∷ ys) =
-      then_fits (λ s. map_ok (λ rest. s ∷ rest) (axpy_of kind xs c ys)) (fused kind x c y) (then_fits (λ m. operate kind Add x m) _ (always Mul c y) (λ m. always Add x m))
+      then_fits (λ s. map_ok (λ rest. s ∷ rest) (axpy_of kind xs c ys)) (fused kind x c y) (then_fits (λ m. operate kind Add x m) _ (always Mul c y)
+      (λ m. always Add x m))
       (λ s. map_fits (λ rest. s ∷ rest) _ (axpy_fits xs c ys))
 
   pub add_row_fits : (v x : List Num) → DoesFit (add_row kind v x)
@@ -56,7 +57,8 @@ module _ (kind : Kind) (always : Always kind) where
 
   pub scale_fits : (c : Num) (xs : List Num) → DoesFit (scale_of kind c xs)
   scale_fits c [] = ([], refl)
-  scale_fits c (x ∷ xs) = then_fits (λ m. map_ok (λ rest. m ∷ rest) (scale_of kind c xs)) _ (always Mul c x) (λ m. map_fits (λ rest. m ∷ rest) _ (scale_fits c xs))
+  scale_fits c (x ∷ xs) = then_fits (λ m. map_ok (λ rest. m ∷ rest) (scale_of kind c xs)) _ (always Mul c x)
+      (λ m. map_fits (λ rest. m ∷ rest) _ (scale_fits c xs))
 
   -- sweeping by closed rows
   take_fits : (u : List Num) (o : Option ℕ) (v : List Num) → DoesFit (take_at kind u o v)
@@ -67,7 +69,8 @@ module _ (kind : Kind) (always : Always kind) where
   sweep_rows_fits [] v = (v, refl)
   sweep_rows_fits (u ∷ us) v = then_fits (λ w. take_row kind u w) (sweep_rows kind us v) (sweep_rows_fits us v) (λ w. take_fits u (lead_of u) w)
 
-each_fits : (add : ℕ → Num → List Num → Result (List Num) Unfit) → ((t : ℕ) (c : Num) (v : List Num) → DoesFit (add t c v)) → (t : ℕ) (cs v : List Num) → DoesFit (add_each add t cs v)
+each_fits : (add : ℕ → Num → List Num → Result (List Num) Unfit) → ((t : ℕ) (c : Num) (v : List Num) → DoesFit (add t c v)) →
+    (t : ℕ) (cs v : List Num) → DoesFit (add_each add t cs v)
 each_fits add each t [] v = (v, refl)
 each_fits add each t (c ∷ cs) v = then_fits (λ w. add_each add (t + 1) cs w) _ (if_fits _ _ _ (v, refl) (each t c v)) (λ w. each_fits add each (t + 1) cs w)
 
@@ -80,7 +83,8 @@ module _ (T : PlainTable) (always : Always T.kind) where
 
     bilinear_fits : (x y v : List Num) → DoesFit (bilinear_of T at x y v)
     bilinear_fits x y v =
-        each_fits (λ i a v. add_products T at i a y v) (λ i a v. each_fits (λ j b v. add_product T at (pairing T i j) a b v) (λ j b v. product_fits (pairing T i j) a b v) 0 y v) 0 x v
+        each_fits (λ i a v. add_products T at i a y v) (λ i a v. each_fits (λ j b v. add_product T at (pairing T i j) a b v)
+        (λ j b v. product_fits (pairing T i j) a b v) 0 y v) 0 x v
 
   entry_fits : (i j : ℕ) (m : Num) (v : List Num) → DoesFit (add_entry T i j m v)
   entry_fits i j m v = if_fits _ _ _ (axpy_fits T.kind always v m (entry_row T i j)) (v, refl)
@@ -96,15 +100,18 @@ module _ (T : PlainTable) (always : Always T.kind) where
     value_fits (gen g) = if_fits (is_light T (gen g)) _ _ (add_row_fits T.kind always none_row (image_row T (g - 1))) (none_row, refl)
     value_fits none = (none_row, refl)
     value_fits (sum_of es) = if_fits (is_light T (sum_of es)) _ _ (values_fit es none_row) (none_row, refl)
-    value_fits (multiple c e) = if_fits (is_light T (multiple c e)) _ _ (then_fits (scale_of T.kind c) _ (value_fits e) (λ x. scale_fits T.kind always c x)) (none_row, refl)
+    value_fits (multiple c e) = if_fits (is_light T (multiple c e)) _ _ (then_fits (scale_of T.kind c) _ (value_fits e)
+        (λ x. scale_fits T.kind always c x)) (none_row, refl)
     value_fits (br a b) =
-        if_fits (is_light T (br a b)) _ _ (then_fits (λ x. and_then (λ y. bracket_of T x y) (value_of T b)) _ (value_fits a) (λ x. then_fits (λ y. bracket_of T x y) _ (value_fits b) (λ y. bracket_fits x y)))
+        if_fits (is_light T (br a b)) _ _ (then_fits (λ x. and_then (λ y. bracket_of T x y) (value_of T b)) _ (value_fits a)
+        (λ x. then_fits (λ y. bracket_of T x y) _ (value_fits b) (λ y. bracket_fits x y)))
         (none_row, refl)
 
     pub values_fit : (es : Trees Num) (v : List Num) → DoesFit (values_of T es v)
     values_fit end v = (v, refl)
     values_fit (more e es) v =
-        then_fits (λ x. and_then (λ w. values_of T es w) (add_row T.kind v x)) _ (value_fits e) (λ x. then_fits (λ w. values_of T es w) _ (add_row_fits T.kind always v x) (λ w. values_fit es w))
+        then_fits (λ x. and_then (λ w. values_of T es w) (add_row T.kind v x)) _ (value_fits e)
+        (λ x. then_fits (λ w. values_of T es w) _ (add_row_fits T.kind always v x) (λ w. values_fit es w))
 
   symbol_fits : (i j : ℕ) (c : Num) (v : List Num) → DoesFit (add_symbol T i j c v)
   symbol_fits i j c v = add_at_fits T.kind always v (pair_place T i j) c
@@ -124,16 +131,19 @@ module _ (T : PlainTable) (always : Always T.kind) where
     form_fits (gen g) = add_at_fits T.kind always none_symbols (generator_place T (g - 1)) (residue 1)
     form_fits none = (none_symbols, refl)
     form_fits (sum_of es) = forms_fit es none_symbols
-    form_fits (multiple c e) = if_fits (counts T (multiple c e)) _ _ (then_fits (scale_of T.kind c) _ (form_fits e) (λ x. scale_fits T.kind always c x)) (none_symbols, refl)
+    form_fits (multiple c e) = if_fits (counts T (multiple c e)) _ _ (then_fits (scale_of T.kind c) _ (form_fits e)
+        (λ x. scale_fits T.kind always c x)) (none_symbols, refl)
     form_fits (br a b) =
         if_fits (counts T (br a b)) _ _
-        (then_fits (λ x. and_then (λ y. outer_of T x y) (value_of T b)) _ (value_fits a) (λ x. then_fits (λ y. outer_of T x y) _ (value_fits b) (λ y. bilinear_fits (add_symbol T) symbol_fits x y none_symbols)))
+        (then_fits (λ x. and_then (λ y. outer_of T x y) (value_of T b)) _ (value_fits a) (λ x. then_fits (λ y. outer_of T x y) _ (value_fits b)
+        (λ y. bilinear_fits (add_symbol T) symbol_fits x y none_symbols)))
         (none_symbols, refl)
 
     pub forms_fit : (es : Trees Num) (v : List Num) → DoesFit (forms_of T es v)
     forms_fit end v = (v, refl)
     forms_fit (more e es) v =
-        then_fits (λ w. forms_of T es w) _ (if_fits (counts T e) _ _ (then_fits (λ x. add_row T.kind v x) _ (form_fits e) (λ x. add_row_fits T.kind always v x)) (v, refl)) (λ w. forms_fit es w)
+        then_fits (λ w. forms_of T es w) _ (if_fits (counts T e) _ _ (then_fits (λ x. add_row T.kind v x) _ (form_fits e)
+        (λ x. add_row_fits T.kind always v x)) (v, refl)) (λ w. forms_fit es w)
 
   relation_fits : (q : Equation) → DoesFit (relation_row_of T q)
   relation_fits q =
@@ -143,9 +153,11 @@ module _ (T : PlainTable) (always : Always T.kind) where
   jacobi_fits : (i j k : ℕ) → DoesFit (jacobi_row_of T i j k)
   jacobi_fits i j k =
       then_fits (λ w. add_each (third_terms T i j) 0 (entry_if T i k) w) _
-      (then_fits (λ w. add_each (second_terms T k) 0 (entry_if T i j) w) _ (each_fits (first_terms T i) (λ t c v. signed_fits (pairing T i t) c v) 0 (entry_if T j k) none_symbols)
+      (then_fits (λ w. add_each (second_terms T k) 0 (entry_if T i j) w) _ (each_fits (first_terms T i) (λ t c v. signed_fits (pairing T i t) c v) 0
+      (entry_if T j k) none_symbols)
       (λ w. each_fits (second_terms T k) (λ t c v. signed_fits (pairing T t k) (negative_of T.kind c) v) 0 (entry_if T i j) w))
-      (λ w. each_fits (third_terms T i j) (λ t c v. signed_fits (pairing T j t) (swapped T (plain_basis T i).parity (plain_basis T j).parity c) v) 0 (entry_if T i k) w)
+      (λ w. each_fits (third_terms T i j) (λ t c v. signed_fits (pairing T j t) (swapped T (plain_basis T i).parity (plain_basis T j).parity c) v) 0
+      (entry_if T i k) w)
 
   cube_fits : (i : ℕ) → DoesFit (cube_row_of T i)
   cube_fits i = each_fits (first_terms T i) (λ t c v. signed_fits (pairing T i t) c v) 0 (entry_if T i i) none_symbols

@@ -26,7 +26,8 @@ use Rattle.plain_sources.proofs.Laws.{rows_of_shape, weights_of_built, rows_stan
 module _ (p : Presentation) (T : PlainTable) where
   -- each row of an origin stands for its vector, over the field of kind k
   abbrev pub RowsStand : (k : Kind) → (Origin → Vector (field_of k)) → Type 0
-  RowsStand k vector = (o : Origin) → Contains (origins_of T p) o → (row : List Num) → row_of_origin T p o ≡ Ok row → Stands k (length (symbols_in T)) (vector o) row
+  RowsStand k vector = (o : Origin) → Contains (origins_of T p) o → (row : List Num) → row_of_origin T p o ≡ Ok row →
+      Stands k (length (symbols_in T)) (vector o) row
 
   -- the span of the origins' vectors
   abbrev pub InOriginSpan : (k : Kind) → (Origin → Vector (field_of k)) → Vector (field_of k) → Type 0
@@ -51,18 +52,24 @@ module _ (p : Presentation) (T : PlainTable) where
 
     -- the row of an origin is a row over the symbols
     pub origin_rows : (o : Origin) → Contains (origins_of T p) o → (row : List Num) → row_of_origin T p o ≡ Ok row → IsRowOf T.kind (length (symbols_in T)) row
-    origin_rows o c row e = let h = origins_stand o c row e in record { elements = subst (λ k. AreElements k row) (sym holds.kind) h.elements; length_is = h.long }
+    origin_rows o c row e = let h = origins_stand o c row e in record {
+      elements = subst (λ k. AreElements k row) (sym holds.kind) h.elements;
+      length_is = h.long;
+    }
 
     -- each source row is the vector of an origin
-    pub source_origin : (v : Vector (field_of p.field)) → IsSource (field_of p.field) (presentation_in p) (table_in p.field T) v → (o : Origin) × Contains (origins_of T p) o × (origin_vector o ≡ v)
+    pub source_origin : (v : Vector (field_of p.field)) → IsSource (field_of p.field) (presentation_in p) (table_in p.field T) v →
+        (o : Origin) × Contains (origins_of T p) o × (origin_vector o ≡ v)
     unfolding origin_vector
     source_origin = sources_are_origins p T holds.kind holds.generators holds.sound rows weights
 
     -- and what the origins' vectors span, the source rows span
-    pub from_sources : (v : Vector (field_of p.field)) → InOriginSpan p.field origin_vector v → Spanned (field_of p.field) (IsSource (field_of p.field) (presentation_in p) (table_in p.field T)) v
+    pub from_sources : (v : Vector (field_of p.field)) → InOriginSpan p.field origin_vector v →
+        Spanned (field_of p.field) (IsSource (field_of p.field) (presentation_in p) (table_in p.field T)) v
     unfolding origin_vector
     from_sources v h =
         spanned_through (field_of p.field) _ (IsSource (field_of p.field) (presentation_in p) (table_in p.field T))
         (λ x a. spanned_one (field_of p.field) _ x
-        (subst (IsSource (field_of p.field) (presentation_in p) (table_in p.field T)) a.2 (origins_are_sources p T holds.kind holds.generators holds.sound rows weights a.0 a.1)))
+        (subst (IsSource (field_of p.field) (presentation_in p) (table_in p.field T)) a.2
+        (origins_are_sources p T holds.kind holds.generators holds.sound rows weights a.0 a.1)))
         v h

@@ -50,7 +50,8 @@ rows_of_shape T shape = record {
     image : (g : ℕ) → g < length T.generators → Dec ((generator_at T g).weight ≤ T.weight) → IsRowIn T (image_row T g)
     image g l (yes h) = image_row_within T shape g l h
     image g l (no h) =
-        subst (λ rows. IsRowIn T (get_or rows g [])) (sym (get_or_past T.images ((generator_at T g).weight - 1) [] (let e = shape.images_length in omega arith)))
+        subst (λ rows. IsRowIn T (get_or rows g []))
+        (sym (get_or_past T.images ((generator_at T g).weight - 1) [] (let e = shape.images_length in omega arith)))
         (record { elements = All-nil (IsElement T.kind); short = omega arith })
 
     partner : (i j : ℕ) → (i < j) ⊎ ((i ≡ j) × ((plain_basis T i).parity ≡ odd)) → first_partner T i ≤ j
@@ -73,14 +74,22 @@ module _ (p : Presentation) (T : PlainTable) (kind : T.kind ≡ p.field) (genera
 
   abbrev ProductsAt : Kind → List Generator → Type 0
   ProductsAt k gs =
-      (i j : ℕ) → i < length T.basis → j < length T.basis → IsOf (field_of k) (table_in k T) ((plain_basis T i).weight + (plain_basis T j).weight) (product (field_of k) (table_in k T) i j)
+      (i j : ℕ) → i < length T.basis → j < length T.basis → IsOf (field_of k) (table_in k T) ((plain_basis T i).weight + (plain_basis T j).weight)
+      (product (field_of k) (table_in k T) i j)
 
   pub weights_of_law : HasShape T → ObeysLaw (field_of p.field) (presentation_in p) (table_in p.field T) → HasWeights T
-  weights_of_law shape law = record { positive = shape.heavy; within = shape.light; images = back ImagesAt law.image_of; products = back ProductsAt law.entry_of }
+  weights_of_law shape law = record {
+    positive = shape.heavy;
+    within = shape.light;
+    images = back ImagesAt law.image_of;
+    products =
+        back ProductsAt law.entry_of;
+  }
 
   pub weights_of_built : IsSound p → Built (field_of p.field) (presentation_in p) (table_in p.field T) → HasWeights T
   weights_of_built sound built =
-      let facts = (built_whole (field_of p.field) (presentation_in p) (sound_homogeneous (presentation_in p) (sound_is_sound p sound)) (table_in p.field T) built).facts in
+      let facts = (built_whole (field_of p.field) (presentation_in p) (sound_homogeneous (presentation_in p) (sound_is_sound p sound))
+      (table_in p.field T) built).facts in
       record { positive = facts.positive; within = facts.within; images = back ImagesAt facts.image_of; products = back ProductsAt facts.entry_of }
 
   within_here : (e : Tree Num) → IsWithin p.field (length p.generators) e → IsWithin T.kind (length T.generators) e
@@ -93,13 +102,15 @@ module _ (p : Presentation) (T : PlainTable) (kind : T.kind ≡ p.field) (genera
     pub bracket_stands : (x y z : List Num) → IsRowIn T x → IsRowIn T y → bracket_of T x y ≡ Ok z →
         Stands p.field (length T.basis) (bracket (field_of p.field) (table_in p.field T) (vector_in p.field x) (vector_in p.field y)) z
     bracket_stands x y z a b e =
-        subst (λ k. Stands k (length T.basis) (bracket (field_of k) (table_in k T) (vector_in k x) (vector_in k y)) z) kind (bracket_reads T is_field rows x y z a b e)
+        subst (λ k. Stands k (length T.basis) (bracket (field_of k) (table_in k T) (vector_in k x) (vector_in k y)) z) kind
+        (bracket_reads T is_field rows x y z a b e)
 
     module _ (weights : HasWeights T) where
       pub value_stands : (e : Tree Num) → IsWithin p.field (length p.generators) e → (v : List Num) → value_of T e ≡ Ok v →
           Stands p.field (length T.basis) (val (field_of p.field) (table_in p.field T) (in_field p.field e)) v
       value_stands e h v f =
-          subst (λ k. Stands k (length T.basis) (val (field_of k) (table_in k T) (in_field k e)) v) kind (value_reads T is_field rows weights e (within_here e h) v f)
+          subst (λ k. Stands k (length T.basis) (val (field_of k) (table_in k T) (in_field k e)) v) kind
+          (value_reads T is_field rows weights e (within_here e h) v f)
 
       relations_within : All (λ q. IsWithin T.kind (length T.generators) (plain q.left) × IsWithin T.kind (length T.generators) (plain q.right)) p.relations
       relations_within k d l = let h = sound.relations k d l in (within_here _ h.0.0, within_here _ h.1.0)
@@ -119,7 +130,8 @@ module _ (p : Presentation) (T : PlainTable) (kind : T.kind ≡ p.field) (genera
       pub sources_are_origins : (v : Vector (field_of p.field)) → IsSource (field_of p.field) (presentation_in p) (table_in p.field T) v →
           (o : Origin) × Contains (origins_of T p) o × (vector_of_origin (field_of p.field) (presentation_in p) (table_in p.field T) o ≡ v)
       sources_are_origins =
-          there (λ k gs. (v : Vector (field_of k)) → IsSource (field_of k) (over k gs) (table_in k T) v → (o : Origin) × Contains (origins_of T p) o × (vector_of_origin (field_of k) (over k gs) (table_in k T) o ≡ v))
+          there (λ k gs. (v : Vector (field_of k)) → IsSource (field_of k) (over k gs) (table_in k T) v →
+          (o : Origin) × Contains (origins_of T p) o × (vector_of_origin (field_of k) (over k gs) (table_in k T) o ≡ v))
           (λ v h. let r = source_origin T is_field rows weights p relations_within v h in (r.0, is_listed T p r.0 r.1, r.2))
 
 pub weights_of_table : (p : Presentation) → WeightsOfTable p

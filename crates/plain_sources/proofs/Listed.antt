@@ -54,17 +54,20 @@ module _ (T : PlainTable) where
       (i : ℕ) × (i < length qs) × (o ≡ Relation (r + i)) × ((d : Equation) → relation_weight T (get_or qs i d) ≡ exact (suc T.weight))
   in_relations r [] o h = absurd (let l = h.1 in omega arith)
   in_relations r (q ∷ qs) o h =
-      go (Contains-append_cases (cond (is_exactly (suc T.weight) (relation_weight T q)) (Relation r ∷ []) []) (relations_from T (r + 1) qs) o h) (in_relations (r + 1) qs o)
+      go (Contains-append_cases (cond (is_exactly (suc T.weight) (relation_weight T q)) (Relation r ∷ []) []) (relations_from T (r + 1) qs) o h)
+      (in_relations (r + 1) qs o)
     where
       go : Contains (cond (is_exactly (suc T.weight) (relation_weight T q)) (Relation r ∷ []) []) o ⊎ Contains (relations_from T (r + 1) qs) o →
-          (Contains (relations_from T (r + 1) qs) o → (i : ℕ) × (i < length qs) × (o ≡ Relation (r + 1 + i)) × ((d : Equation) → relation_weight T (get_or qs i d) ≡ exact (suc T.weight))) →
+          (Contains (relations_from T (r + 1) qs) o → (i : ℕ) × (i < length qs) × (o ≡ Relation (r + 1 + i)) ×
+          ((d : Equation) → relation_weight T (get_or qs i d) ≡ exact (suc T.weight))) →
           (i : ℕ) × (i < length (q ∷ qs)) × (o ≡ Relation (r + i)) × ((d : Equation) → relation_weight T (get_or (q ∷ qs) i d) ≡ exact (suc T.weight))
       go (inl k) t =
           let f = one_if _ (Relation r) o k in
           (0, omega arith, sym f.1 ∙ ap Relation (omega arith), λ d. exactly_is (suc T.weight) (relation_weight T q) f.0)
       go (inr k) t = let f = t k in (suc f.0, (let l = f.1 in omega arith), f.2 ∙ ap Relation (omega arith), f.3)
 
-  relations_have : (r : ℕ) (qs : List Equation) (i : ℕ) → i < length qs → ((d : Equation) → relation_weight T (get_or qs i d) ≡ exact (suc T.weight)) → Contains (relations_from T r qs) (Relation (r + i))
+  relations_have : (r : ℕ) (qs : List Equation) (i : ℕ) → i < length qs → ((d : Equation) →
+      relation_weight T (get_or qs i d) ≡ exact (suc T.weight)) → Contains (relations_from T r qs) (Relation (r + i))
   relations_have r [] i l h = absurd (omega arith)
   relations_have r (q ∷ qs) zero l h =
       Contains-append_left (cond (is_exactly (suc T.weight) (relation_weight T q)) (Relation r ∷ []) []) (relations_from T (r + 1) qs) (Relation (r + 0))
@@ -72,7 +75,8 @@ module _ (T : PlainTable) where
       (if_one _ (Relation r) (is_exact (suc T.weight) (relation_weight T q) (h q))))
   relations_have r (q ∷ qs) (suc i) l h =
       Contains-append_right (cond (is_exactly (suc T.weight) (relation_weight T q)) (Relation r ∷ []) []) (relations_from T (r + 1) qs) (Relation (r + suc i))
-      (subst (λ s. Contains (relations_from T (r + 1) qs) (Relation s)) (let e : r + 1 + i ≡ r + suc i = omega arith in e) (relations_have (r + 1) qs i (omega arith) h))
+      (subst (λ s. Contains (relations_from T (r + 1) qs) (Relation s)) (let e : r + 1 + i ≡ r + suc i = omega arith in e)
+      (relations_have (r + 1) qs i (omega arith) h))
 
   pub record IsTriple (i j k : ℕ) : Type 0 where
     pub first : i ≤ j
@@ -103,9 +107,11 @@ module _ (T : PlainTable) where
   triples_have : (i j k : ℕ) → IsTriple i j k → Contains (triples_of T) (Jacobi (i + 1) (j + 1) (k + 1))
   triples_have i j k h =
       let a = h.first in let b = h.second in let c = h.third in
-      joined_has n (λ i. joined n (λ j. joined n (λ k. cond (is_triple T i j k) (Jacobi (i + 1) (j + 1) (k + 1) ∷ []) []))) (Jacobi (i + 1) (j + 1) (k + 1)) i (omega arith)
+      joined_has n (λ i. joined n (λ j. joined n (λ k. cond (is_triple T i j k) (Jacobi (i + 1) (j + 1) (k + 1) ∷ []) [])))
+      (Jacobi (i + 1) (j + 1) (k + 1)) i (omega arith)
       (joined_has n (λ j. joined n (λ k. cond (is_triple T i j k) (Jacobi (i + 1) (j + 1) (k + 1) ∷ []) [])) (Jacobi (i + 1) (j + 1) (k + 1)) j (omega arith)
-      (joined_has n (λ k. cond (is_triple T i j k) (Jacobi (i + 1) (j + 1) (k + 1) ∷ []) []) (Jacobi (i + 1) (j + 1) (k + 1)) k c (if_one _ (Jacobi (i + 1) (j + 1) (k + 1)) (is_triple_of i j k h))))
+      (joined_has n (λ k. cond (is_triple T i j k) (Jacobi (i + 1) (j + 1) (k + 1) ∷ []) []) (Jacobi (i + 1) (j + 1) (k + 1)) k c
+      (if_one _ (Jacobi (i + 1) (j + 1) (k + 1)) (is_triple_of i j k h))))
 
   pub cube_is : (i : ℕ) → is_cube T i ≡ true → (parity T i ≡ odd) × (weight T i + weight T i + weight T i ≡ suc T.weight)
   cube_is i e = (odd_is (parity T i) (grind arith), grind arith)
@@ -116,7 +122,8 @@ module _ (T : PlainTable) where
   in_cubes : (o : Origin) → Contains (cubes_of T) o → (i : ℕ) × IsCube i × (o ≡ Cube (i + 1))
   in_cubes o h = go (is_three T.kind) refl h
     where
-      go : (b : Bool) → is_three T.kind ≡ b → Contains (cond b (joined n (λ i. cond (is_cube T i) (Cube (i + 1) ∷ []) [])) []) o → (i : ℕ) × IsCube i × (o ≡ Cube (i + 1))
+      go : (b : Bool) → is_three T.kind ≡ b → Contains (cond b (joined n (λ i. cond (is_cube T i) (Cube (i + 1) ∷ []) [])) []) o →
+          (i : ℕ) × IsCube i × (o ≡ Cube (i + 1))
       go true e k =
           let a = in_joined n (λ i. cond (is_cube T i) (Cube (i + 1) ∷ []) []) o k in
           let b = one_if _ (Cube (a.0 + 1)) o a.2 in
@@ -130,7 +137,8 @@ module _ (T : PlainTable) where
 
   -- what is so of an origin of the list
   pub data IsListed (p : Presentation) : Origin → Type 0 where
-    listed_relation : (k : ℕ) → k < length p.relations → ((d : Equation) → relation_weight T (get_or p.relations k d) ≡ exact (suc T.weight)) → IsListed p (Relation (1 + k))
+    listed_relation : (k : ℕ) → k < length p.relations → ((d : Equation) → relation_weight T (get_or p.relations k d) ≡ exact (suc T.weight)) →
+        IsListed p (Relation (1 + k))
     listed_triple : (i j k : ℕ) → IsTriple i j k → IsListed p (Jacobi (i + 1) (j + 1) (k + 1))
     listed_cube : (i : ℕ) → IsCube i → IsListed p (Cube (i + 1))
 
@@ -147,7 +155,8 @@ module _ (T : PlainTable) where
 
   pub is_listed : (p : Presentation) (o : Origin) → IsListed p o → Contains (origins_of T p) o
   is_listed p _ (listed_relation k l h) =
-      Contains-append_left (relations_of T p ++ triples_of T) (cubes_of T) (Relation (1 + k)) (Contains-append_left (relations_of T p) (triples_of T) (Relation (1 + k)) (relations_have 1 p.relations k l h))
+      Contains-append_left (relations_of T p ++ triples_of T) (cubes_of T) (Relation (1 + k))
+      (Contains-append_left (relations_of T p) (triples_of T) (Relation (1 + k)) (relations_have 1 p.relations k l h))
   is_listed p _ (listed_triple i j k h) =
       Contains-append_left (relations_of T p ++ triples_of T) (cubes_of T) (Jacobi (i + 1) (j + 1) (k + 1))
       (Contains-append_right (relations_of T p) (triples_of T) (Jacobi (i + 1) (j + 1) (k + 1)) (triples_have i j k h))

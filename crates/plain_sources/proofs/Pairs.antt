@@ -36,7 +36,8 @@ module _ (T : PlainTable) where
   pub pairing_itself : (i : ℕ) → pairing T i i ≡ itself (parity i) i
   pairing_itself i = grind arith
 
-  exchanged_is : (K : Field) (entry : ℕ → ℕ → Vector K) (s t : Parity) (i j : ℕ) → scale K (K.minus (sign K s t)) (entry i j) ≡ paired K entry (exchanged s t i j)
+  exchanged_is : (K : Field) (entry : ℕ → ℕ → Vector K) (s t : Parity) (i j : ℕ) → scale K (K.minus (sign K s t)) (entry i j) ≡
+      paired K entry (exchanged s t i j)
   exchanged_is K entry odd odd i j = ap (λ c. scale K c (entry i j)) (minus_minus K K.unit) ∙ scale-unit K (entry i j)
   exchanged_is K entry odd even i j = refl
   exchanged_is K entry even t i j = refl

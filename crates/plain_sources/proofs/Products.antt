@@ -59,7 +59,8 @@ module _ (T : PlainTable) (is_field : IsField T.kind) where
   pub minus_twice : (x y m : Num) (v : Vector K) → IsElement T.kind m → number_of T.kind m ≡ K.times (number_of T.kind x) (number_of T.kind y) →
       scale K (number_of T.kind (negative_of T.kind m)) v ≡ scale K (number_of T.kind y) (scale K (number_of T.kind x) (scale K (K.minus K.unit) v))
   minus_twice x y m v is e =
-      ap (λ c. scale K c v) ((reads.negative m is).1 ∙ sym (ap K.minus (unit-times K _)) ∙ sym (minus-times K K.unit _) ∙ K.times_comm _ _) ∙ sym (scale_scale K _ _ v)
+      ap (λ c. scale K c v) ((reads.negative m is).1 ∙ sym (ap K.minus (unit-times K _)) ∙ sym (minus-times K K.unit _) ∙ K.times_comm _ _) ∙
+      sym (scale_scale K _ _ v)
       ∙ times_twice x y m (scale K (K.minus K.unit) v) e
 
   abbrev pub entry : ℕ → ℕ → Vector K
@@ -79,16 +80,20 @@ module _ (T : PlainTable) (is_field : IsField T.kind) where
     abbrev n : ℕ
     n = length T.basis
 
-    within_reads : (i j : ℕ) (pr : Pairing) → IsPaired T i j pr → weight T i + weight T j ≤ T.weight → (x y : Num) (v z : List Num) (w : Vector K) → IsElement T.kind x → IsElement T.kind y →
-        Stands n w v → add_product T (add_entry T) pr x y v ≡ Ok z → Stands n (vplus K w (scale K (number_of T.kind y) (scale K (number_of T.kind x) (paired K entry pr)))) z
+    within_reads : (i j : ℕ) (pr : Pairing) → IsPaired T i j pr → weight T i + weight T j ≤ T.weight → (x y : Num) (v z : List Num) (w : Vector K) →
+        IsElement T.kind x → IsElement T.kind y →
+        Stands n w v → add_product T (add_entry T) pr x y v ≡ Ok z →
+        Stands n (vplus K w (scale K (number_of T.kind y) (scale K (number_of T.kind x) (paired K entry pr)))) z
     within_reads i j nothing p h x y v z w a b k e =
-        subst (Stands n _) (ok_same e) (same n w _ v (sym (ap (vplus K w) (ap (scale K (number_of T.kind y)) (scale-vzero K _) ∙ scale-vzero K _) ∙ vplus-vzero K w)) k)
+        subst (Stands n _) (ok_same e) (same n w _ v
+        (sym (ap (vplus K w) (ap (scale K (number_of T.kind y)) (scale-vzero K _) ∙ scale-vzero K _) ∙ vplus-vzero K w)) k)
     within_reads i j (plus c d) p h x y v z w a b k e =
         let m = first_fits (λ m. add_entry T c d m v) (operate T.kind Mul x y) z e in
         let q = reads.product x y m.0 a b m.1.0 in
         let r = pair_row T rows i j c d p h in
         same n _ _ z (ap (vplus K w) (times_twice x y m.0 (entry c d) q.1))
-        (axpy_reads T.kind K (number_of T.kind) reads units n w v (entry_row T c d) z m.0 k q.0 r.elements r.short (sym (entry_within c d m.0 v (omega (arith, p.weights))) ∙ m.1.1))
+        (axpy_reads T.kind K (number_of T.kind) reads units n w v (entry_row T c d) z m.0 k q.0 r.elements r.short
+        (sym (entry_within c d m.0 v (omega (arith, p.weights))) ∙ m.1.1))
     within_reads i j (minus c d) p h x y v z w a b k e =
         let m = first_fits (λ m. add_entry T c d (negative_of T.kind m) v) (operate T.kind Mul x y) z e in
         let q = reads.product x y m.0 a b m.1.0 in
@@ -97,18 +102,22 @@ module _ (T : PlainTable) (is_field : IsField T.kind) where
         (axpy_reads T.kind K (number_of T.kind) reads units n w v (entry_row T c d) z (negative_of T.kind m.0) k (reads.negative m.0 q.0).0 r.elements r.short
         (sym (entry_within c d (negative_of T.kind m.0) v (omega (arith, p.weights))) ∙ m.1.1))
 
-    past_same : (i j : ℕ) (pr : Pairing) → IsPaired T i j pr → T.weight < weight T i + weight T j → (x y : Num) (v z : List Num) → add_product T (add_entry T) pr x y v ≡ Ok z → v ≡ z
+    past_same : (i j : ℕ) (pr : Pairing) → IsPaired T i j pr → T.weight < weight T i + weight T j → (x y : Num) (v z : List Num) →
+        add_product T (add_entry T) pr x y v ≡ Ok z → v ≡ z
     past_same i j nothing p h x y v z e = ok_same e
     past_same i j (plus c d) p h x y v z e =
         let m = first_fits (λ m. add_entry T c d m v) (operate T.kind Mul x y) z e in ok_same (sym (entry_past c d m.0 v (omega (arith, p.weights))) ∙ m.1.1)
     past_same i j (minus c d) p h x y v z e =
-        let m = first_fits (λ m. add_entry T c d (negative_of T.kind m) v) (operate T.kind Mul x y) z e in ok_same (sym (entry_past c d (negative_of T.kind m.0) v (omega (arith, p.weights))) ∙ m.1.1)
+        let m = first_fits (λ m. add_entry T c d (negative_of T.kind m) v) (operate T.kind Mul x y) z e in
+        ok_same (sym (entry_past c d (negative_of T.kind m.0) v (omega (arith, p.weights))) ∙ m.1.1)
 
-    product_reads : (i j : ℕ) (x y : Num) (v z : List Num) (w : Vector K) → i < n → j < n → IsElement T.kind x → IsElement T.kind y → Stands n w v → add_product T (add_entry T) (pairing T i j) x y v ≡ Ok z →
+    product_reads : (i j : ℕ) (x y : Num) (v z : List Num) (w : Vector K) → i < n → j < n → IsElement T.kind x → IsElement T.kind y → Stands n w v →
+        add_product T (add_entry T) (pairing T i j) x y v ≡ Ok z →
         Stands n (vplus K w (scale K (number_of T.kind y) (scale K (number_of T.kind x) (product K (table_in T.kind T) i j)))) z
     product_reads i j x y v z w l l' a b k e = go (dec_le (weight T i + weight T j) T.weight)
       where
-        go : Dec (weight T i + weight T j ≤ T.weight) → Stands n (vplus K w (scale K (number_of T.kind y) (scale K (number_of T.kind x) (product K (table_in T.kind T) i j)))) z
+        go : Dec (weight T i + weight T j ≤ T.weight) →
+            Stands n (vplus K w (scale K (number_of T.kind y) (scale K (number_of T.kind x) (product K (table_in T.kind T) i j)))) z
         go (yes h) =
             same n _ _ z (ap (λ u. vplus K w (scale K (number_of T.kind y) (scale K (number_of T.kind x) u))) (sym (product_within i j h)))
             (within_reads i j (pairing T i j) (pairing_is T i j l l') h x y v z w a b k e)
@@ -117,7 +126,8 @@ module _ (T : PlainTable) (is_field : IsField T.kind) where
             (same n w _ v
             (sym
             (ap (vplus K w)
-            (ap (λ u. scale K (number_of T.kind y) (scale K (number_of T.kind x) u)) (product_past K (table_in T.kind T) i j (omega arith)) ∙ ap (scale K (number_of T.kind y)) (scale-vzero K _) ∙ scale-vzero K _)
+            (ap (λ u. scale K (number_of T.kind y) (scale K (number_of T.kind x) u)) (product_past K (table_in T.kind T) i j (omega arith)) ∙
+            ap (scale K (number_of T.kind y)) (scale-vzero K _) ∙ scale-vzero K _)
             ∙ vplus-vzero K w))
             k)
 
@@ -130,6 +140,8 @@ module _ (T : PlainTable) (is_field : IsField T.kind) where
     unfolding bracket
     bracket_reads x y z a b e =
         same n _ _ z (vzero-vplus K _)
-        (both_walks T.kind K (number_of T.kind) reads units n n (λ i. i < n) (λ j. j < n) (λ i j x y v. add_product T (add_entry T) (pairing T i j) x y v) (product K (table_in T.kind T))
-        (λ i j x y v z w l l' a b k e. product_reads i j x y v z w l l' a b k e) x y (zero_row n) z (vzero K) a.elements b.elements a.short b.short (below x a.short) (below y b.short)
+        (both_walks T.kind K (number_of T.kind) reads units n n (λ i. i < n) (λ j. j < n) (λ i j x y v. add_product T (add_entry T)
+        (pairing T i j) x y v) (product K (table_in T.kind T))
+        (λ i j x y v z w l l' a b k e. product_reads i j x y v z w l l' a b k e) x y (zero_row n) z (vzero K) a.elements b.elements a.short b.short
+        (below x a.short) (below y b.short)
         (zero_row_reads T.kind K (number_of T.kind) reads units n) e)

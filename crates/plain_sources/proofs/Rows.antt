@@ -53,7 +53,12 @@ module _ (kind : Kind) (K : Field) (value : Num → K.Carrier) (reads : Reads ki
 
   pub zero_row_reads : (n : ℕ) → IsFor kind K value n (vzero K) (zero_row n)
   unfolding vzero
-  zero_row_reads n = record { elements = All-replicate (IsElement kind) n (residue 0) units.nought; long = length-replicate n (residue 0); vector = fun_ext (zeros_at n) }
+  zero_row_reads n = record {
+    elements = All-replicate (IsElement kind) n (residue 0) units.nought;
+    long = length-replicate n (residue 0);
+    vector =
+        fun_ext (zeros_at n);
+  }
 
   set_same : (row : List Num) (s : ℕ) (x : Num) → s < length row → vector_of K value (set row s x) s ≡ value x
   set_same [] s x l = absurd (omega arith)
@@ -76,10 +81,12 @@ module _ (kind : Kind) (K : Field) (value : Num → K.Carrier) (reads : Reads ki
           subst (λ t. vector_of K value (set row s x) t ≡ K.plus (vector_of K value row t) (K.times (value c) (place K s t))) d
           (set_same row s x l ∙ e ∙ ap (K.plus (vector_of K value row s)) (sym (ap (K.times (value c)) (place_same K s) ∙ K.times-unit (value c))))
       go (no d) =
-          set_other row s t x d ∙ sym (K.plus-nought _) ∙ ap (K.plus (vector_of K value row t)) (sym (ap (K.times (value c)) (place_other K s t d) ∙ times-nought K (value c)))
+          set_other row s t x d ∙ sym (K.plus-nought _) ∙ ap (K.plus (vector_of K value row t))
+          (sym (ap (K.times (value c)) (place_other K s t d) ∙ times-nought K (value c)))
 
   -- a number added at a place
-  pub add_at_reads : (n : ℕ) (w : Vector K) (v z : List Num) (s : ℕ) (c : Num) → IsFor kind K value n w v → IsElement kind c → s < n → added_at kind v s c ≡ Ok z →
+  pub add_at_reads : (n : ℕ) (w : Vector K) (v z : List Num) (s : ℕ) (c : Num) → IsFor kind K value n w v → IsElement kind c → s < n →
+      added_at kind v s c ≡ Ok z →
       IsFor kind K value n (vplus K w (scale K (value c) (place K s))) z
   unfolding vplus scale
   add_at_reads n w v z s c h b l e =
@@ -95,23 +102,42 @@ module _ (kind : Kind) (K : Field) (value : Num → K.Carrier) (reads : Reads ki
             ∙ ap (λ u t. K.plus (u t) (K.times (value c) (place K s t))) h.vector;
       }
 
-  axpy_places : (xs ys zs : List Num) (c : Num) → AreElements kind xs → IsElement kind c → AreElements kind ys → length ys ≤ length xs → axpy_of kind xs c ys ≡ Ok zs →
-      AreElements kind zs × ((length zs ≡ length xs) × ((s : ℕ) → vector_of K value zs s ≡ K.plus (vector_of K value xs s) (K.times (value c) (vector_of K value ys s))))
+  axpy_places : (xs ys zs : List Num) (c : Num) → AreElements kind xs → IsElement kind c → AreElements kind ys → length ys ≤ length xs →
+      axpy_of kind xs c ys ≡ Ok zs →
+      AreElements kind zs × ((length zs ≡ length xs) × ((s : ℕ) → vector_of K value zs s ≡ K.plus (vector_of K value xs s)
+      (K.times (value c) (vector_of K value ys s))))
   axpy_places [] [] zs c a b d l e =
-      let is : [] ≡ zs = ok_same e in
-      (subst (AreElements kind) is a, (ap length (sym is), λ s. ap (λ w. vector_of K value w s) (sym is) ∙ sym (ap (K.plus K.nought) (times-nought K _) ∙ K.plus-nought _)))
+      let is : [] ≡ zs = ok_same e in (
+        subst (AreElements kind) is a,
+        (
+          ap length (sym is),
+          λ s. ap (λ w. vector_of K value w s) (sym is) ∙
+              sym (ap (K.plus K.nought) (times-nought K _) ∙ K.plus-nought _),
+        ),
+      )
   axpy_places [] (y ∷ ys) zs c a b d l e = absurd (omega arith)
   axpy_places (x ∷ xs) [] zs c a b d l e =
-      let is : x ∷ xs ≡ zs = ok_same e in
-      (subst (AreElements kind) is a, (ap length (sym is), λ s. ap (λ w. vector_of K value w s) (sym is) ∙ sym (ap (K.plus (vector_of K value (x ∷ xs) s)) (times-nought K _) ∙ K.plus-nought _)))
+      let is : x ∷ xs ≡ zs = ok_same e in (
+        subst (AreElements kind) is a,
+        (
+          ap length (sym is),
+          λ s. ap (λ w. vector_of K value w s) (sym is) ∙
+              sym (ap (K.plus (vector_of K value (x ∷ xs) s)) (times-nought K _) ∙ K.plus-nought _),
+        ),
+      )
   axpy_places (x ∷ xs) (y ∷ ys) zs c a b d l e =
       let o = first_fits _ (and_then (λ m. operate kind Add x m) (operate kind Mul c y)) zs e in
       let m = first_fits (λ m. operate kind Add x m) (operate kind Mul c y) o.0 o.1.0 in
       let p = reads.product c y m.0 b (All-head (IsElement kind) y ys d) m.1.0 in
       let q = reads.sum x m.0 o.0 (All-head (IsElement kind) x xs a) p.0 m.1.1 in
       let r = part_fits _ (axpy_of kind xs c ys) zs o.1.1 in
-      let k = axpy_places xs ys r.0 c (All-tail (IsElement kind) x xs a) b (All-tail (IsElement kind) y ys d) (omega arith) r.1.0 in
-      (subst (AreElements kind) (sym r.1.1) (All-cons (IsElement kind) o.0 r.0 q.0 k.0), (ap length r.1.1 ∙ ap suc k.1.0, λ s. ap (λ w. vector_of K value w s) r.1.1 ∙ go o.0 r.0 (q.1 ∙ ap (K.plus (value x)) p.1) k.1.1 s))
+      let k = axpy_places xs ys r.0 c (All-tail (IsElement kind) x xs a) b (All-tail (IsElement kind) y ys d) (omega arith) r.1.0 in (
+        subst (AreElements kind) (sym r.1.1) (All-cons (IsElement kind) o.0 r.0 q.0 k.0),
+        (
+          ap length r.1.1 ∙ ap suc k.1.0,
+          λ s. ap (λ w. vector_of K value w s) r.1.1 ∙ go o.0 r.0 (q.1 ∙ ap (K.plus (value x)) p.1) k.1.1 s,
+        ),
+      )
     where
       go : (t : Num) (rest : List Num) → value t ≡ K.plus (value x) (K.times (value c) (value y)) →
           ((s : ℕ) → vector_of K value rest s ≡ K.plus (vector_of K value xs s) (K.times (value c) (vector_of K value ys s))) →
@@ -120,7 +146,8 @@ module _ (kind : Kind) (K : Field) (value : Num → K.Carrier) (reads : Reads ki
       go t rest h k (suc s) = k s
 
   -- a multiple of a row added
-  pub axpy_reads : (n : ℕ) (w : Vector K) (v x z : List Num) (c : Num) → IsFor kind K value n w v → IsElement kind c → AreElements kind x → length x ≤ n → axpy_of kind v c x ≡ Ok z →
+  pub axpy_reads : (n : ℕ) (w : Vector K) (v x z : List Num) (c : Num) → IsFor kind K value n w v → IsElement kind c → AreElements kind x →
+      length x ≤ n → axpy_of kind v c x ≡ Ok z →
       IsFor kind K value n (vplus K w (scale K (value c) (vector_of K value x))) z
   unfolding vplus scale
   axpy_reads n w v x z c h b d l e =
@@ -128,16 +155,19 @@ module _ (kind : Kind) (K : Field) (value : Num → K.Carrier) (reads : Reads ki
       record { elements = k.0; long = k.1.0 ∙ h.long; vector = fun_ext k.1.1 ∙ ap (λ u s. K.plus (u s) (K.times (value c) (vector_of K value x s))) h.vector }
 
   -- a row added
-  pub add_row_reads : (n : ℕ) (w : Vector K) (v x z : List Num) → IsFor kind K value n w v → AreElements kind x → length x ≤ n → add_row kind v x ≡ Ok z → IsFor kind K value n (vplus K w (vector_of K value x)) z
+  pub add_row_reads : (n : ℕ) (w : Vector K) (v x z : List Num) → IsFor kind K value n w v → AreElements kind x → length x ≤ n →
+      add_row kind v x ≡ Ok z → IsFor kind K value n (vplus K w (vector_of K value x)) z
   add_row_reads n w v x z h d l e =
-      for_same n _ _ z (ap (vplus K w) (ap (λ c. scale K c (vector_of K value x)) units.unit_is ∙ scale-unit K _)) (axpy_reads n w v x z (residue 1) h units.unit d l e)
+      for_same n _ _ z (ap (vplus K w) (ap (λ c. scale K c (vector_of K value x)) units.unit_is ∙ scale-unit K _))
+      (axpy_reads n w v x z (residue 1) h units.unit d l e)
 
   -- a row taken off
   pub take_off_reads : (n : ℕ) (w : Vector K) (v x z : List Num) → IsFor kind K value n w v → AreElements kind x → length x ≤ n → take_off kind v x ≡ Ok z →
       IsFor kind K value n (vplus K w (scale K (K.minus K.unit) (vector_of K value x))) z
   take_off_reads n w v x z h d l e =
       let minus = reads.negative (residue 1) units.unit in
-      for_same n _ _ z (ap (λ c. vplus K w (scale K c (vector_of K value x))) (minus.1 ∙ ap K.minus units.unit_is)) (axpy_reads n w v x z (negative_of kind (residue 1)) h minus.0 d l e)
+      for_same n _ _ z (ap (λ c. vplus K w (scale K c (vector_of K value x))) (minus.1 ∙ ap K.minus units.unit_is))
+      (axpy_reads n w v x z (negative_of kind (residue 1)) h minus.0 d l e)
 
   scale_places : (xs zs : List Num) (c : Num) → AreElements kind xs → IsElement kind c → scale_of kind c xs ≡ Ok zs →
       AreElements kind zs × ((length zs ≡ length xs) × ((s : ℕ) → vector_of K value zs s ≡ K.times (value c) (vector_of K value xs s)))
@@ -148,16 +178,23 @@ module _ (kind : Kind) (K : Field) (value : Num → K.Carrier) (reads : Reads ki
       let m = first_fits _ (operate kind Mul c x) zs e in
       let p = reads.product c x m.0 b (All-head (IsElement kind) x xs a) m.1.0 in
       let r = part_fits _ (scale_of kind c xs) zs m.1.1 in
-      let k = scale_places xs r.0 c (All-tail (IsElement kind) x xs a) b r.1.0 in
-      (subst (AreElements kind) (sym r.1.1) (All-cons (IsElement kind) m.0 r.0 p.0 k.0), (ap length r.1.1 ∙ ap suc k.1.0, λ s. ap (λ w. vector_of K value w s) r.1.1 ∙ go m.0 r.0 p.1 k.1.1 s))
+      let k = scale_places xs r.0 c (All-tail (IsElement kind) x xs a) b r.1.0 in (
+        subst (AreElements kind) (sym r.1.1) (All-cons (IsElement kind) m.0 r.0 p.0 k.0),
+        (
+          ap length r.1.1 ∙ ap suc k.1.0,
+          λ s. ap (λ w. vector_of K value w s) r.1.1 ∙ go m.0 r.0 p.1 k.1.1 s,
+        ),
+      )
     where
-      go : (t : Num) (rest : List Num) → value t ≡ K.times (value c) (value x) → ((s : ℕ) → vector_of K value rest s ≡ K.times (value c) (vector_of K value xs s)) →
+      go : (t : Num) (rest : List Num) → value t ≡ K.times (value c) (value x) → ((s : ℕ) →
+          vector_of K value rest s ≡ K.times (value c) (vector_of K value xs s)) →
           (s : ℕ) → vector_of K value (t ∷ rest) s ≡ K.times (value c) (vector_of K value (x ∷ xs) s)
       go t rest h k zero = h
       go t rest h k (suc s) = k s
 
   -- a multiple of a row
-  pub scale_reads : (n : ℕ) (w : Vector K) (v z : List Num) (c : Num) → IsFor kind K value n w v → IsElement kind c → scale_of kind c v ≡ Ok z → IsFor kind K value n (scale K (value c) w) z
+  pub scale_reads : (n : ℕ) (w : Vector K) (v z : List Num) (c : Num) → IsFor kind K value n w v → IsElement kind c → scale_of kind c v ≡ Ok z →
+      IsFor kind K value n (scale K (value c) w) z
   unfolding scale
   scale_reads n w v z c h b e =
       let k = scale_places v z c h.elements b e in
@@ -165,16 +202,19 @@ module _ (kind : Kind) (K : Field) (value : Num → K.Carrier) (reads : Reads ki
 
   minus_at : (xs : List Num) (s : ℕ) → AreElements kind xs → vector_of K value (map (negative_of kind) xs) s ≡ K.times (K.minus K.unit) (vector_of K value xs s)
   minus_at [] s a = sym (times-nought K _)
-  minus_at (x ∷ xs) zero a = (reads.negative x (All-head (IsElement kind) x xs a)).1 ∙ sym (minus-times K K.unit (value x) ∙ ap K.minus (unit-times K (value x)))
+  minus_at (x ∷ xs) zero a = (reads.negative x (All-head (IsElement kind) x xs a)).1 ∙ sym (minus-times K K.unit (value x) ∙
+      ap K.minus (unit-times K (value x)))
   minus_at (x ∷ xs) (suc s) a = minus_at xs s (All-tail (IsElement kind) x xs a)
 
   minus_elements : (xs : List Num) → AreElements kind xs → AreElements kind (map (negative_of kind) xs)
   minus_elements [] a = All-nil (IsElement kind)
   minus_elements (x ∷ xs) a =
-      All-cons (IsElement kind) (negative_of kind x) (map (negative_of kind) xs) (reads.negative x (All-head (IsElement kind) x xs a)).0 (minus_elements xs (All-tail (IsElement kind) x xs a))
+      All-cons (IsElement kind) (negative_of kind x) (map (negative_of kind) xs) (reads.negative x (All-head (IsElement kind) x xs a)).0
+      (minus_elements xs (All-tail (IsElement kind) x xs a))
 
   -- minus a row
-  pub minus_reads : (n : ℕ) (w : Vector K) (v : List Num) → IsFor kind K value n w v → IsFor kind K value n (scale K (K.minus K.unit) w) (map (negative_of kind) v)
+  pub minus_reads : (n : ℕ) (w : Vector K) (v : List Num) → IsFor kind K value n w v → IsFor kind K value n (scale K (K.minus K.unit) w)
+      (map (negative_of kind) v)
   unfolding scale
   minus_reads n w v h = record {
     elements = minus_elements v h.elements;

@@ -88,13 +88,15 @@ module _ (T : PlainTable) (is_field : IsField T.kind) (rows : HasRows T) (weight
   unfolding symbols symbols_of
   symbols_same = refl
 
-  equation_is : (k : ℕ) (d : Equation) → k < length p.relations → get_or (map (equation_in T.kind) p.relations) k (none, none) ≡ equation_in T.kind (get_or p.relations k d)
+  equation_is : (k : ℕ) (d : Equation) → k < length p.relations → get_or (map (equation_in T.kind) p.relations) k (none, none) ≡
+      equation_in T.kind (get_or p.relations k d)
   equation_is k d l = get_or-map (equation_in T.kind) p.relations k d (none, none) l
 
   weight_is : (k : ℕ) (d : Equation) → k < length p.relations → weight_of_both P (left P k) (right P k) ≡ relation_weight T (get_or p.relations k d)
   weight_is k d l =
       ap (λ q. weight_of_both P (q.0) (q.1)) (equation_is k d l)
-      ∙ ap₂ (of_both nat_eq) (weight_same T.generators (map (equation_in T.kind) p.relations) [] _) (weight_same T.generators (map (equation_in T.kind) p.relations) [] _)
+      ∙ ap₂ (of_both nat_eq) (weight_same T.generators (map (equation_in T.kind) p.relations) [] _)
+      (weight_same T.generators (map (equation_in T.kind) p.relations) [] _)
 
   abbrev relation_by : List Symbol → Tree (Number T.kind) × Tree (Number T.kind) → Vector F
   relation_by s q =
@@ -105,18 +107,21 @@ module _ (T : PlainTable) (is_field : IsField T.kind) (rows : HasRows T) (weight
   abbrev pub origin_vector : Origin → Vector F
   origin_vector o = vector_of_origin F P (table_in T.kind T) o
 
-  relation_stands : (k : ℕ) → k < length p.relations → ((d : Equation) → relation_weight T (get_or p.relations k d) ≡ exact (suc T.weight)) → (v : List Num) → equation_row T p.relations (1 + k) ≡ Ok v →
+  relation_stands : (k : ℕ) → k < length p.relations → ((d : Equation) → relation_weight T (get_or p.relations k d) ≡ exact (suc T.weight)) →
+      (v : List Num) → equation_row T p.relations (1 + k) ≡ Ok v →
       Stands T is_field m (relation_row F P (table_in T.kind T) k) v
   relation_stands k l w v e =
       let d = some_of p.relations k l in
       let h = within k d l in
-      same T is_field m _ _ v (ap (relation_by (symbols_in T)) (sym (equation_is k d l)) ∙ ap (λ s. relation_by s (get_or (map (equation_in T.kind) p.relations) k (none, none))) (sym symbols_same))
+      same T is_field m _ _ v (ap (relation_by (symbols_in T)) (sym (equation_is k d l)) ∙ ap
+      (λ s. relation_by s (get_or (map (equation_in T.kind) p.relations) k (none, none))) (sym symbols_same))
       (relation_reads T is_field rows weights (get_or p.relations k d) h.0 h.1 (w d) v (sym (equation_at T p.relations k d l) ∙ e))
 
   triple_row : List Symbol → ℕ → ℕ → ℕ → Vector F
   triple_row s i j k = jacobi_row F (table_in T.kind T) (λ i j. place_of (of_pair i j) s) i j k
 
-  triple_stands : (i j k : ℕ) → IsTriple T i j k → (v : List Num) → jacobi_row_of T i j k ≡ Ok v → Stands T is_field m (jacobi_row F (table_in T.kind T) (pair_number P (table_in T.kind T)) i j k) v
+  triple_stands : (i j k : ℕ) → IsTriple T i j k → (v : List Num) → jacobi_row_of T i j k ≡ Ok v →
+      Stands T is_field m (jacobi_row F (table_in T.kind T) (pair_number P (table_in T.kind T)) i j k) v
   unfolding triple_row
   triple_stands i j k h v e =
       same T is_field m _ _ v (ap (λ s. triple_row s i j k) (sym symbols_same)) (jacobi_reads T is_field rows weights i j k h.first h.second h.third h.sum v e)
@@ -133,8 +138,10 @@ module _ (T : PlainTable) (is_field : IsField T.kind) (rows : HasRows T) (weight
   origin_reads _ (listed_relation k l h) v e =
       subst (λ r. Stands T is_field m (relation_row F P (table_in T.kind T) r) v) (let g : k ≡ 1 + k - 1 = omega arith in g) (relation_stands k l h v e)
   origin_reads _ (listed_triple i j k h) v e =
-      at_shifts (λ a b c. jacobi_row_of T a b c ≡ Ok v → Stands T is_field m (jacobi_row F (table_in T.kind T) (pair_number P (table_in T.kind T)) a b c) v) i j k (triple_stands i j k h v) e
-  origin_reads _ (listed_cube i h) v e = subst (λ a. cube_row_of T a ≡ Ok v → Stands T is_field m (cube_row F P (table_in T.kind T) a) v) (shift i) (cube_stands i h v) e
+      at_shifts (λ a b c. jacobi_row_of T a b c ≡ Ok v →
+      Stands T is_field m (jacobi_row F (table_in T.kind T) (pair_number P (table_in T.kind T)) a b c) v) i j k (triple_stands i j k h v) e
+  origin_reads _ (listed_cube i h) v e = subst (λ a. cube_row_of T a ≡ Ok v → Stands T is_field m (cube_row F P (table_in T.kind T) a) v) (shift i)
+      (cube_stands i h v) e
 
   -- which is a source row
   pub origin_source : (o : Origin) → IsListed T p o → IsSource F P (table_in T.kind T) (origin_vector o)
@@ -142,9 +149,11 @@ module _ (T : PlainTable) (is_field : IsField T.kind) (rows : HasRows T) (weight
       subst (λ r. IsSource F P (table_in T.kind T) (relation_row F P (table_in T.kind T) r)) (let g : k ≡ 1 + k - 1 = omega arith in g)
       (of_relation k (omega (arith, length-map p.relations (equation_in T.kind))) (weight_is k (some_of p.relations k l) l ∙ h (some_of p.relations k l)))
   origin_source _ (listed_triple i j k h) =
-      at_shifts (λ a b c. IsSource F P (table_in T.kind T) (jacobi_row F (table_in T.kind T) (pair_number P (table_in T.kind T)) a b c)) i j k (of_triple i j k h.first h.second h.third h.sum)
+      at_shifts (λ a b c. IsSource F P (table_in T.kind T) (jacobi_row F (table_in T.kind T) (pair_number P (table_in T.kind T)) a b c)) i j k
+      (of_triple i j k h.first h.second h.third h.sum)
   origin_source _ (listed_cube i h) =
-      subst (λ a. IsSource F P (table_in T.kind T) (cube_row F P (table_in T.kind T) a)) (shift i) (of_cube i ((three_is T.kind).1 h.three) h.below h.odd_one h.sum)
+      subst (λ a. IsSource F P (table_in T.kind T) (cube_row F P (table_in T.kind T) a)) (shift i)
+      (of_cube i ((three_is T.kind).1 h.three) h.below h.odd_one h.sum)
 
   -- and each source row is the vector of a listed origin
   pub source_origin : (v : Vector F) → IsSource F P (table_in T.kind T) v → (o : Origin) × IsListed T p o × (origin_vector o ≡ v)
@@ -154,7 +163,11 @@ module _ (T : PlainTable) (is_field : IsField T.kind) (rows : HasRows T) (weight
   source_origin _ (of_triple i j k a b l w) = (
     Jacobi (i + 1) (j + 1) (k + 1),
     listed_triple i j k (record { first = a; second = b; third = l; sum = w }),
-    at_shifts (λ a b c. jacobi_row F (table_in T.kind T) (pair_number P (table_in T.kind T)) a b c ≡ jacobi_row F (table_in T.kind T) (pair_number P (table_in T.kind T)) i j k) i j k refl,
+    at_shifts (λ a b c. jacobi_row F (table_in T.kind T) (pair_number P (table_in T.kind T)) a b c ≡
+        jacobi_row F (table_in T.kind T) (pair_number P (table_in T.kind T)) i j k) i j k refl,
   )
-  source_origin _ (of_cube i z l o w) =
-      (Cube (i + 1), listed_cube i (record { three = (three_is T.kind).0 z; below = l; odd_one = o; sum = w }), ap (cube_row F P (table_in T.kind T)) (sym (shift i)))
+  source_origin _ (of_cube i z l o w) = (
+    Cube (i + 1),
+    listed_cube i (record { three = (three_is T.kind).0 z; below = l; odd_one = o; sum = w }),
+    ap (cube_row F P (table_in T.kind T)) (sym (shift i)),
+  )

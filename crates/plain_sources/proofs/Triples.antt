@@ -71,31 +71,38 @@ module _ (T : PlainTable) (is_field : IsField T.kind) where
   entry_row_in rows i j (minus a b) p h = empty_row T
 
   -- one place of an entry, in each of the three terms
-  at_reads : (i j : ℕ) → i < n → j < n → weight T i + weight T j ≡ suc T.weight → (c : Num) (v z : List Num) (w : Vector F) → IsElement T.kind c → Stands T is_field (m T is_field) w v →
+  at_reads : (i j : ℕ) → i < n → j < n → weight T i + weight T j ≡ suc T.weight → (c : Num) (v z : List Num) (w : Vector F) → IsElement T.kind c →
+      Stands T is_field (m T is_field) w v →
       add_signed T (pairing T i j) c v ≡ Ok z → Stands T is_field (m T is_field) (vplus F w (scale F (number_of T.kind c) (at i j))) z
   at_reads i j l k h c v z w is s e =
       same T is_field (m T is_field) _ _ z (ap (λ f. vplus F w (scale F (number_of T.kind c) f)) (outer_is T is_field i j h))
       (signed_reads T is_field i j (pairing T i j) (pairing_is T i j l k) h c v z w is s e)
 
-  first_adds : (i b : ℕ) → i < n → weight T i + b ≡ suc T.weight → Adds T.kind F (number_of T.kind) (reads T is_field) (units T is_field) (m T is_field) (HasWeight T is_field b) (first_terms T i) (at i)
+  first_adds : (i b : ℕ) → i < n → weight T i + b ≡ suc T.weight → Adds T.kind F (number_of T.kind) (reads T is_field) (units T is_field)
+      (m T is_field) (HasWeight T is_field b) (first_terms T i) (at i)
   first_adds i b l h t c v z w s is k e = at_reads i t l s.0 (let d = s.1 in omega arith) c v z w is k e
 
   second_adds : (k b : ℕ) → k < n → b + weight T k ≡ suc T.weight →
-      Adds T.kind F (number_of T.kind) (reads T is_field) (units T is_field) (m T is_field) (HasWeight T is_field b) (second_terms T k) (λ t. scale F (F.minus F.unit) (at t k))
+      Adds T.kind F (number_of T.kind) (reads T is_field) (units T is_field) (m T is_field) (HasWeight T is_field b) (second_terms T k)
+      (λ t. scale F (F.minus F.unit) (at t k))
   second_adds k b l h t c v z w s is q e =
       same T is_field (m T is_field) _ _ z (ap (vplus F w) (minus_once T is_field c (at t k) is))
       (at_reads t k s.0 l (let d = s.1 in omega arith) (negative_of T.kind c) v z w ((reads T is_field).negative c is).0 q e)
 
-  swapped_is : (s t : Parity) (c : Num) → IsElement T.kind c → IsElement T.kind (swapped T s t c) × (number_of T.kind (swapped T s t c) ≡ F.times (number_of T.kind c) (F.minus (sign F s t)))
+  swapped_is : (s t : Parity) (c : Num) → IsElement T.kind c → IsElement T.kind (swapped T s t c) ×
+      (number_of T.kind (swapped T s t c) ≡ F.times (number_of T.kind c) (F.minus (sign F s t)))
   swapped_is odd odd c is = (is, sym (ap (F.times (number_of T.kind c)) (minus_minus F F.unit) ∙ F.times-unit _))
-  swapped_is odd even c is = let r = (reads T is_field).negative c is in (r.0, r.1 ∙ sym (F.times_comm _ _ ∙ minus-times F F.unit _ ∙ ap F.minus (unit-times F _)))
-  swapped_is even t c is = let r = (reads T is_field).negative c is in (r.0, r.1 ∙ sym (F.times_comm _ _ ∙ minus-times F F.unit _ ∙ ap F.minus (unit-times F _)))
+  swapped_is odd even c is = let r = (reads T is_field).negative c is in
+      (r.0, r.1 ∙ sym (F.times_comm _ _ ∙ minus-times F F.unit _ ∙ ap F.minus (unit-times F _)))
+  swapped_is even t c is = let r = (reads T is_field).negative c is in
+      (r.0, r.1 ∙ sym (F.times_comm _ _ ∙ minus-times F F.unit _ ∙ ap F.minus (unit-times F _)))
 
   abbrev turn : ℕ → ℕ → F.Carrier
   turn i j = F.minus (sign F (parity T i) (parity T j))
 
   third_adds : (i j b : ℕ) → j < n → weight T j + b ≡ suc T.weight →
-      Adds T.kind F (number_of T.kind) (reads T is_field) (units T is_field) (m T is_field) (HasWeight T is_field b) (third_terms T i j) (λ t. scale F (turn i j) (at j t))
+      Adds T.kind F (number_of T.kind) (reads T is_field) (units T is_field) (m T is_field) (HasWeight T is_field b) (third_terms T i j)
+      (λ t. scale F (turn i j) (at j t))
   third_adds i j b l h t c v z w s is q e =
       let r = swapped_is (parity T i) (parity T j) c is in
       same T is_field (m T is_field) _ _ z (ap (vplus F w) (ap (λ a. scale F a (at j t)) r.1 ∙ sym (scale_scale F _ _ (at j t))))
@@ -103,9 +110,11 @@ module _ (T : PlainTable) (is_field : IsField T.kind) where
 
   -- the sum of the three terms
   gathered : (a b c : Vector F) (s : F.Carrier) →
-      vplus F (vplus F (vplus F (vzero F) a) (scale F (F.minus F.unit) b)) (scale F (F.minus s) c) ≡ vplus F a (scale F (F.minus F.unit) (vplus F b (scale F s c)))
+      vplus F (vplus F (vplus F (vzero F) a) (scale F (F.minus F.unit) b)) (scale F (F.minus s) c) ≡
+      vplus F a (scale F (F.minus F.unit) (vplus F b (scale F s c)))
   gathered a b c s =
-      ap₂ (vplus F) (ap (λ u. vplus F u (scale F (F.minus F.unit) b)) (vzero-vplus F a)) (ap (λ u. scale F u c) (sym (minus-times F F.unit s ∙ ap F.minus (unit-times F s))) ∙ sym (scale_scale F _ _ c))
+      ap₂ (vplus F) (ap (λ u. vplus F u (scale F (F.minus F.unit) b)) (vzero-vplus F a)) (ap (λ u. scale F u c)
+      (sym (minus-times F F.unit s ∙ ap F.minus (unit-times F s))) ∙ sym (scale_scale F _ _ c))
       ∙ vplus_assoc F _ _ _ ∙ ap (vplus F a) (sym (scale-vplus F _ b (scale F s c)))
 
   module _ (rows : HasRows T) (weights : HasWeights T) where
@@ -119,30 +128,39 @@ module _ (T : PlainTable) (is_field : IsField T.kind) where
 
     -- a walk over the entry of an ordered pair adds the sum over its product
     entry_walk : (i j : ℕ) → i ≤ j → j < n → weight T i + weight T j ≤ T.weight → (step : ℕ → Num → List Num → Result (List Num) Unfit) (form : ℕ → Vector F) →
-        Adds T.kind F (number_of T.kind) (reads T is_field) (units T is_field) (m T is_field) (HasWeight T is_field (weight T i + weight T j)) step form → (v z : List Num) (w : Vector F) →
+        Adds T.kind F (number_of T.kind) (reads T is_field) (units T is_field) (m T is_field)
+        (HasWeight T is_field (weight T i + weight T j)) step form → (v z : List Num) (w : Vector F) →
         Stands T is_field (m T is_field) w v → add_each step 0 (entry_if T i j) v ≡ Ok z →
         Stands T is_field (m T is_field) (vplus F w (total F n (λ t. scale F (product F (table_in T.kind T) i j t) (form t)))) z
     entry_walk i j l k h step form adds v z w s e =
         let r = entry_in i j l k h in
         same T is_field (m T is_field) _ _ z (ap (λ u. vplus F w (total F n (λ t. scale F (u t) (form t)))) (entry_is i j l h))
-        (walk_reads T.kind F (number_of T.kind) (reads T is_field) (units T is_field) n (m T is_field) (HasWeight T is_field (weight T i + weight T j)) step form adds
+        (walk_reads T.kind F (number_of T.kind) (reads T is_field) (units T is_field) n (m T is_field)
+        (HasWeight T is_field (weight T i + weight T j)) step form adds
         (entry_if T i j) v z w r.elements r.short (entry_places i j l k h) s e)
 
-    scaled_total : (a : F.Carrier) (f : ℕ → F.Carrier) (g : ℕ → Vector F) → total F n (λ t. scale F (f t) (scale F a (g t))) ≡ scale F a (total F n (λ t. scale F (f t) (g t)))
+    scaled_total : (a : F.Carrier) (f : ℕ → F.Carrier) (g : ℕ → Vector F) → total F n (λ t. scale F (f t) (scale F a (g t))) ≡
+        scale F a (total F n (λ t. scale F (f t) (g t)))
     scaled_total a f g = total_same F n _ _ (λ t. scale_comm F (f t) a (g t)) ∙ total_scale F n a (λ t. scale F (f t) (g t))
 
     -- the row of a triple
-    pub jacobi_reads : (i j k : ℕ) → i ≤ j → j ≤ k → k < n → weight T i + weight T j + weight T k ≡ suc T.weight → (v : List Num) → jacobi_row_of T i j k ≡ Ok v →
+    pub jacobi_reads : (i j k : ℕ) → i ≤ j → j ≤ k → k < n → weight T i + weight T j + weight T k ≡ suc T.weight → (v : List Num) →
+        jacobi_row_of T i j k ≡ Ok v →
         Stands T is_field (m T is_field) (jacobi_row F (table_in T.kind T) (pairs T is_field) i j k) v
     jacobi_reads i j k l l' q h v e =
-        let y = first_fits (λ w. add_each (third_terms T i j) 0 (entry_if T i k) w) (and_then (λ w. add_each (second_terms T k) 0 (entry_if T i j) w) (add_each (first_terms T i) 0 (entry_if T j k) (zero_row (m T is_field)))) v e in
-        let x = first_fits (λ w. add_each (second_terms T k) 0 (entry_if T i j) w) (add_each (first_terms T i) 0 (entry_if T j k) (zero_row (m T is_field))) y.0 y.1.0 in
+        let y = first_fits (λ w. add_each (third_terms T i j) 0 (entry_if T i k) w) (and_then (λ w. add_each (second_terms T k) 0 (entry_if T i j) w)
+        (add_each (first_terms T i) 0 (entry_if T j k) (zero_row (m T is_field)))) v e in
+        let x = first_fits (λ w. add_each (second_terms T k) 0 (entry_if T i j) w) (add_each (first_terms T i) 0 (entry_if T j k)
+        (zero_row (m T is_field))) y.0 y.1.0 in
         let pi = weights.positive i (omega arith) in
         let pj = weights.positive j (omega arith) in
         let pk = weights.positive k q in
-        let first = entry_walk j k l' q (omega arith) (first_terms T i) (at i) (first_adds i (weight T j + weight T k) (omega arith) (omega arith)) (zero_row (m T is_field)) x.0 (vzero F) (zero_symbols T is_field) x.1.0 in
-        let second = entry_walk i j l (omega arith) (omega arith) (second_terms T k) (λ t. scale F (F.minus F.unit) (at t k)) (second_adds k (weight T i + weight T j) q (omega arith)) x.0 y.0 _ first x.1.1 in
-        let third = entry_walk i k (omega arith) q (omega arith) (third_terms T i j) (λ t. scale F (turn i j) (at j t)) (third_adds i j (weight T i + weight T k) (omega arith) (omega arith)) y.0 v _ second y.1.1 in
+        let first = entry_walk j k l' q (omega arith) (first_terms T i) (at i) (first_adds i (weight T j + weight T k) (omega arith) (omega arith))
+        (zero_row (m T is_field)) x.0 (vzero F) (zero_symbols T is_field) x.1.0 in
+        let second = entry_walk i j l (omega arith) (omega arith) (second_terms T k) (λ t. scale F (F.minus F.unit) (at t k))
+        (second_adds k (weight T i + weight T j) q (omega arith)) x.0 y.0 _ first x.1.1 in
+        let third = entry_walk i k (omega arith) q (omega arith) (third_terms T i j) (λ t. scale F (turn i j) (at j t))
+        (third_adds i j (weight T i + weight T k) (omega arith) (omega arith)) y.0 v _ second y.1.1 in
         same T is_field (m T is_field) _ _ v
         (ap₂ (λ b c. vplus F (vplus F (vplus F (vzero F) (total F n (λ t. scale F (product F (table_in T.kind T) j k t) (at i t)))) b) c)
         (scaled_total (F.minus F.unit) (product F (table_in T.kind T) i j) (λ t. at t k)) (scaled_total (turn i j) (product F (table_in T.kind T) i k) (at j))
@@ -155,4 +173,5 @@ module _ (T : PlainTable) (is_field : IsField T.kind) where
     cube_reads i l h v e =
         let p = weights.positive i l in
         same T is_field (m T is_field) _ _ v (vzero-vplus F _ ∙ sym (cube_entries F (shell_in T.kind T) (table_in T.kind T) i l))
-        (entry_walk i i (omega arith) l (omega arith) (first_terms T i) (at i) (first_adds i (weight T i + weight T i) l (omega arith)) (zero_row (m T is_field)) v (vzero F) (zero_symbols T is_field) e)
+        (entry_walk i i (omega arith) l (omega arith) (first_terms T i) (at i) (first_adds i (weight T i + weight T i) l (omega arith))
+        (zero_row (m T is_field)) v (vzero F) (zero_symbols T is_field) e)

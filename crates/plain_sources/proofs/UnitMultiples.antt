@@ -31,7 +31,11 @@ negative_fits Rational c f = (rw (abs-neg c.numerator) f.0, f.1)
 negative_fits (Prime p) c f = tt
 
 pub unit_multiples : (k : Kind) → IsField k → UnitMultiples k
-unit_multiples k h c is = (product_fits k (residue 1) c c once is.1, product_fits k (negative_of k (residue 1)) c (negative_of k c) minus (negative_fits k c is.1))
+unit_multiples k h c is = (
+  product_fits k (residue 1) c c once is.1,
+  product_fits k (negative_of k (residue 1)) c (negative_of k c) minus
+      (negative_fits k c is.1),
+)
   where
     K : Field
     K = field_of k
@@ -56,4 +60,5 @@ unit_multiples k h c is = (product_fits k (residue 1) c c once is.1, product_fit
         let p = reads.product (negative_of k (residue 1)) c n.0 is.0 in
         let m = reads.negative c is.0 in
         reads.apart _ _ p.0 m.0
-        (p.1 ∙ ap (λ x. K.times x (number_of k c)) (n.1 ∙ ap K.minus units.unit_is) ∙ minus-times K K.unit (number_of k c) ∙ ap K.minus (unit-times K _) ∙ sym m.1)
+        (p.1 ∙ ap (λ x. K.times x (number_of k c)) (n.1 ∙ ap K.minus units.unit_is) ∙ minus-times K K.unit (number_of k c) ∙
+        ap K.minus (unit-times K _) ∙ sym m.1)

@@ -33,10 +33,16 @@ unit_squared (Prime p) h = ap (λ n. Ok (residue n)) (mod-eq_of_lt (one_below p 
 -- a number that is its own square, and not 0, is 1
 own_square : (K : Field) (x : K.Carrier) → x ≢ K.nought → x ≡ K.times x x → x ≡ K.unit
 own_square K x n e =
-    sym (K.times-unit x) ∙ ap (K.times x) (sym (K.times-inverse x n)) ∙ sym (K.times_assoc x x (K.inverse x)) ∙ ap (λ w. K.times w (K.inverse x)) (sym e) ∙ K.times-inverse x n
+    sym (K.times-unit x) ∙ ap (K.times x) (sym (K.times-inverse x n)) ∙ sym (K.times_assoc x x (K.inverse x)) ∙
+    ap (λ w. K.times w (K.inverse x)) (sym e) ∙ K.times-inverse x n
 
 pub kind_units : (k : Kind) → IsField k → HasUnits k (field_of k) (number_of k)
 kind_units k h =
     let r = kind_reads k h in
     let one = unit_element k h in
-    record { nought = nought_element k h; unit = one; unit_is = own_square (field_of k) _ (r.nonzero (residue 1) one refl) (r.product (residue 1) (residue 1) (residue 1) one one (unit_squared k h)).1 }
+    record {
+      nought = nought_element k h;
+      unit = one;
+      unit_is = own_square (field_of k) _ (r.nonzero (residue 1) one refl)
+          (r.product (residue 1) (residue 1) (residue 1) one one (unit_squared k h)).1;
+    }

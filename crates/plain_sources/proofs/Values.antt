@@ -64,26 +64,32 @@ module _ (T : PlainTable) (is_field : IsField T.kind) (rows : HasRows T) (weight
 
   -- an expression that isn't light has value 0
   pub zero_heavy : (e : Tree Num) → IsWithin T.kind (length T.generators) e → is_light T e ≡ false → value_in (in_field T.kind e) ≡ vzero (field_of T.kind)
-  zero_heavy e h f = zero_by (in_field T.kind e) (weight_of (shell_in T.kind T) (in_field T.kind e)) (weight_means (shell_in T.kind T) (over_is T.kind (shell_in T.kind T) e h)) f
+  zero_heavy e h f = zero_by (in_field T.kind e) (weight_of (shell_in T.kind T) (in_field T.kind e))
+      (weight_means (shell_in T.kind T) (over_is T.kind (shell_in T.kind T) e h)) f
 
   zero_reads : Stands T is_field n (vzero (field_of T.kind)) (zero_row n)
   zero_reads = zero_row_reads T.kind (field_of T.kind) (number_of T.kind) (reads T is_field) (units T is_field) n
 
   -- 0 where the expression isn't light, and else what the rest gives
-  by_light : (e : Tree Num) (b : Bool) → IsWithin T.kind (length T.generators) e → is_light T e ≡ b → (r : Result (List Num) Unfit) (v : List Num) → (if b then r else Ok (zero_row n)) ≡ Ok v →
+  by_light : (e : Tree Num) (b : Bool) → IsWithin T.kind (length T.generators) e → is_light T e ≡ b → (r : Result (List Num) Unfit) (v : List Num) →
+      (if b then r else Ok (zero_row n)) ≡ Ok v →
       (r ≡ Ok v → Stands T is_field n (value_in (in_field T.kind e)) v) → Stands T is_field n (value_in (in_field T.kind e)) v
   by_light e true h l r v f k = k f
-  by_light e false h l r v f k = subst (Stands T is_field n (value_in (in_field T.kind e))) (ok_same f) (same T is_field n _ _ (zero_row n) (sym (zero_heavy e h l)) zero_reads)
+  by_light e false h l r v f k = subst (Stands T is_field n (value_in (in_field T.kind e))) (ok_same f)
+      (same T is_field n _ _ (zero_row n) (sym (zero_heavy e h l)) zero_reads)
 
   pub is_row : (v : Vector (field_of T.kind)) (row : List Num) → Stands T is_field n v row → IsRowIn T row
   is_row v row h = record { elements = h.elements; short = let l = h.long in omega arith }
 
-  bracket_is : (a b : Tree Num) (x y z : List Num) → Stands T is_field n (value_in (in_field T.kind a)) x → Stands T is_field n (value_in (in_field T.kind b)) y → bracket_of T x y ≡ Ok z →
+  bracket_is : (a b : Tree Num) (x y z : List Num) → Stands T is_field n (value_in (in_field T.kind a)) x →
+      Stands T is_field n (value_in (in_field T.kind b)) y → bracket_of T x y ≡ Ok z →
       Stands T is_field n (bracket (field_of T.kind) (table_in T.kind T) (value_in (in_field T.kind a)) (value_in (in_field T.kind b))) z
   bracket_is a b x y z h k e =
-      same T is_field n _ _ z (ap₂ (bracket (field_of T.kind) (table_in T.kind T)) h.vector k.vector) (bracket_reads T is_field rows x y z (is_row _ x h) (is_row _ y k) e)
+      same T is_field n _ _ z (ap₂ (bracket (field_of T.kind) (table_in T.kind T)) h.vector k.vector)
+      (bracket_reads T is_field rows x y z (is_row _ x h) (is_row _ y k) e)
 
-  sum_is : (e : Tree Num) (w : Vector (field_of T.kind)) (v x z : List Num) → Stands T is_field n w v → Stands T is_field n (value_in (in_field T.kind e)) x → add_row T.kind v x ≡ Ok z →
+  sum_is : (e : Tree Num) (w : Vector (field_of T.kind)) (v x z : List Num) → Stands T is_field n w v →
+      Stands T is_field n (value_in (in_field T.kind e)) x → add_row T.kind v x ≡ Ok z →
       Stands T is_field n (vplus (field_of T.kind) w (value_in (in_field T.kind e))) z
   sum_is e w v x z h k f =
       same T is_field n _ _ z (ap (vplus (field_of T.kind) w) k.vector)
@@ -92,12 +98,14 @@ module _ (T : PlainTable) (is_field : IsField T.kind) (rows : HasRows T) (weight
   mutual
     unfolding val
 
-    pub value_reads : (e : Tree Num) → IsWithin T.kind (length T.generators) e → (v : List Num) → value_of T e ≡ Ok v → Stands T is_field n (value_in (in_field T.kind e)) v
+    pub value_reads : (e : Tree Num) → IsWithin T.kind (length T.generators) e → (v : List Num) → value_of T e ≡ Ok v →
+        Stands T is_field n (value_in (in_field T.kind e)) v
     value_reads (gen g) h v f =
         by_light (gen g) (is_light T (gen g)) h refl (add_row T.kind (zero_row n) (image_row T (g - 1))) v f
         (λ e. let i = rows.images (g - 1) (let l = h.0 in let m = h.1 in omega arith) in
         same T is_field n _ _ v (vzero-vplus (field_of T.kind) _)
-        (add_row_reads T.kind (field_of T.kind) (number_of T.kind) (reads T is_field) (units T is_field) n (vzero (field_of T.kind)) (zero_row n) (image_row T (g - 1)) v zero_reads i.elements i.short e))
+        (add_row_reads T.kind (field_of T.kind) (number_of T.kind) (reads T is_field) (units T is_field) n (vzero (field_of T.kind)) (zero_row n)
+        (image_row T (g - 1)) v zero_reads i.elements i.short e))
     value_reads none h v f = subst (Stands T is_field n _) (ok_same f) zero_reads
     value_reads (sum_of es) h v f =
         by_light (sum_of es) (is_light T (sum_of es)) h refl (values_of T es (zero_row n)) v f
@@ -105,7 +113,8 @@ module _ (T : PlainTable) (is_field : IsField T.kind) (rows : HasRows T) (weight
     value_reads (multiple c e) h v f =
         by_light (multiple c e) (is_light T (multiple c e)) h refl (and_then (scale_of T.kind c) (value_of T e)) v f
         (λ k. let x = first_fits (scale_of T.kind c) (value_of T e) v k in
-        scale_reads T.kind (field_of T.kind) (number_of T.kind) (reads T is_field) (units T is_field) n (value_in (in_field T.kind e)) x.0 v c (value_reads e h.1 x.0 x.1.0) h.0 x.1.1)
+        scale_reads T.kind (field_of T.kind) (number_of T.kind) (reads T is_field) (units T is_field) n (value_in (in_field T.kind e)) x.0 v c
+        (value_reads e h.1 x.0 x.1.0) h.0 x.1.1)
     value_reads (br a b) h v f =
         by_light (br a b) (is_light T (br a b)) h refl (and_then (λ x. and_then (λ y. bracket_of T x y) (value_of T b)) (value_of T a)) v f
         (λ k.
@@ -113,7 +122,8 @@ module _ (T : PlainTable) (is_field : IsField T.kind) (rows : HasRows T) (weight
         let y = first_fits (λ y. bracket_of T x.0 y) (value_of T b) v x.1.1 in
         bracket_is a b x.0 y.0 v (value_reads a h.0 x.0 x.1.0) (value_reads b h.1 y.0 y.1.0) y.1.1)
 
-    pub values_read : (es : Trees Num) → AreWithin T.kind (length T.generators) es → (w : Vector (field_of T.kind)) (v z : List Num) → Stands T is_field n w v → values_of T es v ≡ Ok z →
+    pub values_read : (es : Trees Num) → AreWithin T.kind (length T.generators) es → (w : Vector (field_of T.kind)) (v z : List Num) →
+        Stands T is_field n w v → values_of T es v ≡ Ok z →
         Stands T is_field n (vplus (field_of T.kind) w (vals (field_of T.kind) (table_in T.kind T) (all_in_field T.kind es))) z
     values_read end h w v z k f = subst (Stands T is_field n _) (ok_same f) (same T is_field n _ _ v (sym (vplus-vzero (field_of T.kind) w)) k)
     values_read (more e es) h w v z k f =

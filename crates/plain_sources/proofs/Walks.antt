@@ -40,7 +40,8 @@ module _ (kind : Kind) (K : Field) (value : Num → K.Carrier) (reads : Reads ki
   walked form t [] = vzero K
   walked form t (c ∷ cs) = vplus K (scale K (value c) (form t)) (walked form (t + 1) cs)
 
-  walked_total : (form : ℕ → Vector K) (t : ℕ) (cs : List Num) (n : ℕ) → length cs ≤ n → walked form t cs ≡ total K n (λ s. scale K (vector_of K value cs s) (form (t + s)))
+  walked_total : (form : ℕ → Vector K) (t : ℕ) (cs : List Num) (n : ℕ) → length cs ≤ n → walked form t cs ≡
+      total K n (λ s. scale K (vector_of K value cs s) (form (t + s)))
   unfolding walked
   walked_total form t [] n l = sym (total_none K n _ (λ s k. scale-nought K _))
   walked_total form t (c ∷ cs) zero l = absurd (omega arith)
@@ -61,7 +62,8 @@ module _ (kind : Kind) (K : Field) (value : Num → K.Carrier) (reads : Reads ki
       (t : ℕ) (c : Num) (v z : List Num) (w : Vector K) → S t → IsElement kind c → IsFor kind K value m w v → step t c v ≡ Ok z →
       IsFor kind K value m (vplus K w (scale K (value c) (form t))) z
 
-  walk_from : (m : ℕ) (S : ℕ → Type 0) (step : Step) (form : ℕ → Vector K) → Adds m S step form → (t : ℕ) (cs v z : List Num) (w : Vector K) → AreElements kind cs → Places S t cs →
+  walk_from : (m : ℕ) (S : ℕ → Type 0) (step : Step) (form : ℕ → Vector K) → Adds m S step form → (t : ℕ) (cs v z : List Num) (w : Vector K) →
+      AreElements kind cs → Places S t cs →
       IsFor kind K value m w v → add_each step t cs v ≡ Ok z → IsFor kind K value m (vplus K w (walked form t cs)) z
   unfolding walked
   walk_from m S step form each t [] v z w a h k e =
@@ -72,22 +74,26 @@ module _ (kind : Kind) (K : Field) (value : Num → K.Carrier) (reads : Reads ki
       (walk_from m S step form each (t + 1) cs f.0 z (vplus K w (scale K (value c) (form t))) (All-tail (IsElement kind) c cs a)
       (λ s d l n. subst S (let g : t + suc s ≡ t + 1 + s = omega arith in g) (h (suc s) d (omega arith) n)) (go (is_nought c) f.0 refl f.1.0) f.1.1)
     where
-      go : (b : Bool) (y : List Num) → is_nought c ≡ b → (if b then Ok v else step t c v) ≡ Ok y → IsFor kind K value m (vplus K w (scale K (value c) (form t))) y
+      go : (b : Bool) (y : List Num) → is_nought c ≡ b → (if b then Ok v else step t c v) ≡ Ok y →
+          IsFor kind K value m (vplus K w (scale K (value c) (form t))) y
       go true y z f =
           subst (IsFor kind K value m (vplus K w (scale K (value c) (form t)))) (ok_same f)
           (for_same kind K value reads units m w _ v
-          (sym (ap (vplus K w) (ap (λ u. scale K u (form t)) (reads.zero_is c (All-head (IsElement kind) c cs a) z) ∙ scale-nought K (form t)) ∙ vplus-vzero K w)) k)
+          (sym (ap (vplus K w) (ap (λ u. scale K u (form t)) (reads.zero_is c (All-head (IsElement kind) c cs a) z) ∙ scale-nought K (form t)) ∙
+          vplus-vzero K w)) k)
       go false y z f = each t c v y w (subst S (let g : t + 0 ≡ t = omega arith in g) (h 0 c (omega arith) z)) (All-head (IsElement kind) c cs a) k f
 
   -- a walk over a row adds the sum over its places
-  pub walk_reads : (n m : ℕ) (S : ℕ → Type 0) (step : Step) (form : ℕ → Vector K) → Adds m S step form → (cs v z : List Num) (w : Vector K) → AreElements kind cs → length cs ≤ n → Places S 0 cs →
+  pub walk_reads : (n m : ℕ) (S : ℕ → Type 0) (step : Step) (form : ℕ → Vector K) → Adds m S step form → (cs v z : List Num) (w : Vector K) →
+      AreElements kind cs → length cs ≤ n → Places S 0 cs →
       IsFor kind K value m w v → add_each step 0 cs v ≡ Ok z → IsFor kind K value m (vplus K w (total K n (λ s. scale K (vector_of K value cs s) (form s)))) z
   walk_reads n m S step form each cs v z w a l h k e =
       for_same kind K value reads units m _ _ z (ap (vplus K w) (walked_is form cs n l)) (walk_from m S step form each 0 cs v z w a h k e)
 
   -- a walk over two rows adds the bilinear form
   pub both_walks : (n m : ℕ) (S R : ℕ → Type 0) (step : ℕ → ℕ → Num → Num → List Num → Result (List Num) Unfit) (form : ℕ → ℕ → Vector K) →
-      ((i j : ℕ) (x y : Num) (v z : List Num) (w : Vector K) → S i → R j → IsElement kind x → IsElement kind y → IsFor kind K value m w v → step i j x y v ≡ Ok z →
+      ((i j : ℕ) (x y : Num) (v z : List Num) (w : Vector K) → S i → R j → IsElement kind x → IsElement kind y → IsFor kind K value m w v →
+      step i j x y v ≡ Ok z →
       IsFor kind K value m (vplus K w (scale K (value y) (scale K (value x) (form i j)))) z) →
       (x y v z : List Num) (w : Vector K) → AreElements kind x → AreElements kind y → length x ≤ n → length y ≤ n → Places S 0 x → Places R 0 y →
       IsFor kind K value m w v → add_each (λ i a v. add_each (λ j b v. step i j a b v) 0 y v) 0 x v ≡ Ok z →
@@ -97,6 +103,8 @@ module _ (kind : Kind) (K : Field) (value : Num → K.Carrier) (reads : Reads ki
       (walk_reads n m S (λ i a v. add_each (λ j b v. step i j a b v) 0 y v) (λ i. total K n (λ j. scale K (vector_of K value y j) (form i j)))
       (λ i c v z w s d k e.
       for_same kind K value reads units m _ _ z
-      (ap (vplus K w) (total_same K n _ _ (λ j. scale_comm K (vector_of K value y j) (value c) (form i j)) ∙ total_scale K n (value c) (λ j. scale K (vector_of K value y j) (form i j))))
-      (walk_reads n m R (λ j b v. step i j c b v) (λ j. scale K (value c) (form i j)) (λ j d' v z w r q k e. each i j c d' v z w s r d q k e) y v z w b l' h' k e))
+      (ap (vplus K w) (total_same K n _ _ (λ j. scale_comm K (vector_of K value y j) (value c) (form i j)) ∙
+      total_scale K n (value c) (λ j. scale K (vector_of K value y j) (form i j))))
+      (walk_reads n m R (λ j b v. step i j c b v) (λ j. scale K (value c) (form i j)) (λ j d' v z w r q k e. each i j c d' v z w s r d q k e) y v z w
+      b l' h' k e))
       x v z w a l h k e)

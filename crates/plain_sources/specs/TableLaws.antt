@@ -45,7 +45,8 @@ WeightsOfLaw p =
 
 abbrev pub WeightsOfBuilt : Presentation → Type 0
 WeightsOfBuilt p =
-    IsSound p → (T : PlainTable) → T.kind ≡ p.field → T.generators ≡ generators_in p → Built (field_of p.field) (presentation_in p) (table_in p.field T) → HasWeights T
+    IsSound p → (T : PlainTable) → T.kind ≡ p.field → T.generators ≡ generators_in p → Built (field_of p.field) (presentation_in p)
+    (table_in p.field T) → HasWeights T
 
 abbrev pub WeightsOfTable : Presentation → Type 0
 WeightsOfTable p = IsSound p → (d : ℕ) (T : PlainTable) → IsTableOf p d T → HasWeights T

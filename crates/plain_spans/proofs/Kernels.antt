@@ -69,7 +69,9 @@ module _ (kind : Kind) (listed : IsField kind) (n : ℕ) (pivots : List PivotRow
 
   pub free_is_row : (f : ℕ) → f < n → IsRowOf kind n (free_row kind n pivots f)
   free_is_row f l = record {
-    elements = λ s d m. subst (IsElement kind) (sym (number_at n (free_number kind pivots f) s d (let k = numbers_length n (free_number kind pivots f) in omega arith))) (by_element f s (find (stands_at (s + 1)) pivots) refl l);
+    elements = λ s d m. subst (IsElement kind)
+        (sym (number_at n (free_number kind pivots f) s d (let k = numbers_length n (free_number kind pivots f) in omega arith)))
+        (by_element f s (find (stands_at (s + 1)) pivots) refl l);
     length_is = numbers_length n (free_number kind pivots f);
   }
 
@@ -79,24 +81,31 @@ module _ (kind : Kind) (listed : IsField kind) (n : ℕ) (pivots : List PivotRow
   by_value f s None e l = go (ℕ_discrete f s)
     where
       go : Dec (f ≡ s) → number_of kind (cond (nat_eq f s) (residue 1) (residue 0)) ≡ place (field_of kind) f s
-      go (yes d) = (let t : nat_eq f s ≡ true = grind arith in rw t (one_is kind (field_of kind) (number_of kind) (kind_reads kind listed) listed)) ∙ sym (place_same (field_of kind) f) ∙ ap (place (field_of kind) f) d
-      go (no d) = (let t : nat_eq f s ≡ false = grind arith in rw t ((kind_reads kind listed).zero_is (residue 0) (nought_element kind (residue 1) (one_element kind listed)) refl)) ∙ sym (place_other (field_of kind) f s d)
+      go (yes d) = (let t : nat_eq f s ≡ true = grind arith in rw t (one_is kind (field_of kind) (number_of kind) (kind_reads kind listed) listed)) ∙
+          sym (place_same (field_of kind) f) ∙ ap (place (field_of kind) f) d
+      go (no d) = (let t : nat_eq f s ≡ false = grind arith in
+          rw t ((kind_reads kind listed).zero_is (residue 0) (nought_element kind (residue 1) (one_element kind listed)) refl)) ∙
+          sym (place_other (field_of kind) f s d)
   by_value f s (Some p) e l =
       let h = all_found (IsPivotRow kind n) (stands_at (s + 1)) pivots p rows (sym e) in
       ((kind_reads kind listed).negative (get_or p.row f (residue 0)) (h.elements f (residue 0) (let k = h.length_is in omega arith))).1
-      ∙ ap (field_of kind).minus (sym (at_place kind (field_of kind) (number_of kind) (kind_reads kind listed) p.row f (residue 0) (let k = h.length_is in omega arith)))
+      ∙ ap (field_of kind).minus (sym (at_place kind (field_of kind) (number_of kind) (kind_reads kind listed) p.row f (residue 0)
+      (let k = h.length_is in omega arith)))
 
   module _ (S : Vector (field_of kind) → Type 0) (c : IsClosedSpan kind listed n S pivots) where
-    pub free_vector : (f : ℕ) → f < n → find (stands_at (f + 1)) pivots ≡ None → vector_in kind (free_row kind n pivots f) ≡ row_in (field_of kind) (table_of (field_of kind) (number_of kind) pivots) f
+    pub free_vector : (f : ℕ) → f < n → find (stands_at (f + 1)) pivots ≡ None → vector_in kind (free_row kind n pivots f) ≡
+        row_in (field_of kind) (table_of (field_of kind) (number_of kind) pivots) f
     unfolding row_in
     free_vector f l e = fun_ext (λ s. go s (dec_lt s n))
       where
         none_at : table_of (field_of kind) (number_of kind) pivots f ≡ None
         none_at = ap (option_map (λ p. vector_of (field_of kind) (number_of kind) p.row)) e
 
-        go : (s : ℕ) → Dec (s < n) → vector_in kind (free_row kind n pivots f) s ≡ free_in (field_of kind) (table_of (field_of kind) (number_of kind) pivots s) f s
+        go : (s : ℕ) → Dec (s < n) → vector_in kind (free_row kind n pivots f) s ≡ free_in (field_of kind)
+            (table_of (field_of kind) (number_of kind) pivots s) f s
         go s (yes m) =
-            at_place kind (field_of kind) (number_of kind) (kind_reads kind listed) (free_row kind n pivots f) s (residue 0) (let k = numbers_length n (free_number kind pivots f) in omega arith)
+            at_place kind (field_of kind) (number_of kind) (kind_reads kind listed) (free_row kind n pivots f) s (residue 0)
+            (let k = numbers_length n (free_number kind pivots f) in omega arith)
             ∙ ap (number_of kind) (number_at n (free_number kind pivots f) s (residue 0) m)
             ∙ by_value f s (find (stands_at (s + 1)) pivots) refl l
         go s (no m) =
@@ -145,7 +154,8 @@ module _ (kind : Kind) (listed : IsField kind) (n : ℕ) (pivots : List PivotRow
         last None e (inr k) = absurd k
         last (Some p) e k = absurd k
 
-        by : (IsFormed kind (free_rows kind n pivots m) x → IsFreeOne m x) → IsFormed kind (free_rows kind n pivots m) x ⊎ IsFormed kind (free_at kind n pivots m (find (stands_at (m + 1)) pivots)) x → IsFreeOne (suc m) x
+        by : (IsFormed kind (free_rows kind n pivots m) x → IsFreeOne m x) → IsFormed kind (free_rows kind n pivots m) x ⊎
+            IsFormed kind (free_at kind n pivots m (find (stands_at (m + 1)) pivots)) x → IsFreeOne (suc m) x
         by further (inl k) = (let r = further k in (r.0, (omega (arith, r.1)), r.2, r.3))
         by further (inr k) = last (find (stands_at (m + 1)) pivots) refl k
 
@@ -153,10 +163,12 @@ module _ (kind : Kind) (listed : IsField kind) (n : ℕ) (pivots : List PivotRow
     free_from zero x h = absurd (omega (arith, h.1))
     free_from (suc m) x h = go (free_from m x) (ℕ_discrete h.0 m)
       where
-        go : (IsFreeOne m x → IsFormed kind (free_rows kind n pivots m) x) → Dec (h.0 ≡ m) → IsFormed kind (free_rows kind n pivots m ++ free_at kind n pivots m (find (stands_at (m + 1)) pivots)) x
+        go : (IsFreeOne m x → IsFormed kind (free_rows kind n pivots m) x) → Dec (h.0 ≡ m) →
+            IsFormed kind (free_rows kind n pivots m ++ free_at kind n pivots m (find (stands_at (m + 1)) pivots)) x
         go further (yes e) =
             formed_right (free_rows kind n pivots m) _ x
-            (subst (λ o. IsFormed kind (free_at kind n pivots m o) x) (sym (subst (λ f. find (stands_at (f + 1)) pivots ≡ None) e h.2)) (inl (subst (λ f. x ≡ vector_in kind (free_row kind n pivots f)) e h.3)))
+            (subst (λ o. IsFormed kind (free_at kind n pivots m o) x) (sym (subst (λ f. find (stands_at (f + 1)) pivots ≡ None) e h.2))
+            (inl (subst (λ f. x ≡ vector_in kind (free_row kind n pivots f)) e h.3)))
         go further (no e) = formed_left (free_rows kind n pivots m) _ x (further (h.0, (let l = h.1 in omega arith), h.2, h.3))
 
     none_found : (f : ℕ) → table_of (field_of kind) (number_of kind) pivots f ≡ None → find (stands_at (f + 1)) pivots ≡ None
@@ -169,10 +181,20 @@ module _ (kind : Kind) (listed : IsField kind) (n : ℕ) (pivots : List PivotRow
             some_none : {X : Type 0} {x : X} → Some x ≡ None → ⊥
             some_none k = none_some (sym k)
 
-    pub frees_are : (x : Vector (field_of kind)) → Spanned (field_of kind) (IsFormed kind (free_rows kind n pivots n)) x ↔ Spanned (field_of kind) (IsFree (field_of kind) n (table_of (field_of kind) (number_of kind) pivots)) x
+    pub frees_are : (x : Vector (field_of kind)) → Spanned (field_of kind) (IsFormed kind (free_rows kind n pivots n)) x ↔
+        Spanned (field_of kind) (IsFree (field_of kind) n (table_of (field_of kind) (number_of kind) pivots)) x
     frees_are x = (
       spanned_more (field_of kind) _ _
-          (λ y h. let r = free_to n y h in (r.0, (r.1, (ap (option_map (λ p. vector_of (field_of kind) (number_of kind) p.row)) r.2, r.3 ∙ free_vector r.0 r.1 r.2)))) x,
+          (λ y h. let r = free_to n y h in (
+            r.0,
+            (
+              r.1,
+              (
+                ap (option_map (λ p. vector_of (field_of kind) (number_of kind) p.row)) r.2,
+                r.3 ∙ free_vector r.0 r.1 r.2,
+              ),
+            ),
+          )) x,
       spanned_more (field_of kind) _ _
           (λ y h. free_from n y (h.0, h.1.0, none_found h.0 h.1.1.0, h.1.1.1 ∙ sym (free_vector h.0 h.1.0 (none_found h.0 h.1.1.0)))) x,
     )
@@ -181,8 +203,10 @@ module _ (kind : Kind) (listed : IsField kind) (n : ℕ) (pivots : List PivotRow
     solutions x =
         let a = frees_are x in
         let b = solutions_are (field_of kind) n (table_of (field_of kind) (number_of kind) pivots) c.reduced x in (
-          (λ h. same_solutions (field_of kind) n (IsRow (field_of kind) (table_of (field_of kind) (number_of kind) pivots)) S (λ u r. (c.spans u).0 (spanned_one (field_of kind) S u r)) x (b.0 (a.0 h))),
-          (λ h. a.1 (b.1 (same_solutions (field_of kind) n S (IsRow (field_of kind) (table_of (field_of kind) (number_of kind) pivots)) (λ u r. (c.spans u).1 (spanned_one (field_of kind) _ u r)) x h))),
+          (λ h. same_solutions (field_of kind) n (IsRow (field_of kind) (table_of (field_of kind) (number_of kind) pivots)) S
+              (λ u r. (c.spans u).0 (spanned_one (field_of kind) S u r)) x (b.0 (a.0 h))),
+          (λ h. a.1 (b.1 (same_solutions (field_of kind) n S (IsRow (field_of kind) (table_of (field_of kind) (number_of kind) pivots))
+              (λ u r. (c.spans u).1 (spanned_one (field_of kind) _ u r)) x h))),
         )
 
 pub kernel_means : (k : Kind) → KernelMeans k
@@ -192,27 +216,8 @@ kernel_means k listed n rows closed f is =
     let m = span_means k listed n (free_rows k n p.0 n) closed (free_formed k listed n p.0 c.rows (IsFormed k rows) c n (omega arith)) p.1.1 in
     (m.0, (λ v. let s = solutions k listed n p.0 c.rows (IsFormed k rows) c v in ((λ h. s.0 ((m.1 v).0 h)), (λ h. (m.1 v).1 (s.1 h)))))
 
--- a list of numbers, as a vector
-pub numbers_vector : (kind : Kind) → IsField kind → (n : ℕ) (at : ℕ → Num) (s : ℕ) → s < n → vector_in kind (numbers_to n at) s ≡ number_of kind (at s)
-numbers_vector kind listed n at s l =
-    at_place kind (field_of kind) (number_of kind) (kind_reads kind listed) (numbers_to n at) s (residue 0) (let k = numbers_length n at in omega arith) ∙ ap (number_of kind) (number_at n at s (residue 0) l)
-
 pub numbers_past : (kind : Kind) (n : ℕ) (at : ℕ → Num) (s : ℕ) → n ≤ s → vector_in kind (numbers_to n at) s ≡ (field_of kind).nought
 numbers_past kind n at s l = vector_past (field_of kind) (number_of kind) (numbers_to n at) s (let k = numbers_length n at in omega arith)
-
-pub numbers_row : (kind : Kind) (n : ℕ) (at : ℕ → Num) → ((s : ℕ) → s < n → IsElement kind (at s)) → IsRowOf kind n (numbers_to n at)
-numbers_row kind n at h = record {
-  elements = λ s d m. subst (IsElement kind) (sym (number_at n at s d (let k = numbers_length n at in omega arith))) (h s (let k = numbers_length n at in omega arith));
-  length_is = numbers_length n at;
-}
-
--- 1 at i
-pub unit_value : (kind : Kind) → IsField kind → (i s : ℕ) → number_of kind (cond (nat_eq i s) (residue 1) (residue 0)) ≡ place (field_of kind) i s
-unit_value kind listed i s = go (ℕ_discrete i s)
-  where
-    go : Dec (i ≡ s) → number_of kind (cond (nat_eq i s) (residue 1) (residue 0)) ≡ place (field_of kind) i s
-    go (yes d) = (let t : nat_eq i s ≡ true = grind arith in rw t (one_is kind (field_of kind) (number_of kind) (kind_reads kind listed) listed)) ∙ sym (place_same (field_of kind) i) ∙ ap (place (field_of kind) i) d
-    go (no d) = (let t : nat_eq i s ≡ false = grind arith in rw t ((kind_reads kind listed).zero_is (residue 0) (nought_element kind (residue 1) (one_element kind listed)) refl)) ∙ sym (place_other (field_of kind) i s d)
 
 pub unit_element : (kind : Kind) → IsField kind → (b : Bool) → IsElement kind (cond b (residue 1) (residue 0))
 unit_element kind listed true = one_element kind listed

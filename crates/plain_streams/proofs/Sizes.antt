@@ -76,4 +76,13 @@ module _ (kind : Kind) where
       let b = flat_most (row_bytes Two kind) (2 ^ 38) (IsStoredRow Two kind) row_most s.closed h.closed.1 in
       let steps_text = counted_bytes w64 (step_bytes Two kind) s.steps in
       let rows_text = counted_bytes w32 (row_bytes Two kind) s.closed in
-      omega (arith, length-append (origins_bytes Two s.origins) (steps_text ++ rows_text), length-append steps_text rows_text, origins_most s.origins, a, b, steps, closed)
+      omega (
+        arith,
+        length-append (origins_bytes Two s.origins) (steps_text ++ rows_text),
+        length-append steps_text rows_text,
+        origins_most s.origins,
+        a,
+        b,
+        steps,
+        closed,
+      )

@@ -50,7 +50,8 @@ module _ (k : Kind) (P : Algebra (Number k)) where
     withins_over end h = over_end
     withins_over (more e es) h = over_more (within_over e h.0) (withins_over es h.1)
 
-heavy_generators : (gs : List Generator) → All (λ g. (1 ≤ g.weight) × (g.weight ≤ 1000)) gs → (g : ℕ) → g < length (map generator_in gs) → 0 < (get_or (map generator_in gs) g no_generator).weight
+heavy_generators : (gs : List Generator) → All (λ g. (1 ≤ g.weight) × (g.weight ≤ 1000)) gs → (g : ℕ) → g < length (map generator_in gs) →
+    0 < (get_or (map generator_in gs) g no_generator).weight
 heavy_generators [] h g l = absurd (omega (arith, l))
 heavy_generators (x ∷ xs) h zero l = (all_head (λ g. (1 ≤ g.weight) × (g.weight ≤ 1000)) x xs h).0
 heavy_generators (x ∷ xs) h (suc g) l = heavy_generators xs (all_tail (λ g. (1 ≤ g.weight) × (g.weight ≤ 1000)) x xs h) g (omega (arith, l))
@@ -65,12 +66,17 @@ pub sound_is_sound : SoundIsSound
 sound_is_sound p s = record {
   positive = heavy_generators p.generators s.weights;
   over = λ i l.
-      let q = equation_at p.field (IsSoundEquation p) p.relations s.relations i l in
-      (subst (λ e. IsOver (presentation_in p) e.0) (sym q.2) (over q.0.left q.1.0.0), subst (λ e. IsOver (presentation_in p) e.1) (sym q.2) (over q.0.right q.1.1.0));
+      let q = equation_at p.field (IsSoundEquation p) p.relations s.relations i l in (
+        subst (λ e. IsOver (presentation_in p) e.0) (sym q.2) (over q.0.left q.1.0.0),
+        subst (λ e. IsOver (presentation_in p) e.1) (sym q.2)
+            (over q.0.right q.1.1.0),
+      );
   weights = λ i l.
-      let q = equation_at p.field (IsSoundEquation p) p.relations s.relations i l in subst (λ e. weight_of_both (presentation_in p) e.0 e.1 ≢ mixed) (sym q.2) q.1.2.0;
+      let q = equation_at p.field (IsSoundEquation p) p.relations s.relations i l in subst (λ e. weight_of_both (presentation_in p) e.0 e.1 ≢ mixed)
+      (sym q.2) q.1.2.0;
   parities = λ i l.
-      let q = equation_at p.field (IsSoundEquation p) p.relations s.relations i l in subst (λ e. parity_of_both (presentation_in p) e.0 e.1 ≢ mixed) (sym q.2) q.1.2.1;
+      let q = equation_at p.field (IsSoundEquation p) p.relations s.relations i l in subst (λ e. parity_of_both (presentation_in p) e.0 e.1 ≢ mixed)
+      (sym q.2) q.1.2.1;
 }
   where
     over : (e : _) → IsWithin p.field (length p.generators) (plain e) → IsOver (presentation_in p) (tree_in p.field e)
@@ -80,16 +86,19 @@ sound_is_sound p s = record {
 symbols_by : (k : Kind) (P : Algebra (Number k)) (T : PlainTable) → T.kind ≡ k → T.generators ≡ P.generators → symbols_in T ≡ symbols P (table_in k T)
 unfolding symbols symbols_of
 symbols_by k P T e g =
-    ap₂ (λ j G. joined (length G) (λ g. cond (nat_eq (get_or G g no_generator).weight (suc T.weight)) (of_generator g ∷ []) []) ++ pairs_of (table_in j T) (suc T.weight)) e g
+    ap₂ (λ j G. joined (length G) (λ g. cond (nat_eq (get_or G g no_generator).weight (suc T.weight)) (of_generator g ∷ []) []) ++
+    pairs_of (table_in j T) (suc T.weight)) e g
 
-symbols_of_by : (k : Kind) (P : Algebra (Number k)) (T : PlainTable) → T.kind ≡ k → T.generators ≡ P.generators → (w : ℕ) → symbols_of (shell_in T.kind T) (table_in T.kind T) w ≡ symbols_of P (table_in k T) w
+symbols_of_by : (k : Kind) (P : Algebra (Number k)) (T : PlainTable) → T.kind ≡ k → T.generators ≡ P.generators → (w : ℕ) →
+    symbols_of (shell_in T.kind T) (table_in T.kind T) w ≡ symbols_of P (table_in k T) w
 unfolding symbols_of
 symbols_of_by k P T e g w = ap (λ G. joined (length G) (λ g. cond (nat_eq (get_or G g no_generator).weight w) (of_generator g ∷ []) []) ++ pairs_in) g
   where
     pairs_in : List Symbol
     pairs_in =
         joined (length T.basis)
-        (λ i. joined (length T.basis) (λ j. cond (cond (nat_eq ((plain_basis T i).weight + (plain_basis T j).weight) w) (cond (nat_lt i j) true (cond (nat_eq i j) (is_odd (plain_basis T i).parity) false)) false) (of_pair i j ∷ []) []))
+        (λ i. joined (length T.basis) (λ j. cond (cond (nat_eq ((plain_basis T i).weight + (plain_basis T j).weight) w)
+        (cond (nat_lt i j) true (cond (nat_eq i j) (is_odd (plain_basis T i).parity) false)) false) (of_pair i j ∷ []) []))
 
 pub symbols_are_same : SymbolsAreSame
 symbols_are_same p T e g = (symbols_by p.field (presentation_in p) T e g, symbols_of_by p.field (presentation_in p) T e g)
@@ -107,8 +116,10 @@ start_holds p s = record {
   built = built_start (record { weight = refl; basis = refl; images = λ g l. no_vector p.field });
 }
 
-push_by : (T : PlainTable) (shape : HasShape T) (rows : List (List Num)) → IsClosedList T.kind (length (symbols_in T)) rows → (k : Kind) → T.kind ≡ k → (P : Algebra (Number k)) → P.generators ≡ T.generators → IsSoundPresentation P →
-    Built (field_of k) P (table_in k T) → SpansKind (field_of k) (IsSource (field_of k) P (table_in k T)) (length rows) (row_in k rows) → Built (field_of k) P (table_in k (push_of T rows))
+push_by : (T : PlainTable) (shape : HasShape T) (rows : List (List Num)) → IsClosedList T.kind (length (symbols_in T)) rows → (k : Kind) →
+    T.kind ≡ k → (P : Algebra (Number k)) → P.generators ≡ T.generators → IsSoundPresentation P →
+    Built (field_of k) P (table_in k T) → SpansKind (field_of k) (IsSource (field_of k) P (table_in k T)) (length rows) (row_in k rows) →
+    Built (field_of k) P (table_in k (push_of T rows))
 push_by T shape rows closed k e =
     subst
     (λ k. (P : Algebra (Number k)) → P.generators ≡ T.generators → IsSoundPresentation P → Built (field_of k) P (table_in k T) →
@@ -136,7 +147,8 @@ default_same (x ∷ xs) (suc i) d e l = default_same xs i d e (omega (arith, l))
 images_are : (T : PlainTable) → HasShape T → All (λ rows. All (AreElements T.kind) rows) T.images
 images_are T shape v d l =
     subst (λ rows. All (AreElements T.kind) rows) (default_same T.images v [] d l)
-    (λ g e m. subst (AreElements T.kind) (default_same (images_at T v) g [] e m) (shape.image_rows v g below (omega (arith, m, shape.image_lengths v below))).elements)
+    (λ g e m. subst (AreElements T.kind) (default_same (images_at T v) g [] e m) (shape.image_rows v g below
+    (omega (arith, m, shape.image_lengths v below))).elements)
   where
     below : v < T.weight
     below = omega (arith, l, shape.images_length)

@@ -15,7 +15,8 @@ lead_same : (row : List Num) (n : ℕ) → lead_below row n ≡ unwrap_or (lead_
 lead_same row zero = omega arith
 lead_same row (suc s) = go (is_nought (get_or row s (residue 0))) (lead_same row s)
   where
-    go : (b : Bool) → lead_below row s ≡ unwrap_or (lead_position row s) 1 - 1 → cond b (lead_below row s) s ≡ unwrap_or (cond b (lead_position row s) (Some (suc s))) 1 - 1
+    go : (b : Bool) → lead_below row s ≡ unwrap_or (lead_position row s) 1 - 1 → cond b (lead_below row s) s ≡
+        unwrap_or (cond b (lead_position row s) (Some (suc s))) 1 - 1
     go true h = h
     go false h = omega arith
 
@@ -31,7 +32,8 @@ none_some e = cc
 here : (row : List Num) (rows : List (List Num)) (s : ℕ) → lead_place row ≡ s → (is_lead (row ∷ rows) s ≡ true) × (row_with_lead (row ∷ rows) s ≡ Some row)
 here row rows s e = (grind arith, grind arith)
 
-there : (row : List Num) (rows : List (List Num)) (s : ℕ) → lead_place row ≢ s → (is_lead (row ∷ rows) s ≡ is_lead rows s) × (row_with_lead (row ∷ rows) s ≡ row_with_lead rows s)
+there : (row : List Num) (rows : List (List Num)) (s : ℕ) → lead_place row ≢ s → (is_lead (row ∷ rows) s ≡ is_lead rows s) ×
+    (row_with_lead (row ∷ rows) s ≡ row_with_lead rows s)
 there row rows s n = (grind arith, grind arith)
 
 true_false : true ≡ false → ⊥
@@ -41,7 +43,8 @@ pub lead_found : (rows : List (List Num)) (s : ℕ) → is_lead rows s ≡ true 
 lead_found [] s e = absurd (true_false (sym e))
 lead_found (row ∷ rows) s e = go (ℕ_discrete (lead_place row) s) (λ f. lead_found rows s f)
   where
-    go : Dec (lead_place row ≡ s) → (is_lead rows s ≡ true → (i : ℕ) × (i < length rows) × (pivot_in rows i ≡ s)) → (i : ℕ) × (i < length (row ∷ rows)) × (pivot_in (row ∷ rows) i ≡ s)
+    go : Dec (lead_place row ≡ s) → (is_lead rows s ≡ true → (i : ℕ) × (i < length rows) × (pivot_in rows i ≡ s)) →
+        (i : ℕ) × (i < length (row ∷ rows)) × (pivot_in (row ∷ rows) i ≡ s)
     go (yes d) h = (0, omega arith, sym (lead_is row) ∙ d)
     go (no d) h = let r = h (sym (there row rows s d).0 ∙ e) in (suc r.0, omega (arith, r.1), r.2)
 
@@ -49,12 +52,14 @@ pub lead_missing : (rows : List (List Num)) (s : ℕ) → is_lead rows s ≡ fal
 lead_missing [] s e i l d = absurd (omega arith)
 lead_missing (row ∷ rows) s e i l d = go (ℕ_discrete (lead_place row) s) i l d (λ f. lead_missing rows s f)
   where
-    go : Dec (lead_place row ≡ s) → (i : ℕ) → i < length (row ∷ rows) → pivot_in (row ∷ rows) i ≡ s → (is_lead rows s ≡ false → (i : ℕ) → i < length rows → pivot_in rows i ≢ s) → ⊥
+    go : Dec (lead_place row ≡ s) → (i : ℕ) → i < length (row ∷ rows) → pivot_in (row ∷ rows) i ≡ s →
+        (is_lead rows s ≡ false → (i : ℕ) → i < length rows → pivot_in rows i ≢ s) → ⊥
     go (yes f) i l d h = true_false (sym (here row rows s f).0 ∙ e)
     go (no f) zero l d h = f (lead_is row ∙ d)
     go (no f) (suc i) l d h = h (sym (there row rows s f).0 ∙ e) i (omega arith) d
 
-pub row_found : (rows : List (List Num)) (s : ℕ) (r : List Num) → row_with_lead rows s ≡ Some r → (i : ℕ) × (i < length rows) × (get_or rows i [] ≡ r) × (pivot_in rows i ≡ s)
+pub row_found : (rows : List (List Num)) (s : ℕ) (r : List Num) → row_with_lead rows s ≡ Some r →
+    (i : ℕ) × (i < length rows) × (get_or rows i [] ≡ r) × (pivot_in rows i ≡ s)
 row_found [] s r e = absurd (none_some e)
 row_found (row ∷ rows) s r e = go (ℕ_discrete (lead_place row) s) (λ f. row_found rows s r f)
   where
@@ -67,7 +72,8 @@ pub row_missing : (rows : List (List Num)) (s : ℕ) → row_with_lead rows s �
 row_missing [] s e i l d = absurd (omega arith)
 row_missing (row ∷ rows) s e i l d = go (ℕ_discrete (lead_place row) s) i l d (λ f. row_missing rows s f)
   where
-    go : Dec (lead_place row ≡ s) → (i : ℕ) → i < length (row ∷ rows) → pivot_in (row ∷ rows) i ≡ s → (row_with_lead rows s ≡ None → (i : ℕ) → i < length rows → pivot_in rows i ≢ s) → ⊥
+    go : Dec (lead_place row ≡ s) → (i : ℕ) → i < length (row ∷ rows) → pivot_in (row ∷ rows) i ≡ s →
+        (row_with_lead rows s ≡ None → (i : ℕ) → i < length rows → pivot_in rows i ≢ s) → ⊥
     go (yes f) i l d h = none_some (sym e ∙ (here row rows s f).1)
     go (no f) zero l d h = f (lead_is row ∙ d)
     go (no f) (suc i) l d h = h (sym (there row rows s f).1 ∙ e) i (omega arith) d

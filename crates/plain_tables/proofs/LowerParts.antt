@@ -28,12 +28,15 @@ module _ (T : PlainTable) (shape : HasShape T) (d : ℕ) (within : d ≤ T.weigh
   image_past : (g : ℕ) → d < (generator_at T g).weight → image_row (truncate_of T d) g ≡ []
   image_past g w =
       ap (λ r. get_or r g [])
-      (get_or_past (take d T.images) ((generator_at T g).weight - 1) [] (omega (arith, w, length-take-le d T.images (let h = shape.images_length in omega (arith, h, within)))))
+      (get_or_past (take d T.images) ((generator_at T g).weight - 1) []
+      (omega (arith, w, length-take-le d T.images (let h = shape.images_length in omega (arith, h, within)))))
 
-  entry_is : (i j : ℕ) → i < through T d → j < through T d → (plain_basis T i).weight + (plain_basis T j).weight ≤ d → entry_row (truncate_of T d) i j ≡ entry_row T i j
+  entry_is : (i j : ℕ) → i < through T d → j < through T d → (plain_basis T i).weight + (plain_basis T j).weight ≤ d →
+      entry_row (truncate_of T d) i j ≡ entry_row T i j
   entry_is i j l k w =
       ap (at_level (truncate_of T d) i j) (ap₂ (λ a b. a.weight + b.weight) (basis_kept T shape d within i l) (basis_kept T shape d within j k))
-      ∙ ap₂ (λ a b. get_or (get_or a i []) (j - b) []) (get_or-take d T.entries ((plain_basis T i).weight + (plain_basis T j).weight - 1) [] (omega (arith, w, shape.heavy i here)))
+      ∙ ap₂ (λ a b. get_or (get_or a i []) (j - b) []) (get_or-take d T.entries ((plain_basis T i).weight + (plain_basis T j).weight - 1) []
+      (omega (arith, w, shape.heavy i here)))
       (partner_kept T shape d within i ((plain_basis T i).weight + (plain_basis T j).weight) l w)
     where
       here : i < length T.basis
@@ -56,13 +59,19 @@ module _ (T : PlainTable) (shape : HasShape T) (d : ℕ) (within : d ≤ T.weigh
       fewer = omega (arith, basis_long T shape d within, through_within T shape d);
       basis = λ i l. sym (basis_kept T shape d within i (omega (arith, l, basis_long T shape d within)));
       heavier = λ i l h. heavier i l h (dec_le (plain_basis T i).weight d);
-      lighter = λ i l. let h : i < through T d = omega (arith, l, basis_long T shape d within) in omega (arith, ap (λ b. b.weight) (basis_kept T shape d within i h), through_below T shape d i h);
+      lighter = λ i l. let h : i < through T d = omega (arith, l, basis_long T shape d within) in
+          omega (arith, ap (λ b. b.weight) (basis_kept T shape d within i h), through_below T shape d i h);
       images = λ g l w. sym (ap (vector_in k) (image_is g (omega (arith, l, ap length gens)) (omega (arith, w, weight_is g))));
       past = λ g l w. ap (vector_in k) (image_past g (omega (arith, w, weight_is g))) ∙ no_vector;
       entries = λ i j l h r w.
           let p : i < through T d = omega (arith, l, basis_long T shape d within) in
           let q : j < through T d = omega (arith, h, basis_long T shape d within) in
-          sym (ap (vector_in k) (entry_is i j p q (omega (arith, w, ap (λ b. b.weight) (basis_kept T shape d within i p), ap (λ b. b.weight) (basis_kept T shape d within j q)))));
+          sym (ap (vector_in k) (entry_is i j p q (omega (
+            arith,
+            w,
+            ap (λ b. b.weight) (basis_kept T shape d within i p),
+            ap (λ b. b.weight) (basis_kept T shape d within j q),
+          ))));
     }
       where
         heavier : (i : ℕ) → length (truncate_of T d).basis ≤ i → i < length T.basis → Dec ((plain_basis T i).weight ≤ d) → d < (plain_basis T i).weight

@@ -43,7 +43,8 @@ list_same (x ∷ xs) [] d l h = absurd (omega (arith, l))
 list_same (x ∷ xs) (y ∷ ys) d l h = ap₂ (λ a b. a ∷ b) (h 0 (omega arith)) (list_same xs ys d (omega (arith, l)) (λ i k. h (suc i) (omega (arith, k))))
 
 -- rows of elements that stand for one vector have equal numbers at each place
-pub numbers_same : (k : Kind) → IsField k → (xs ys : List Num) → AreElements k xs → AreElements k ys → vector_in k xs ≡ vector_in k ys → (s : ℕ) → get_or xs s (residue 0) ≡ get_or ys s (residue 0)
+pub numbers_same : (k : Kind) → IsField k → (xs ys : List Num) → AreElements k xs → AreElements k ys → vector_in k xs ≡ vector_in k ys → (s : ℕ) →
+    get_or xs s (residue 0) ≡ get_or ys s (residue 0)
 numbers_same k is xs ys a b e s =
     (kind_reads k is).apart _ _ (all_or (IsElement k) xs s (residue 0) a (zero_element k is)) (all_or (IsElement k) ys s (residue 0) b (zero_element k is))
     (sym (value xs) ∙ ap (λ v. v s) e ∙ value ys)
@@ -54,18 +55,22 @@ numbers_same k is xs ys a b e s =
         go : Dec (s < length zs) → vector_in k zs s ≡ number_of k (get_or zs s (residue 0))
         go (yes l) = at_place k (field_of k) (number_of k) (kind_reads k is) zs s (residue 0) l
         go (no l) =
-            vector_past (field_of k) (number_of k) zs s (omega arith) ∙ sym ((kind_reads k is).zero_is (residue 0) (zero_element k is) refl) ∙ ap (number_of k) (sym (get_or_past zs s (residue 0) (omega arith)))
+            vector_past (field_of k) (number_of k) zs s (omega arith) ∙ sym ((kind_reads k is).zero_is (residue 0) (zero_element k is) refl) ∙
+            ap (number_of k) (sym (get_or_past zs s (residue 0) (omega arith)))
 
 image_elements : (T : PlainTable) (k : Kind) → T.kind ≡ k → All (λ rows. All (AreElements T.kind) rows) T.images → (g : ℕ) → AreElements k (image_row T g)
 image_elements T k e h g =
     subst (λ k. AreElements k (image_row T g)) e
-    (all_or (AreElements T.kind) _ g [] (all_or (λ rows. All (AreElements T.kind) rows) T.images _ [] h (none_all (AreElements T.kind))) (none_all (IsElement T.kind)))
+    (all_or (AreElements T.kind) _ g [] (all_or (λ rows. All (AreElements T.kind) rows) T.images _ [] h (none_all (AreElements T.kind)))
+    (none_all (IsElement T.kind)))
 
-entry_elements : (T : PlainTable) (k : Kind) → T.kind ≡ k → All (λ level. All (λ rows. All (AreElements T.kind) rows) level) T.entries → (i j : ℕ) → AreElements k (entry_row T i j)
+entry_elements : (T : PlainTable) (k : Kind) → T.kind ≡ k → All (λ level. All (λ rows. All (AreElements T.kind) rows) level) T.entries → (i j : ℕ) →
+    AreElements k (entry_row T i j)
 entry_elements T k e h i j =
     subst (λ k. AreElements k (entry_row T i j)) e
     (all_or (AreElements T.kind) _ _ []
-    (all_or (λ rows. All (AreElements T.kind) rows) _ i [] (all_or (λ level. All (λ rows. All (AreElements T.kind) rows) level) T.entries _ [] h (none_all (λ rows. All (AreElements T.kind) rows))) (none_all (AreElements T.kind)))
+    (all_or (λ rows. All (AreElements T.kind) rows) _ i [] (all_or (λ level. All (λ rows. All (AreElements T.kind) rows) level) T.entries _ [] h
+    (none_all (λ rows. All (AreElements T.kind) rows))) (none_all (AreElements T.kind)))
     (none_all (IsElement T.kind)))
 
 odd_of : (s : Parity) → is_odd s ≡ true → s ≡ odd
@@ -89,7 +94,8 @@ abbrev cells : List Generator → List Basis → ℕ → List Symbol
 cells G B w =
     joined (length G) (λ g. cond (nat_eq (get_or G g no_generator).weight w) (of_generator g ∷ []) [])
     ++ joined (length B)
-    (λ i. joined (length B) (λ j. cond (cond (nat_eq ((get_or B i no_basis).weight + (get_or B j no_basis).weight) w) (cond (nat_lt i j) true (cond (nat_eq i j) (is_odd (get_or B i no_basis).parity) false)) false) (of_pair i j ∷ []) []))
+    (λ i. joined (length B) (λ j. cond (cond (nat_eq ((get_or B i no_basis).weight + (get_or B j no_basis).weight) w)
+    (cond (nat_lt i j) true (cond (nat_eq i j) (is_odd (get_or B i no_basis).parity) false)) false) (of_pair i j ∷ []) []))
 
 count_is : (T : PlainTable) (w : ℕ) → count_of T w ≡ length (cells T.generators T.basis w)
 unfolding symbols_of
@@ -97,7 +103,8 @@ count_is T w = refl
 
 pub count_same : (T S : PlainTable) → T.generators ≡ S.generators → T.basis ≡ S.basis → (w : ℕ) → count_through T w ≡ count_through S w
 count_same T S g b zero = refl
-count_same T S g b (suc w) = ap₂ (λ a c. a + c) (count_same T S g b w) (count_is T (suc w) ∙ ap₂ (λ G B. length (cells G B (suc w))) g b ∙ sym (count_is S (suc w)))
+count_same T S g b (suc w) = ap₂ (λ a c. a + c) (count_same T S g b w) (count_is T (suc w) ∙ ap₂ (λ G B. length (cells G B (suc w))) g b ∙
+    sym (count_is S (suc w)))
 
 pub tables_are_one : TablesAreOne
 tables_are_one p d T S s t u = record {
@@ -105,15 +112,18 @@ tables_are_one p d T S s t u = record {
   weight = t.weight ∙ sym u.weight;
   generators = t.generators ∙ sym u.generators;
   basis = basis;
-  images = λ g l. numbers_same p.field s.field (image_row T g) (image_row S g) (image_elements T p.field t.kind t.images g) (image_elements S p.field u.kind u.images g) (agree.images g (omega (arith, l, ap length t.generators)));
+  images = λ g l. numbers_same p.field s.field (image_row T g) (image_row S g) (image_elements T p.field t.kind t.images g)
+      (image_elements S p.field u.kind u.images g) (agree.images g (omega (arith, l, ap length t.generators)));
   entries = λ i j l k f w.
-      numbers_same p.field s.field (entry_row T i j) (entry_row S i j) (entry_elements T p.field t.kind t.entries i j) (entry_elements S p.field u.kind u.entries i j) (agree.entries i j l k (regular_of T i j f) w);
+      numbers_same p.field s.field (entry_row T i j) (entry_row S i j) (entry_elements T p.field t.kind t.entries i j)
+      (entry_elements S p.field u.kind u.entries i j) (agree.entries i j l k (regular_of T i j f) w);
   counts = count_same T S (t.generators ∙ sym u.generators) basis;
 }
   where
     agree : Agree (field_of p.field) (presentation_in p) (table_in p.field T) (table_in p.field S)
     agree =
-        (one_standard (field_of p.field) (presentation_in p) (sound_is_sound p s) (table_in p.field T) (table_in p.field S) (printed_tree p T) (printed_tree p S) t.standard u.standard (t.weight ∙ sym u.weight)).0
+        (one_standard (field_of p.field) (presentation_in p) (sound_is_sound p s) (table_in p.field T) (table_in p.field S) (printed_tree p T)
+        (printed_tree p S) t.standard u.standard (t.weight ∙ sym u.weight)).0
 
     basis : T.basis ≡ S.basis
     basis = list_same T.basis S.basis no_basis agree.more agree.basis

@@ -25,8 +25,10 @@ module _ (k : Kind) (is : IsField k) (n : ℕ) (S : Vector (field_of k) → Type
   row_one : (xs ys : List Num) → IsRowOf k n xs → IsRowOf k n ys → vector_in k xs ≡ vector_in k ys → xs ≡ ys
   row_one xs ys a b e = list_same xs ys (residue 0) (a.length_is ∙ sym b.length_is) (λ s l. numbers_same k is xs ys a.elements b.elements e s)
 
-  pub rows_one : (rows rows' : List (List Num)) → IsClosedList k n rows → IsClosedList k n rows' → SpansKind (field_of k) S (length rows) (row_in k rows) → SpansKind (field_of k) S (length rows') (row_in k rows') → rows ≡ rows'
-  rows_one rows rows' c c' s s' = list_same rows rows' [] number (λ i l. row_one (get_or rows i []) (get_or rows' i []) (c.are_rows i [] l) (c'.are_rows i [] (omega (arith, l, number))) (same i l).1)
+  pub rows_one : (rows rows' : List (List Num)) → IsClosedList k n rows → IsClosedList k n rows' →
+      SpansKind (field_of k) S (length rows) (row_in k rows) → SpansKind (field_of k) S (length rows') (row_in k rows') → rows ≡ rows'
+  rows_one rows rows' c c' s s' = list_same rows rows' [] number (λ i l. row_one (get_or rows i []) (get_or rows' i []) (c.are_rows i [] l)
+      (c'.are_rows i [] (omega (arith, l, number))) (same i l).1)
     where
       number : length rows ≡ length rows'
       number = one_number (field_of k) S (length rows) (row_in k rows) (pivot_in rows) c.closed s (length rows') (row_in k rows') (pivot_in rows') c'.closed s'
@@ -43,13 +45,16 @@ module _ (p : Presentation) where
     closed : IsClosedList T.kind (length (symbols_in T)) rows
     spans : SpansKind (field_of p.field) (IsSource (field_of p.field) (presentation_in p) (table_in p.field T)) (length rows) (row_in p.field rows)
 
-  next_one : IsSound p → (T : PlainTable) → T.kind ≡ p.field → (rows rows' : List (List Num)) → IsNext T rows → IsNext T rows' → push_of T rows ≡ push_of T rows'
+  next_one : IsSound p → (T : PlainTable) → T.kind ≡ p.field → (rows rows' : List (List Num)) → IsNext T rows → IsNext T rows' →
+      push_of T rows ≡ push_of T rows'
   next_one sound T kind rows rows' a b =
       ap (push_of T)
       (rows_one p.field sound.field (length (symbols_in T)) (IsSource (field_of p.field) (presentation_in p) (table_in p.field T)) rows rows'
-      (subst (λ k. IsClosedList k (length (symbols_in T)) rows) kind a.closed) (subst (λ k. IsClosedList k (length (symbols_in T)) rows') kind b.closed) a.spans b.spans)
+      (subst (λ k. IsClosedList k (length (symbols_in T)) rows) kind a.closed)
+      (subst (λ k. IsClosedList k (length (symbols_in T)) rows') kind b.closed) a.spans b.spans)
 
-  pushed_one : IsSound p → (T S : PlainTable) → T ≡ S → T.kind ≡ p.field → (rows rows' : List (List Num)) → IsNext T rows → IsNext S rows' → push_of T rows ≡ push_of S rows'
+  pushed_one : IsSound p → (T S : PlainTable) → T ≡ S → T.kind ≡ p.field → (rows rows' : List (List Num)) → IsNext T rows → IsNext S rows' →
+      push_of T rows ≡ push_of S rows'
   pushed_one sound T S e kind rows rows' a = subst (λ S. IsNext S rows' → push_of T rows ≡ push_of S rows') e (λ b. next_one sound T kind rows rows' a b)
 
   raised_one : IsSound p → (T S : PlainTable) → IsRaised p T → IsRaised p S → T.weight ≡ S.weight → T ≡ S
@@ -57,7 +62,8 @@ module _ (p : Presentation) where
   raised_one sound _ _ started (pushed S rows' r' closed' spans') e = absurd (omega (arith, e))
   raised_one sound _ _ (pushed T rows r closed spans) started e = absurd (omega (arith, e))
   raised_one sound _ _ (pushed T rows r closed spans) (pushed S rows' r' closed' spans') e =
-      pushed_one sound T S (raised_one sound T S r r' (omega (arith, e))) (raised_kind T r) rows rows' (record { closed = closed; spans = spans }) (record { closed = closed'; spans = spans' })
+      pushed_one sound T S (raised_one sound T S r r' (omega (arith, e))) (raised_kind T r) rows rows' (record { closed = closed; spans = spans })
+      (record { closed = closed'; spans = spans' })
 
 pub raised_are_one : RaisedAreOne
 raised_are_one p T S sound r s e = raised_one p sound T S r s e

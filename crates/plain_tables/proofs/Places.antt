@@ -50,7 +50,8 @@ module _ (T : PlainTable) (shape : HasShape T) (rows : List (List Num)) where
       let e : g ≡ g + 0 = omega arith in ap (λ h. cond (nat_eq x.weight (suc T.weight)) (row_of_symbol T rows (of_generator h)) []) e
   new_images_at (x ∷ xs) g (suc i) l =
       let e : g + 1 + i ≡ g + suc i = omega arith in
-      new_images_at xs (g + 1) i (omega arith) ∙ ap (λ h. cond (nat_eq (get_or xs i no_generator).weight (suc T.weight)) (row_of_symbol T rows (of_generator h)) []) e
+      new_images_at xs (g + 1) i (omega arith) ∙
+      ap (λ h. cond (nat_eq (get_or xs i no_generator).weight (suc T.weight)) (row_of_symbol T rows (of_generator h)) []) e
 
   abbrev images_new : List (List Num)
   images_new = new_images T rows 0 T.generators
@@ -58,16 +59,20 @@ module _ (T : PlainTable) (shape : HasShape T) (rows : List (List Num)) where
   pub image_old : (g : ℕ) → g < length T.generators → (generator_at T g).weight ≤ T.weight → image_row (push_of T rows) g ≡ image_row T g
   image_old g l w =
       ap (λ r. get_or r g [])
-      (get_or_append_left T.images (new_images T rows 0 T.generators ∷ []) [] ((generator_at T g).weight - 1) (omega (arith, (shape.weights g l).0, w, shape.images_length)))
+      (get_or_append_left T.images (new_images T rows 0 T.generators ∷ []) [] ((generator_at T g).weight - 1)
+      (omega (arith, (shape.weights g l).0, w, shape.images_length)))
 
-  pub image_new : (g : ℕ) → g < length T.generators → (generator_at T g).weight ≡ suc T.weight → image_row (push_of T rows) g ≡ row_of_symbol T rows (of_generator g)
+  pub image_new : (g : ℕ) → g < length T.generators → (generator_at T g).weight ≡ suc T.weight →
+      image_row (push_of T rows) g ≡ row_of_symbol T rows (of_generator g)
   image_new g l w =
       ap (λ r. get_or r g [])
-      (ap (λ v. get_or (T.images ++ new_images T rows 0 T.generators ∷ []) v []) (let e : (generator_at T g).weight - 1 ≡ length T.images + 0 = omega (arith, w, shape.images_length) in e)
+      (ap (λ v. get_or (T.images ++ new_images T rows 0 T.generators ∷ []) v []) (let e : (generator_at T g).weight - 1 ≡ length T.images + 0 =
+      omega (arith, w, shape.images_length) in e)
       ∙ get_or-append-add T.images (new_images T rows 0 T.generators ∷ []) 0 [])
       ∙ new_images_at T.generators 0 g l
       ∙ (let e : 0 + g ≡ g = omega arith in ap (λ h. cond (nat_eq (generator_at T g).weight (suc T.weight)) (row_of_symbol T rows (of_generator h)) []) e)
-      ∙ (let t : cond (nat_eq (generator_at T g).weight (suc T.weight)) (row_of_symbol T rows (of_generator g)) [] ≡ row_of_symbol T rows (of_generator g) = grind arith in t)
+      ∙ (let t : cond (nat_eq (generator_at T g).weight (suc T.weight)) (row_of_symbol T rows (of_generator g)) [] ≡
+      row_of_symbol T rows (of_generator g) = grind arith in t)
 
   pub image_past : (g : ℕ) → suc T.weight < (generator_at T g).weight → image_row (push_of T rows) g ≡ []
   image_past g w =
@@ -85,12 +90,15 @@ module _ (T : PlainTable) (shape : HasShape T) (rows : List (List Num)) where
   -- the partners of i from lo on, up to j, are those of the new weight
   module _ (i j lo : ℕ) (from : lo ≤ j) where
     abbrev Sorted : ℕ → Basis → Type 0
-    Sorted q b = (lo ≤ q → ((plain_basis T i).weight + b.weight ≡ suc T.weight) × (first_partner T i ≤ q)) × (q < lo → ((plain_basis T i).weight + b.weight ≢ suc T.weight) ⊎ (q < first_partner T i))
+    Sorted q b = (lo ≤ q → ((plain_basis T i).weight + b.weight ≡ suc T.weight) × (first_partner T i ≤ q)) ×
+        (q < lo → ((plain_basis T i).weight + b.weight ≢ suc T.weight) ⊎ (q < first_partner T i))
 
     abbrev head_of : ℕ → Basis → List (List Num)
-    head_of q b = cond (nat_eq ((plain_basis T i).weight + b.weight) (suc T.weight)) (cond (nat_lt q (first_partner T i)) [] (row_of_symbol T rows (of_pair i q) ∷ [])) []
+    head_of q b = cond (nat_eq ((plain_basis T i).weight + b.weight) (suc T.weight)) (cond (nat_lt q (first_partner T i)) []
+        (row_of_symbol T rows (of_pair i q) ∷ [])) []
 
-    head_there : (q : ℕ) (b : Basis) → (plain_basis T i).weight + b.weight ≡ suc T.weight → first_partner T i ≤ q → head_of q b ≡ row_of_symbol T rows (of_pair i q) ∷ []
+    head_there : (q : ℕ) (b : Basis) → (plain_basis T i).weight + b.weight ≡ suc T.weight → first_partner T i ≤ q →
+        head_of q b ≡ row_of_symbol T rows (of_pair i q) ∷ []
     head_there q b e l = grind arith
 
     head_missing : (q : ℕ) (b : Basis) → ((plain_basis T i).weight + b.weight ≢ suc T.weight) ⊎ (q < first_partner T i) → head_of q b ≡ []
@@ -104,7 +112,9 @@ module _ (T : PlainTable) (shape : HasShape T) (rows : List (List Num)) where
     partners_at : (bs : List Basis) (q : ℕ) → q ≤ j → j < q + length bs → ((r : ℕ) → r < length bs → q + r ≤ j → Sorted (q + r) (get_or bs r no_basis)) →
         get_or (new_partners T rows i q bs) (j - max lo q) [] ≡ row_of_symbol T rows (of_pair i j)
     partners_at [] q l h s = absurd (omega (arith, l, h))
-    partners_at (b ∷ bs) q l h s = go (dec_lt q lo) (ℕ_discrete q j) (λ o. partners_at bs (q + 1) o (omega (arith, h)) (λ r k m. subst (λ w. Sorted w (get_or bs r no_basis)) (let e : q + suc r ≡ q + 1 + r = omega arith in e) (s (suc r) (omega (arith, k)) (omega (arith, m)))))
+    partners_at (b ∷ bs) q l h s = go (dec_lt q lo) (ℕ_discrete q j) (λ o. partners_at bs (q + 1) o (omega (arith, h))
+        (λ r k m. subst (λ w. Sorted w (get_or bs r no_basis)) (let e : q + suc r ≡ q + 1 + r = omega arith in e)
+        (s (suc r) (omega (arith, k)) (omega (arith, m)))))
       where
         first : Sorted q b
         first = subst (λ w. Sorted w b) (let e : q + 0 ≡ q = omega arith in e) (s 0 (omega arith) (omega (arith, l)))
@@ -130,11 +140,13 @@ module _ (T : PlainTable) (shape : HasShape T) (rows : List (List Num)) where
   abbrev at_level : PlainTable → ℕ → ℕ → ℕ → List Num
   at_level S i j w = get_or (get_or (get_or S.entries (w - 1) []) i []) (j - partner_from S i w) []
 
-  pair_same : (i j : ℕ) → i < length T.basis → j < length T.basis → (plain_basis (push_of T rows) i).weight + (plain_basis (push_of T rows) j).weight ≡ pair_weight i j
+  pair_same : (i j : ℕ) → i < length T.basis → j < length T.basis → (plain_basis (push_of T rows) i).weight + (plain_basis (push_of T rows) j).weight
+      ≡ pair_weight i j
   pair_same i j l k = ap₂ (λ a b. a.weight + b.weight) (basis_old i l) (basis_old j k)
 
   -- the entry of a pair of the new weight
-  pub entry_new : (i j : ℕ) → i < length T.basis → j < length T.basis → first_partner T i ≤ j → pair_weight i j ≡ suc T.weight → entry_row (push_of T rows) i j ≡ row_of_symbol T rows (of_pair i j)
+  pub entry_new : (i j : ℕ) → i < length T.basis → j < length T.basis → first_partner T i ≤ j → pair_weight i j ≡ suc T.weight →
+      entry_row (push_of T rows) i j ≡ row_of_symbol T rows (of_pair i j)
   entry_new i j l k f w =
       ap (at_level (push_of T rows) i j) (pair_same i j l k ∙ w)
       ∙ ap₂ (λ a b. get_or (get_or a i []) (j - b) []) level (partner_old i (suc T.weight) l (omega arith) (shape.heavy i l))
@@ -156,16 +168,19 @@ module _ (T : PlainTable) (shape : HasShape T) (rows : List (List Num)) where
 
       level : get_or (T.entries ++ new_entries T rows 0 T.basis ∷ []) (suc T.weight - 1) [] ≡ new_entries T rows 0 T.basis
       level =
-          ap (λ b. get_or (T.entries ++ new_entries T rows 0 T.basis ∷ []) b []) (let e : suc T.weight - 1 ≡ length T.entries + 0 = omega (arith, shape.entries_length) in e)
+          ap (λ b. get_or (T.entries ++ new_entries T rows 0 T.basis ∷ []) b []) (let e : suc T.weight - 1 ≡ length T.entries + 0 =
+          omega (arith, shape.entries_length) in e)
           ∙ get_or-append-add T.entries (new_entries T rows 0 T.basis ∷ []) 0 []
 
       sorted : (r : ℕ) → r < length T.basis → r ≤ j → Sorted i j (partner_from T i (suc T.weight)) from (0 + r) (get_or T.basis r no_basis)
-      sorted r o m = subst (λ q. Sorted i j (partner_from T i (suc T.weight)) from q (get_or T.basis r no_basis)) (let e : r ≡ 0 + r = omega arith in e) (inside, outside)
+      sorted r o m = subst (λ q. Sorted i j (partner_from T i (suc T.weight)) from q (get_or T.basis r no_basis))
+          (let e : r ≡ 0 + r = omega arith in e) (inside, outside)
         where
           inside : partner_from T i (suc T.weight) ≤ r → ((plain_basis T i).weight + (plain_basis T r).weight ≡ suc T.weight) × (first_partner T i ≤ r)
           inside h = go (dec_le (plain_basis T r).weight (suc T.weight - (plain_basis T i).weight - 1))
             where
-              go : Dec ((plain_basis T r).weight ≤ suc T.weight - (plain_basis T i).weight - 1) → ((plain_basis T i).weight + (plain_basis T r).weight ≡ suc T.weight) × (first_partner T i ≤ r)
+              go : Dec ((plain_basis T r).weight ≤ suc T.weight - (plain_basis T i).weight - 1) →
+                  ((plain_basis T i).weight + (plain_basis T r).weight ≡ suc T.weight) × (first_partner T i ≤ r)
               go (yes d) = let a = through_above T shape (suc T.weight - (plain_basis T i).weight - 1) r o d in absurd (omega (arith, a, h))
               go (no d) = let u = shape.ascend r j m k in (omega (arith, d, u, w), omega (arith, h))
 
@@ -175,7 +190,8 @@ module _ (T : PlainTable) (shape : HasShape T) (rows : List (List Num)) where
               go : Dec (r < first_partner T i) → ((plain_basis T i).weight + (plain_basis T r).weight ≢ suc T.weight) ⊎ (r < first_partner T i)
               go (yes d) = inr d
               go (no d) =
-                  let below : (plain_basis T r).weight ≤ suc T.weight - (plain_basis T i).weight - 1 = through_below T shape (suc T.weight - (plain_basis T i).weight - 1) r (omega (arith, h, d)) in
+                  let below : (plain_basis T r).weight ≤ suc T.weight - (plain_basis T i).weight - 1 =
+                  through_below T shape (suc T.weight - (plain_basis T i).weight - 1) r (omega (arith, h, d)) in
                   inl (λ e. absurd (omega (arith, below, e, shape.heavy r o)))
 
   pub entry_old : (i j : ℕ) → i < length T.basis → j < length T.basis → pair_weight i j ≤ T.weight → entry_row (push_of T rows) i j ≡ entry_row T i j

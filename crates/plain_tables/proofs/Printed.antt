@@ -31,7 +31,8 @@ pub standard_printed : StandardTreesArePrinted
 standard_printed p T tree h i l = tree_printed p.field (presentation_in p) (table_in p.field T) tree h i l
 
 pub printed_over : PrintedAreOver
-printed_over p d T s t i l = (standard_is_sound (field_of p.field) (presentation_in p) (sound_is_sound p s) (table_in p.field T) (printed_tree p T) t.standard).over i l
+printed_over p d T s t i l = (standard_is_sound (field_of p.field) (presentation_in p) (sound_is_sound p s) (table_in p.field T)
+    (printed_tree p T) t.standard).over i l
 
 pub printed_values : PrintedHaveValues
 printed_values p d T s t i l = tree_value (field_of p.field) (presentation_in p) (sound_is_sound p s) (table_in p.field T) (printed_tree p T) t.standard i l

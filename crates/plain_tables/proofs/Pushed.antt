@@ -77,7 +77,8 @@ module _ (T : PlainTable) (shape : HasShape T) (P : Presentation (Number T.kind)
   pub symbols_same : symbols P (table_in T.kind T) ≡ symbols_in T
   unfolding symbols symbols_of
   symbols_same =
-      ap (λ G. joined (length G) (λ g. cond (nat_eq (get_or G g no_generator).weight (suc T.weight)) (of_generator g ∷ []) []) ++ pairs_of (table_in T.kind T) (suc T.weight)) gens
+      ap (λ G. joined (length G) (λ g. cond (nat_eq (get_or G g no_generator).weight (suc T.weight)) (of_generator g ∷ []) []) ++
+      pairs_of (table_in T.kind T) (suc T.weight)) gens
 
   parity_same : (x : Symbol) → symbol_parity P (table_in T.kind T) x ≡ symbol_parity (shell_in T.kind T) (table_in T.kind T) x
   parity_same (of_generator g) = ap (λ G. (get_or G g no_generator).parity) gens
@@ -101,21 +102,26 @@ module _ (T : PlainTable) (shape : HasShape T) (P : Presentation (Number T.kind)
   -- what the row of a symbol stands for
   means : (x : Symbol) →
       vector_in T.kind (row_of_symbol T rows x)
-      ≡ meaning_of K (slot_of (length T.basis) (length (free_places (length (symbols P (table_in T.kind T))) (length rows) (pivot_in rows))) (λ i. get_or (free_places (length (symbols P (table_in T.kind T))) (length rows) (pivot_in rows)) i 0))
+      ≡ meaning_of K (slot_of (length T.basis) (length (free_places (length (symbols P (table_in T.kind T))) (length rows) (pivot_in rows)))
+      (λ i. get_or (free_places (length (symbols P (table_in T.kind T))) (length rows) (pivot_in rows)) i 0))
       (length rows) (row_in T.kind rows) (pivot_in rows) (place K (place_of x (symbols P (table_in T.kind T))))
   means x =
       symbol_is T.kind reads nought_is unit_is (length (symbols_in T)) rows closed (length T.basis) (free_of T rows) (place_of x (symbols_in T)) are
-      ∙ ap₂ (λ F S. meaning_of K (slot_of (length T.basis) (length F) (λ i. get_or F i 0)) (length rows) (row_in T.kind rows) (pivot_in rows) (place K (place_of x S))) (sym free_path) (sym symbols_same)
+      ∙ ap₂ (λ F S. meaning_of K (slot_of (length T.basis) (length F) (λ i. get_or F i 0)) (length rows) (row_in T.kind rows) (pivot_in rows)
+      (place K (place_of x S))) (sym free_path) (sym symbols_same)
     where
-      are : (j : ℕ) → j < length (free_of T rows) → (get_or (free_of T rows) j 0 < length (symbols_in T)) × ((i : ℕ) → i < length rows → pivot_in rows i ≢ get_or (free_of T rows) j 0)
+      are : (j : ℕ) → j < length (free_of T rows) → (get_or (free_of T rows) j 0 < length (symbols_in T)) ×
+          ((i : ℕ) → i < length rows → pivot_in rows i ≢ get_or (free_of T rows) j 0)
       are =
-          subst (λ F. (j : ℕ) → j < length F → (get_or F j 0 < length (symbols_in T)) × ((i : ℕ) → i < length rows → pivot_in rows i ≢ get_or F j 0)) (sym (free_same rows (length (symbols_in T))))
+          subst (λ F. (j : ℕ) → j < length F → (get_or F j 0 < length (symbols_in T)) × ((i : ℕ) → i < length rows → pivot_in rows i ≢ get_or F j 0))
+          (sym (free_same rows (length (symbols_in T))))
           (free_are (length (symbols_in T)) (length rows) (pivot_in rows)).there
 
   no_vector : vector_in T.kind [] ≡ vzero K
   no_vector = fun_ext (λ s. sym (zero_at K s))
 
-  images_agree : (g : ℕ) → g < length P.generators → (next_table K P (table_in T.kind T) (length rows) (row_in T.kind rows) (pivot_in rows)).image g ≡ vector_in T.kind (image_row (push_of T rows) g)
+  images_agree : (g : ℕ) → g < length P.generators → (next_table K P (table_in T.kind T) (length rows) (row_in T.kind rows) (pivot_in rows)).image g ≡
+      vector_in T.kind (image_row (push_of T rows) g)
   images_agree g l = go (dec_le (generator P g).weight T.weight) (ℕ_discrete (generator P g).weight (suc T.weight))
     where
       l' : g < length T.generators
@@ -124,12 +130,16 @@ module _ (T : PlainTable) (shape : HasShape T) (P : Presentation (Number T.kind)
       w : (generator P g).weight ≡ (generator_at T g).weight
       w = ap (λ x. x.weight) (generator_same g)
 
-      go : Dec ((generator P g).weight ≤ T.weight) → Dec ((generator P g).weight ≡ suc T.weight) → (next_table K P (table_in T.kind T) (length rows) (row_in T.kind rows) (pivot_in rows)).image g ≡ vector_in T.kind (image_row (push_of T rows) g)
-      go (yes h) d = image_kept K P (table_in T.kind T) (length rows) (row_in T.kind rows) (pivot_in rows) g h ∙ sym (ap (vector_in T.kind) (image_old T shape rows g l' (omega (arith, h, w))))
+      go : Dec ((generator P g).weight ≤ T.weight) → Dec ((generator P g).weight ≡ suc T.weight) →
+          (next_table K P (table_in T.kind T) (length rows) (row_in T.kind rows) (pivot_in rows)).image g ≡ vector_in T.kind (image_row (push_of T rows) g)
+      go (yes h) d = image_kept K P (table_in T.kind T) (length rows) (row_in T.kind rows) (pivot_in rows) g h ∙
+          sym (ap (vector_in T.kind) (image_old T shape rows g l' (omega (arith, h, w))))
       go (no h) (yes d) =
-          image_filled K P (table_in T.kind T) (length rows) (row_in T.kind rows) (pivot_in rows) g d ∙ sym (means (of_generator g)) ∙ sym (ap (vector_in T.kind) (image_new T shape rows g l' (sym w ∙ d)))
+          image_filled K P (table_in T.kind T) (length rows) (row_in T.kind rows) (pivot_in rows) g d ∙ sym (means (of_generator g)) ∙
+          sym (ap (vector_in T.kind) (image_new T shape rows g l' (sym w ∙ d)))
       go (no h) (no d) =
-          image_past K P (table_in T.kind T) (length rows) (row_in T.kind rows) (pivot_in rows) g (omega (arith, h, d)) ∙ sym (ap (vector_in T.kind) (plain_past T shape rows g (omega (arith, h, d, w))) ∙ no_vector)
+          image_past K P (table_in T.kind T) (length rows) (row_in T.kind rows) (pivot_in rows) g (omega (arith, h, d)) ∙
+          sym (ap (vector_in T.kind) (plain_past T shape rows g (omega (arith, h, d, w))) ∙ no_vector)
 
   -- new basis elements have the new weight
   pub more_is : length (push_of T rows).basis ≡ length T.basis + length (free_of T rows)
@@ -163,24 +173,28 @@ module _ (T : PlainTable) (shape : HasShape T) (P : Presentation (Number T.kind)
       go false = omega arith
   partner_of i j l (inr h) = subst (λ b. cond b i (i + 1) ≤ j) (sym (ap is_odd h.1)) (omega (arith, h.0))
 
-  entries_agree : (i j : ℕ) → i < length (push_of T rows).basis → j < length (push_of T rows).basis → (i < j) ⊎ ((i ≡ j) × ((plain_basis (push_of T rows) i).parity ≡ odd)) →
+  entries_agree : (i j : ℕ) → i < length (push_of T rows).basis → j < length (push_of T rows).basis →
+      (i < j) ⊎ ((i ≡ j) × ((plain_basis (push_of T rows) i).parity ≡ odd)) →
       (plain_basis (push_of T rows) i).weight + (plain_basis (push_of T rows) j).weight ≤ suc T.weight →
       (next_table K P (table_in T.kind T) (length rows) (row_in T.kind rows) (pivot_in rows)).entry i j ≡ vector_in T.kind (entry_row (push_of T rows) i j)
   entries_agree i j l k r w = go (dec_lt i (length T.basis)) (dec_lt j (length T.basis))
     where
-      regular : i < length T.basis → (i < j) ⊎ ((i ≡ j) × ((plain_basis (push_of T rows) i).parity ≡ odd)) → (i < j) ⊎ ((i ≡ j) × ((plain_basis T i).parity ≡ odd))
+      regular : i < length T.basis → (i < j) ⊎ ((i ≡ j) × ((plain_basis (push_of T rows) i).parity ≡ odd)) →
+          (i < j) ⊎ ((i ≡ j) × ((plain_basis T i).parity ≡ odd))
       regular p (inl h) = inl h
       regular p (inr h) = inr (h.0, sym (ap (λ b. b.parity) (basis_old T shape rows i p)) ∙ h.1)
 
       inside : i < length T.basis → j < length T.basis → Dec ((plain_basis T i).weight + (plain_basis T j).weight ≤ T.weight) →
           (next_table K P (table_in T.kind T) (length rows) (row_in T.kind rows) (pivot_in rows)).entry i j ≡ vector_in T.kind (entry_row (push_of T rows) i j)
-      inside p q (yes h) = entry_kept K P (table_in T.kind T) (length rows) (row_in T.kind rows) (pivot_in rows) i j h ∙ sym (ap (vector_in T.kind) (entry_old T shape rows i j p q h))
+      inside p q (yes h) = entry_kept K P (table_in T.kind T) (length rows) (row_in T.kind rows) (pivot_in rows) i j h ∙
+          sym (ap (vector_in T.kind) (entry_old T shape rows i j p q h))
       inside p q (no h) =
           let e : (plain_basis T i).weight + (plain_basis T j).weight ≡ suc T.weight = omega (arith, h, w, weight_old i p, weight_old j q) in
           entry_filled K P (table_in T.kind T) (length rows) (row_in T.kind rows) (pivot_in rows) i j e ∙ sym (means (of_pair i j))
           ∙ sym (ap (vector_in T.kind) (entry_new T shape rows i j p q (partner_of i j p (regular p r)) e))
 
-      go : Dec (i < length T.basis) → Dec (j < length T.basis) → (next_table K P (table_in T.kind T) (length rows) (row_in T.kind rows) (pivot_in rows)).entry i j ≡ vector_in T.kind (entry_row (push_of T rows) i j)
+      go : Dec (i < length T.basis) → Dec (j < length T.basis) →
+          (next_table K P (table_in T.kind T) (length rows) (row_in T.kind rows) (pivot_in rows)).entry i j ≡ vector_in T.kind (entry_row (push_of T rows) i j)
       go (yes p) (yes q) = inside p q (dec_le ((plain_basis T i).weight + (plain_basis T j).weight) T.weight)
       go (no p) d = absurd (omega (arith, w, weight_new i (omega (arith, p)) l, heavy_after j k))
       go (yes p) (no q) = absurd (omega (arith, w, weight_new j (omega (arith, q)) k, heavy_after i l))
@@ -194,14 +208,22 @@ module _ (T : PlainTable) (shape : HasShape T) (P : Presentation (Number T.kind)
     entries = λ i j l k r w.
         entries_agree i j (omega (arith, l, ap length basis_is)) (omega (arith, k, ap length basis_is))
         (subst (λ B. (i < j) ⊎ ((i ≡ j) × ((get_or B i no_basis).parity ≡ odd))) basis_is r)
-        (omega (arith, w, ap (λ B. (get_or B i no_basis).weight) basis_is, ap (λ B. (get_or B j no_basis).weight) basis_is, weight_next K P (table_in T.kind T) (length rows) (row_in T.kind rows) (pivot_in rows)));
+        (omega (
+          arith,
+          w,
+          ap (λ B. (get_or B i no_basis).weight) basis_is,
+          ap (λ B. (get_or B j no_basis).weight) basis_is,
+          weight_next K P (table_in T.kind T) (length rows) (row_in T.kind rows) (pivot_in rows),
+        ));
   }
 
   -- so where the rows span the source rows, the pushed table is built
-  pub push_built : IsSoundPresentation P → Built K P (table_in T.kind T) → SpansKind K (IsSource K P (table_in T.kind T)) (length rows) (row_in T.kind rows) → Built K P (table_in T.kind (push_of T rows))
+  pub push_built : IsSoundPresentation P → Built K P (table_in T.kind T) → SpansKind K (IsSource K P (table_in T.kind T)) (length rows)
+      (row_in T.kind rows) → Built K P (table_in T.kind (push_of T rows))
   push_built s b spans =
       agreeing_is_built K P s _ (table_in T.kind (push_of T rows))
-      (closed_rows_build K P (table_in T.kind T) b (length rows) (row_in T.kind rows) (pivot_in rows) (record { closed = closed.closed; spans = spans; ends = ends })) agrees
+      (closed_rows_build K P (table_in T.kind T) b (length rows) (row_in T.kind rows) (pivot_in rows)
+      (record { closed = closed.closed; spans = spans; ends = ends })) agrees
     where
       ends : (i : ℕ) → i < length rows → EndsAt K (length (symbols P (table_in T.kind T))) (row_in T.kind rows i)
       ends i l s h = vector_past K (number_of T.kind) (get_or rows i []) s (omega (arith, h, ap length symbols_same, (closed.are_rows i [] l).length_is))

@@ -46,7 +46,8 @@ module _ (k : Kind) (is : IsField k) where
       unit : (b : Bool) → IsElement k (cond b (residue 1) (residue 0))
       unit true = one_element k is
       unit false = zero_element k is
-  solved_elements free s (Some r) h = all_mapped (IsElement k) (λ t. negative_of k (get_or r t (residue 0))) free (λ t. ((kind_reads k is).negative _ (at t (dec_lt t (length r)))).0)
+  solved_elements free s (Some r) h = all_mapped (IsElement k) (λ t. negative_of k (get_or r t (residue 0))) free
+      (λ t. ((kind_reads k is).negative _ (at t (dec_lt t (length r)))).0)
     where
       at : (t : ℕ) → Dec (t < length r) → IsElement k (get_or r t (residue 0))
       at t (yes l) = h r refl t (residue 0) l
@@ -69,7 +70,8 @@ module _ (T : PlainTable) (shape : HasShape T) (rows : List (List Num)) (are : A
     short =
         omega (
           arith,
-          length-append (zero_row (length T.basis)) (solved T.kind (free_of T rows) (place_of x (symbols_in T)) (row_with_lead rows (place_of x (symbols_in T)))),
+          length-append (zero_row (length T.basis)) (solved T.kind (free_of T rows) (place_of x (symbols_in T))
+              (row_with_lead rows (place_of x (symbols_in T)))),
           length-replicate (length T.basis) (residue 0),
           length-solved T.kind (free_of T rows) (place_of x (symbols_in T)) (row_with_lead rows (place_of x (symbols_in T))),
         );
@@ -88,7 +90,8 @@ module _ (T : PlainTable) (shape : HasShape T) (rows : List (List Num)) (are : A
 
   partners_rows : (bs : List Basis) (i j : ℕ) → All IsNew (new_partners T rows i j bs)
   partners_rows [] i j = all_none IsNew
-  partners_rows (b ∷ bs) i j = all_append IsNew _ (new_partners T rows i (j + 1) bs) (pick (nat_eq ((plain_basis T i).weight + b.weight) (suc T.weight)) (nat_lt j (first_partner T i))) (partners_rows bs i (j + 1))
+  partners_rows (b ∷ bs) i j = all_append IsNew _ (new_partners T rows i (j + 1) bs)
+      (pick (nat_eq ((plain_basis T i).weight + b.weight) (suc T.weight)) (nat_lt j (first_partner T i))) (partners_rows bs i (j + 1))
     where
       pick : (c d : Bool) → All IsNew (cond c (cond d [] (row_of_symbol T rows (of_pair i j) ∷ [])) [])
       pick true true = all_none IsNew
@@ -97,7 +100,8 @@ module _ (T : PlainTable) (shape : HasShape T) (rows : List (List Num)) (are : A
 
   entries_rows : (bs : List Basis) (i : ℕ) → All (λ partners. All IsNew partners) (new_entries T rows i bs)
   entries_rows [] i = all_none (λ partners. All IsNew partners)
-  entries_rows (b ∷ bs) i = all_cons (λ partners. All IsNew partners) (new_partners T rows i 0 T.basis) (new_entries T rows (i + 1) bs) (partners_rows T.basis i 0) (entries_rows bs (i + 1))
+  entries_rows (b ∷ bs) i = all_cons (λ partners. All IsNew partners) (new_partners T rows i 0 T.basis) (new_entries T rows (i + 1) bs)
+      (partners_rows T.basis i 0) (entries_rows bs (i + 1))
 
   pub push_shape : T.weight < 1000 → length (symbols_in T) ≤ 2000000 → HasShape (push_of T rows)
   push_shape below few = pushed.push_shape T rows shape below few (images_rows T.generators 0) (entries_rows T.basis 0)

@@ -26,7 +26,8 @@ use Rattle.fpl_table.specs.Push.{row_with_lead, unit_row, solved}
 use Rattle.fpl_table.proofs.Leads.{length-solved}
 use Rattle.plain_tables.proofs.Leads.{row_found, row_missing}
 
-module _ (k : Kind) (reads : Reads k (field_of k) (number_of k)) (nought_is : number_of k (residue 0) ≡ (field_of k).nought) (unit_is : number_of k (residue 1) ≡ (field_of k).unit)
+module _ (k : Kind) (reads : Reads k (field_of k) (number_of k)) (nought_is : number_of k (residue 0) ≡ (field_of k).nought)
+    (unit_is : number_of k (residue 1) ≡ (field_of k).unit)
     (m : ℕ) (rows : List (List Num)) (closed : IsClosedList k m rows) where
   abbrev K : Field
   K = field_of k
@@ -45,11 +46,14 @@ module _ (k : Kind) (reads : Reads k (field_of k) (number_of k)) (nought_is : nu
     number_at o j = number_of k (get_or (solved k free s o) j (residue 0))
 
     unit_at : (j : ℕ) → j < length free → number_of k (get_or (unit_row free s) j (residue 0)) ≡ place K s (get_or free j 0)
-    unit_at j l = ap (number_of k) (get_or_map (λ t. cond (nat_eq t s) (residue 1) (residue 0)) free j 0 (residue 0) l) ∙ go (get_or free j 0) (ℕ_discrete (get_or free j 0) s)
+    unit_at j l = ap (number_of k) (get_or_map (λ t. cond (nat_eq t s) (residue 1) (residue 0)) free j 0 (residue 0) l) ∙
+        go (get_or free j 0) (ℕ_discrete (get_or free j 0) s)
       where
         go : (f : ℕ) → Dec (f ≡ s) → number_of k (cond (nat_eq f s) (residue 1) (residue 0)) ≡ place K s f
-        go f (yes e) = ap (number_of k) (let q : cond (nat_eq f s) (residue 1) (residue 0) ≡ residue 1 = grind arith in q) ∙ unit_is ∙ sym (place_same K s) ∙ ap (place K s) (sym e)
-        go f (no d) = ap (number_of k) (let q : cond (nat_eq f s) (residue 1) (residue 0) ≡ residue 0 = grind arith in q) ∙ nought_is ∙ sym (place_other K s f (λ e. d (sym e)))
+        go f (yes e) = ap (number_of k) (let q : cond (nat_eq f s) (residue 1) (residue 0) ≡ residue 1 = grind arith in q) ∙ unit_is ∙
+            sym (place_same K s) ∙ ap (place K s) (sym e)
+        go f (no d) = ap (number_of k) (let q : cond (nat_eq f s) (residue 1) (residue 0) ≡ residue 0 = grind arith in q) ∙ nought_is ∙
+            sym (place_other K s f (λ e. d (sym e)))
 
     rest_at : (r : List Num) (j : ℕ) → j < length free → get_or free j 0 < length r → AreElements k r →
         number_of k (get_or (solved k free s (Some r)) j (residue 0)) ≡ K.minus (vector_in k r (get_or free j 0))
@@ -68,11 +72,14 @@ module _ (k : Kind) (reads : Reads k (field_of k) (number_of k)) (nought_is : nu
         less : (i : ℕ) → i < n → pivot_in rows i ≡ s → K.minus (row_in k rows i f) ≡ swept K n (row_in k rows) (pivot_in rows) (place K s) f
         less i o e =
             sym
-            (ap (λ w. swept K n (row_in k rows) (pivot_in rows) (place K w) f) (sym e) ∙ ap (λ v. v f) (swept_pivot K n (row_in k rows) (pivot_in rows) closed.closed i o)
+            (ap (λ w. swept K n (row_in k rows) (pivot_in rows) (place K w) f) (sym e) ∙ ap (λ v. v f)
+            (swept_pivot K n (row_in k rows) (pivot_in rows) closed.closed i o)
             ∙ unfold vplus scale in
-            (ap (λ w. K.plus w (K.times (K.minus K.unit) (row_in k rows i f))) (place_other K (pivot_in rows i) f (apart i o)) ∙ nought-plus K _ ∙ minus-times K K.unit _ ∙ ap K.minus (unit-times K _)))
+            (ap (λ w. K.plus w (K.times (K.minus K.unit) (row_in k rows i f))) (place_other K (pivot_in rows i) f (apart i o)) ∙ nought-plus K _ ∙
+            minus-times K K.unit _ ∙ ap K.minus (unit-times K _)))
 
-        go : (o : Option (List Num)) → row_with_lead rows s ≡ o → number_of k (get_or (solved k free s o) j (residue 0)) ≡ swept K n (row_in k rows) (pivot_in rows) (place K s) f
+        go : (o : Option (List Num)) → row_with_lead rows s ≡ o → number_of k (get_or (solved k free s o) j (residue 0)) ≡
+            swept K n (row_in k rows) (pivot_in rows) (place K s) f
         go None e = unit_at j l ∙ ap (λ v. v f) (sym (swept_free K n (row_in k rows) (pivot_in rows) s (row_missing rows s e)))
         go (Some r) e =
             let q = row_found rows s r e in
@@ -80,8 +87,10 @@ module _ (k : Kind) (reads : Reads k (field_of k) (number_of k)) (nought_is : nu
             ∙ rest_at (get_or rows q.0 []) j l (omega (arith, h, row_long q.0 q.1)) (row_elements q.0 q.1) ∙ less q.0 q.1 q.3
 
   -- the row over the old basis elements, where it is 0, and the new ones
-  pub symbol_is : (old : ℕ) (free : List ℕ) (s : ℕ) → ((j : ℕ) → j < length free → (get_or free j 0 < m) × ((i : ℕ) → i < n → pivot_in rows i ≢ get_or free j 0)) →
-      vector_in k (zero_row old ++ solved k free s (row_with_lead rows s)) ≡ meaning_of K (slot_of old (length free) (λ i. get_or free i 0)) n (row_in k rows) (pivot_in rows) (place K s)
+  pub symbol_is : (old : ℕ) (free : List ℕ) (s : ℕ) →
+      ((j : ℕ) → j < length free → (get_or free j 0 < m) × ((i : ℕ) → i < n → pivot_in rows i ≢ get_or free j 0)) →
+      vector_in k (zero_row old ++ solved k free s (row_with_lead rows s)) ≡ meaning_of K (slot_of old (length free) (λ i. get_or free i 0)) n
+      (row_in k rows) (pivot_in rows) (place K s)
   unfolding meaning_of relabel
   symbol_is old free s are = fun_ext (λ t. go t (dec_lt t old) (dec_lt t (old + length free)))
     where
@@ -100,22 +109,28 @@ module _ (k : Kind) (reads : Reads k (field_of k) (number_of k)) (nought_is : nu
       slot_past : (t : ℕ) → old + length free ≤ t → slot_of old (length free) (λ i. get_or free i 0) t ≡ None
       slot_past t l = grind arith
 
-      at_new : (j : ℕ) → j < length free → vector_in k (zero_row old ++ solved k free s (row_with_lead rows s)) (old + j) ≡ at_slot K (swept K n (row_in k rows) (pivot_in rows) (place K s)) (slot_of old (length free) (λ i. get_or free i 0) (old + j))
+      at_new : (j : ℕ) → j < length free → vector_in k (zero_row old ++ solved k free s (row_with_lead rows s)) (old + j) ≡
+          at_slot K (swept K n (row_in k rows) (pivot_in rows) (place K s)) (slot_of old (length free) (λ i. get_or free i 0) (old + j))
       at_new j l =
           at_place k K (number_of k) reads (zero_row old ++ solved k free s (row_with_lead rows s)) (old + j) (residue 0) (omega (arith, long, l))
           ∙ ap (number_of k)
-          (ap (λ w. get_or (zero_row old ++ solved k free s (row_with_lead rows s)) (w + j) (residue 0)) (sym zeros) ∙ get_or-append-add (zero_row old) (solved k free s (row_with_lead rows s)) j (residue 0))
+          (ap (λ w. get_or (zero_row old ++ solved k free s (row_with_lead rows s)) (w + j) (residue 0)) (sym zeros) ∙
+          get_or-append-add (zero_row old) (solved k free s (row_with_lead rows s)) j (residue 0))
           ∙ solved_is free s j l (are j l).0 (are j l).1
           ∙ ap (at_slot K (swept K n (row_in k rows) (pivot_in rows) (place K s))) (sym (slot_new old (length free) (λ i. get_or free i 0) j l))
 
-      go : (t : ℕ) → Dec (t < old) → Dec (t < old + length free) → vector_in k (zero_row old ++ solved k free s (row_with_lead rows s)) t ≡ at_slot K (swept K n (row_in k rows) (pivot_in rows) (place K s)) (slot_of old (length free) (λ i. get_or free i 0) t)
+      go : (t : ℕ) → Dec (t < old) → Dec (t < old + length free) → vector_in k (zero_row old ++ solved k free s (row_with_lead rows s)) t ≡
+          at_slot K (swept K n (row_in k rows) (pivot_in rows) (place K s)) (slot_of old (length free) (λ i. get_or free i 0) t)
       go t (yes l) d =
           at_place k K (number_of k) reads (zero_row old ++ solved k free s (row_with_lead rows s)) t (residue 0) (omega (arith, long, l))
-          ∙ ap (number_of k) (get_or_append_left (zero_row old) (solved k free s (row_with_lead rows s)) (residue 0) t (omega (arith, l, zeros)) ∙ get_or-replicate old t (residue 0) (residue 0) l) ∙ nought_is
+          ∙ ap (number_of k) (get_or_append_left (zero_row old) (solved k free s (row_with_lead rows s)) (residue 0) t (omega (arith, l, zeros)) ∙
+          get_or-replicate old t (residue 0) (residue 0) l) ∙ nought_is
           ∙ ap (at_slot K (swept K n (row_in k rows) (pivot_in rows) (place K s))) (sym (slot_none t l))
       go t (no l) (no d) =
-          vector_past K (number_of k) (zero_row old ++ solved k free s (row_with_lead rows s)) t (omega (arith, long, d)) ∙ ap (at_slot K (swept K n (row_in k rows) (pivot_in rows) (place K s))) (sym (slot_past t (omega arith)))
+          vector_past K (number_of k) (zero_row old ++ solved k free s (row_with_lead rows s)) t (omega (arith, long, d)) ∙
+          ap (at_slot K (swept K n (row_in k rows) (pivot_in rows) (place K s))) (sym (slot_past t (omega arith)))
       go t (no l) (yes d) =
           let e : old + (t - old) ≡ t = omega arith in
-          subst (λ w. vector_in k (zero_row old ++ solved k free s (row_with_lead rows s)) w ≡ at_slot K (swept K n (row_in k rows) (pivot_in rows) (place K s)) (slot_of old (length free) (λ i. get_or free i 0) w)) e
+          subst (λ w. vector_in k (zero_row old ++ solved k free s (row_with_lead rows s)) w ≡
+          at_slot K (swept K n (row_in k rows) (pivot_in rows) (place K s)) (slot_of old (length free) (λ i. get_or free i 0) w)) e
           (at_new (t - old) (omega (arith, l, d)))

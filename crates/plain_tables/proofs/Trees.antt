@@ -29,20 +29,24 @@ module _ (K : Field) (P : Presentation K.Carrier) where
   symbol_before T n le _ (is_generator g l w) = tt
   symbol_before T n le _ (is_pair i j l k w r) = (omega arith, omega arith)
 
-  tree_before : (tree twig : ℕ → Expression K) (n : ℕ) → ((i : ℕ) → i < n → tree i ≡ twig i) → (x : Symbol) → IsBefore n x → symbol_tree tree x ≡ symbol_tree twig x
+  tree_before : (tree twig : ℕ → Expression K) (n : ℕ) → ((i : ℕ) → i < n → tree i ≡ twig i) → (x : Symbol) → IsBefore n x →
+      symbol_tree tree x ≡ symbol_tree twig x
   tree_before tree twig n e (of_generator g) h = refl
   tree_before tree twig n e (of_pair i j) h = ap₂ bracket_of (e i h.0) (e j h.1)
 
   -- the tree of a basis element is that of its symbol, which stands over elements before it
-  pub standard_tree : (T : Table K) (tree : ℕ → Expression K) → IsStandard K P T tree → (i : ℕ) → i < length T.basis → (tree i ≡ symbol_tree tree (basis_at T i).symbol) × IsBefore i (basis_at T i).symbol
+  pub standard_tree : (T : Table K) (tree : ℕ → Expression K) → IsStandard K P T tree → (i : ℕ) → i < length T.basis →
+      (tree i ≡ symbol_tree tree (basis_at T i).symbol) × IsBefore i (basis_at T i).symbol
   standard_tree T tree (standard_start _ empty) i l = absurd (omega (arith, l, empty.basis))
-  standard_tree T' tree' (standard_next {T = T} {tree = tree} before next) k l = go (λ i h. standard_tree T tree before i h) (split_add (length T.basis) next.count k (omega (arith, l, next.basis.more)))
+  standard_tree T' tree' (standard_next {T = T} {tree = tree} before next) k l = go (λ i h. standard_tree T tree before i h)
+      (split_add (length T.basis) next.count k (omega (arith, l, next.basis.more)))
     where
       kept : (i : ℕ) → i < length T.basis → tree i ≡ tree' i
       kept i h = sym (next.old_tree i h)
 
       go : ((i : ℕ) → i < length T.basis → (tree i ≡ symbol_tree tree (basis_at T i).symbol) × IsBefore i (basis_at T i).symbol) →
-          (k < length T.basis) ⊎ ((i : ℕ) × (i < next.count) × (k ≡ length T.basis + i)) → (tree' k ≡ symbol_tree tree' (basis_at T' k).symbol) × IsBefore k (basis_at T' k).symbol
+          (k < length T.basis) ⊎ ((i : ℕ) × (i < next.count) × (k ≡ length T.basis + i)) → (tree' k ≡ symbol_tree tree' (basis_at T' k).symbol) ×
+          IsBefore k (basis_at T' k).symbol
       go old (inl h) =
           let r = old k h in
           let e : (basis_at T k).symbol ≡ (basis_at T' k).symbol = ap (λ b. b.symbol) (sym (next.basis.old k h)) in (
@@ -53,12 +57,14 @@ module _ (K : Field) (P : Presentation K.Carrier) where
           let x = symbol_at P T (next.slot f.0) in
           let is = place_symbol K P T (next.slot f.0) (next.fresh.there f.0 f.1).0 in
           let e : x ≡ (basis_at T' k).symbol = ap (λ b. b.symbol) (sym (ap (basis_at T') f.2 ∙ next.basis.added f.0 f.1)) in (
-            ap tree' f.2 ∙ next.new_tree f.0 f.1 ∙ tree_before tree tree' (length T.basis) kept x (symbol_before T (length T.basis) (omega arith) x is) ∙ ap (symbol_tree tree') e,
+            ap tree' f.2 ∙ next.new_tree f.0 f.1 ∙ tree_before tree tree' (length T.basis) kept x
+                (symbol_before T (length T.basis) (omega arith) x is) ∙ ap (symbol_tree tree') e,
             subst (IsBefore k) e (symbol_before T k (omega (arith, f.2)) x is),
           )
 
   -- only the trees of the basis elements count
-  pub standard_along : (T : Table K) (tree twig : ℕ → Expression K) → IsStandard K P T tree → ((i : ℕ) → i < length T.basis → tree i ≡ twig i) → IsStandard K P T twig
+  pub standard_along : (T : Table K) (tree twig : ℕ → Expression K) → IsStandard K P T tree → ((i : ℕ) → i < length T.basis → tree i ≡ twig i) →
+      IsStandard K P T twig
   standard_along T tree twig (standard_start _ empty) e = standard_start twig empty
   standard_along T' tree' twig' (standard_next {T = T} {tree = tree} before next) e =
       standard_next before (record {
@@ -79,7 +85,8 @@ module _ (K : Field) (P : Presentation K.Carrier) where
       same v = trees_same K P twig' tree' (length T'.basis) v e
 
 -- ---- the printed list
-grown_at : (ts : List (Tree Num)) (bs : List Basis) → ((q : ℕ) → q < length bs → IsBefore (length ts + q) (get_or bs q no_basis).symbol) → (q : ℕ) → q < length bs →
+grown_at : (ts : List (Tree Num)) (bs : List Basis) → ((q : ℕ) → q < length bs → IsBefore (length ts + q) (get_or bs q no_basis).symbol) → (q : ℕ) →
+    q < length bs →
     get_or (grown ts bs) (length ts + q) none ≡ symbol_tree_in (grown ts bs) (get_or bs q no_basis).symbol
 unfolding grown
 grown_at ts [] h q l = absurd (omega arith)
@@ -99,7 +106,8 @@ grown_at ts (b ∷ bs) h (suc q) l =
     ∙ grown_at (ts ++ t ∷ []) bs (λ m k. subst (λ n. IsBefore n (get_or bs m no_basis).symbol) (sym (shift m)) (h (suc m) (omega arith))) q (omega arith)
 
 -- ---- both
-module _ (k : Kind) (P : Presentation (Number k)) (T : Table (field_of k)) (tree : ℕ → Expression (field_of k)) (standard : IsStandard (field_of k) P T tree) where
+module _ (k : Kind) (P : Presentation (Number k)) (T : Table (field_of k)) (tree : ℕ → Expression (field_of k))
+    (standard : IsStandard (field_of k) P T tree) where
   abbrev ts : List (Tree Num)
   ts = grown [] T.basis
 
@@ -111,7 +119,8 @@ module _ (k : Kind) (P : Presentation (Number k)) (T : Table (field_of k)) (tree
       from_none : (q : ℕ) → 0 + q ≡ q
       from_none q = omega arith
 
-  symbol_same : (n : ℕ) → ((i : ℕ) → i < n → tree i ≡ in_field k (get_or ts i none)) → (x : Symbol) → IsBefore n x → symbol_tree tree x ≡ in_field k (symbol_tree_in ts x)
+  symbol_same : (n : ℕ) → ((i : ℕ) → i < n → tree i ≡ in_field k (get_or ts i none)) → (x : Symbol) → IsBefore n x →
+      symbol_tree tree x ≡ in_field k (symbol_tree_in ts x)
   symbol_same n e (of_generator g) h = ap gen (omega arith)
   symbol_same n e (of_pair i j) h = ap₂ bracket_of (e i h.0) (e j h.1)
 

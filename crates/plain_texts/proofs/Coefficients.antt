@@ -24,9 +24,11 @@ signed_back : (n : ℤ) → signed (is_negative n) (unsigned_abs n) ≡ n
 signed_back (pos n) = refl
 signed_back (negsuc n) = refl
 
-within : (kind : Kind) (negative : Bool) (a b : ℕ) (c : Num) → a ≤ most_number → b ≤ most_number → or_nought (quotient_of kind (signed negative a) (pos b)) ≡ c → coefficient_of kind negative a b ≡ c
+within : (kind : Kind) (negative : Bool) (a b : ℕ) (c : Num) → a ≤ most_number → b ≤ most_number →
+    or_nought (quotient_of kind (signed negative a) (pos b)) ≡ c → coefficient_of kind negative a b ≡ c
 unfolding coefficient_of
-within kind negative a b c h k e = ap₂ (λ x y. if x && y then or_nought (quotient_of kind (signed negative a) (pos b)) else residue 0) (le-leb a most_number h) (le-leb b most_number k) ∙ e
+within kind negative a b c h k e = ap₂ (λ x y. if x && y then or_nought (quotient_of kind (signed negative a) (pos b)) else residue 0)
+    (le-leb a most_number h) (le-leb b most_number k) ∙ e
 
 -- fractions
 
@@ -49,7 +51,8 @@ lowest_back n d h =
 some_quotient : (d : ℕ) (q : Num) → 0 < d → or_nought (if nat_eq d 0 then None else Some q) ≡ q
 some_quotient d q h = ap (λ (b : Bool). or_nought (if b then None else Some q)) (ne_eqb d 0 (λ e. absurd (omega arith)))
 
-fraction_back : (n : ℤ) (d : ℕ) → 0 < d → IsGcd (unsigned_abs n) d 1 → or_nought (quotient_of Rational n (pos d)) ≡ record { numerator = n; denominator = pos d }
+fraction_back : (n : ℤ) (d : ℕ) → 0 < d → IsGcd (unsigned_abs n) d 1 → or_nought (quotient_of Rational n (pos d)) ≡
+    record { numerator = n; denominator = pos d }
 fraction_back n d some h =
     some_quotient d (reduced (n *ℤ pos 1) (1 * d)) some
     ∙ ap₂ reduced (times-one n) (let e : 1 * d ≡ d = omega arith in e)
@@ -60,7 +63,25 @@ fraction_back n d some h =
 pub listed_small : (p : ℕ) → IsListed p → p ≤ 65521
 listed_small p h =
     All-contains (λ q. q ≤ 65521) accepted_primes p
-    (All-from_recursion (λ q. q ≤ 65521) accepted_primes (omega arith, (omega arith, (omega arith, (omega arith, (omega arith, (omega arith, (omega arith, (omega arith, (omega arith, (omega arith, (omega arith, (omega arith, (omega arith, (omega arith, (omega arith, tt))))))))))))))))
+    (All-from_recursion (λ q. q ≤ 65521) accepted_primes (
+      omega arith,
+      (
+        omega arith,
+        (
+          omega arith,
+          (
+            omega arith,
+            (
+              omega arith,
+              (
+                omega arith,
+                (omega arith, (omega arith, (omega arith, (omega arith, (omega arith, (omega arith, (omega arith, (omega arith, (omega arith, tt))))))))),
+              ),
+            ),
+          ),
+        ),
+      ),
+    ))
     h
 
 module _ (p : ℕ) (some : 2 < p) where
@@ -84,12 +105,14 @@ module _ (p : ℕ) (some : 2 < p) where
       ∙ ap residue (ap (λ k. r % p * k % p) (ap (λ a. inverse_below p a p) one_stays ∙ inverse_one p (omega arith) (omega arith))
       ∙ ap (λ k. k % p) (let e : r % p * 1 ≡ r % p = omega arith in e) ∙ mod-mod r p ∙ mod-eq_of_lt l)
 
-pub coefficient_back : (kind : Kind) (c : Num) → IsField kind → IsElement kind c → coefficient_of kind (is_below_nought c) (unsigned_abs c.numerator) (unsigned_abs c.denominator) ≡ c
+pub coefficient_back : (kind : Kind) (c : Num) → IsField kind → IsElement kind c → coefficient_of kind (is_below_nought c) (unsigned_abs c.numerator)
+    (unsigned_abs c.denominator) ≡ c
 coefficient_back Rational c h e =
     let n = c.numerator in
     let d = unsigned_abs c.denominator in
     within Rational (is_negative n) (unsigned_abs n) d c e.1.0 e.1.1
-    (ap (λ m. or_nought (quotient_of Rational m (pos d))) (signed_back n) ∙ fraction_back n d (abs_of_positive c.denominator e.0.positive) e.0.lowest ∙ num_same refl (sym (positive_is c.denominator e.0.positive)))
+    (ap (λ m. or_nought (quotient_of Rational m (pos d))) (signed_back n) ∙ fraction_back n d (abs_of_positive c.denominator e.0.positive) e.0.lowest
+    ∙ num_same refl (sym (positive_is c.denominator e.0.positive)))
 coefficient_back (Prime p) c h e =
     let small = listed_small p h in
     let above : 2 < p = (listed_prime p h).1 in
@@ -99,7 +122,8 @@ coefficient_back (Prime p) c h e =
     (within (Prime p) false r 1 (residue r) (omega arith) (omega arith) (residue_back p above r few))
 
 -- the numbers that are written fit
-pub parts_small : (kind : Kind) (c : Num) → IsField kind → IsElement kind c → (unsigned_abs c.numerator ≤ most_value) × (unsigned_abs c.denominator ≤ most_value)
+pub parts_small : (kind : Kind) (c : Num) → IsField kind → IsElement kind c → (unsigned_abs c.numerator ≤ most_value) ×
+    (unsigned_abs c.denominator ≤ most_value)
 parts_small Rational c h e = e.1
 parts_small (Prime p) c h e =
     let small = listed_small p h in

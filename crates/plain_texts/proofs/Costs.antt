@@ -41,7 +41,12 @@ module _ (names : List (List ℕ)) where
   bare t = ap length (append-nil t)
 
   product : (sign magnitude f : List ℕ) → length (sign ++ magnitude ++ codes "*" ++ f) ≡ length sign + length magnitude + length f + 1
-  product sign magnitude f = omega (arith, length-append (sign ++ magnitude ++ codes "*") f, length-append (sign ++ magnitude) (codes "*"), length-append sign magnitude)
+  product sign magnitude f = omega (
+    arith,
+    length-append (sign ++ magnitude ++ codes "*") f,
+    length-append (sign ++ magnitude) (codes "*"),
+    length-append sign magnitude,
+  )
 
   abbrev sign : Num → List ℕ
   sign c = sign_text true (is_below_nought c)
@@ -53,14 +58,17 @@ module _ (names : List (List ℕ)) where
   pub member_multiple : (c : Num) (e : Tree Num) → member (multiple c e) ≡ length (magnitude_text c) + behind e + 1
   member_multiple c e =
       let F = expression_text names Behind e in
-      bare (magnitude_text c ++ codes "*" ++ F) ∙ product [] (magnitude_text c) F ∙ (let t : 0 + length (magnitude_text c) + length F + 1 ≡ length (magnitude_text c) + length F + 1 = omega arith in t)
+      bare (magnitude_text c ++ codes "*" ++ F) ∙ product [] (magnitude_text c) F ∙ (let t : 0 + length (magnitude_text c) + length F + 1 ≡
+      length (magnitude_text c) + length F + 1 = omega arith in t)
 
   alone_is : (c : Num) (e : Tree Num) → alone (multiple c e) ≡ length (sign c) + length (magnitude_text c) + behind e + 1
-  alone_is c e = bare (sign c ++ magnitude_text c ++ codes "*" ++ expression_text names Behind e) ∙ product (sign c) (magnitude_text c) (expression_text names Behind e)
+  alone_is c e = bare (sign c ++ magnitude_text c ++ codes "*" ++ expression_text names Behind e) ∙
+      product (sign c) (magnitude_text c) (expression_text names Behind e)
 
   behind_is : (c : Num) (e : Tree Num) → behind (multiple c e) ≡ length (sign c) + length (magnitude_text c) + behind e + 1 + 2
   behind_is c e =
-      enclosed (sign c ++ magnitude_text c ++ codes "*" ++ expression_text names Behind e) ∙ ap (λ n. n + 2) (product (sign c) (magnitude_text c) (expression_text names Behind e))
+      enclosed (sign c ++ magnitude_text c ++ codes "*" ++ expression_text names Behind e) ∙
+      ap (λ n. n + 2) (product (sign c) (magnitude_text c) (expression_text names Behind e))
 
   pub alone_multiple : (c : Num) (e : Tree Num) → alone (multiple c e) ≤ length (magnitude_text c) + behind e + 2
   alone_multiple c e = omega (arith, alone_is c e, sign_short (is_below_nought c))
@@ -95,7 +103,8 @@ module _ (names : List (List ℕ)) where
   pub sum_long : (es : Trees Num) → alone (sum_of es) ≡ length (sum_text names true es)
   sum_long es = bare (sum_text names true es)
 
-  pub more_long : (first : Bool) (e : Tree Num) (es : Trees Num) → length (sum_text names first (more e es)) ≡ length (sign_text first (begins_below e)) + member e + length (sum_text names false es)
+  pub more_long : (first : Bool) (e : Tree Num) (es : Trees Num) → length (sum_text names first (more e es)) ≡
+      length (sign_text first (begins_below e)) + member e + length (sum_text names false es)
   more_long first e es =
       let S = sign_text first (begins_below e) in
       let E = expression_text names Member e in
@@ -128,9 +137,15 @@ quotient_abs : (n : ℤ) (g : ℕ) → unsigned_abs (divided n g) ≤ unsigned_a
 quotient_abs (pos n) g = div-le_self n g
 quotient_abs (negsuc n) g = subst (λ k. k ≤ suc n) (sym (abs_negative (suc n / g))) (div-le_self (suc n) g)
 
-magnitude_long : (c : Num) (a b : ℕ) → unsigned_abs c.numerator ≤ a → unsigned_abs c.denominator ≤ b → a ≤ most_number → b ≤ most_number → length (magnitude_text c) ≤ digits a + 1 + digits b
+magnitude_long : (c : Num) (a b : ℕ) → unsigned_abs c.numerator ≤ a → unsigned_abs c.denominator ≤ b → a ≤ most_number → b ≤ most_number →
+    length (magnitude_text c) ≤ digits a + 1 + digits b
 magnitude_long c a b h k few few' =
-    omega (arith, length-append (decimal (unsigned_abs c.numerator)) (below_text (unsigned_abs c.denominator)), digits_up (unsigned_abs c.numerator) a h few, below_long (unsigned_abs c.denominator) b k few')
+    omega (
+      arith,
+      length-append (decimal (unsigned_abs c.numerator)) (below_text (unsigned_abs c.denominator)),
+      digits_up (unsigned_abs c.numerator) a h few,
+      below_long (unsigned_abs c.denominator) b k few',
+    )
 
 residue_long : (r : ℕ) → r < 65521 → length (magnitude_text (residue r)) ≤ 5
 residue_long r l = subst (λ t. length t ≤ 5) (sym (append-nil (decimal r))) (length-decimal-le_wide 5 r (omega arith) (omega arith) (omega arith))
@@ -162,16 +177,19 @@ module _ (negative : Bool) (a b : ℕ) (few : a ≤ most_number) (few' : b ≤ m
   quotient_short (Prime p) h =
       let small = listed_small p h in
       let above : 2 < p = (listed_prime p h).1 in
-      or_short (is_nought (whole (Prime p) (pos b))) _ (residue_short _ (let q : 0 < p = omega arith in let l = mod-lt (residue_of (whole (Prime p) (signed negative a)) * residue_of (inverse_of (Prime p) (whole (Prime p) (pos b)))) q in omega (arith, l)))
+      or_short (is_nought (whole (Prime p) (pos b))) _ (residue_short _ (let q : 0 < p = omega arith in let l =
+      mod-lt (residue_of (whole (Prime p) (signed negative a)) * residue_of (inverse_of (Prime p) (whole (Prime p) (pos b)))) q in omega (arith, l)))
 
-pub coefficient_long : (kind : Kind) (negative : Bool) (a b : ℕ) → IsField kind → length (magnitude_text (coefficient_of kind negative a b)) ≤ 5 * digits a + 1 + 5 * digits b
+pub coefficient_long : (kind : Kind) (negative : Bool) (a b : ℕ) → IsField kind → length (magnitude_text (coefficient_of kind negative a b)) ≤ 5 *
+    digits a + 1 + 5 * digits b
 unfolding coefficient_of
 coefficient_long kind negative a b h = go (nat_le a most_number) (nat_le b most_number) refl refl
   where
     none_there : length (magnitude_text (residue 0)) ≤ 1
     none_there = subst (λ t. length t ≤ 1) (sym (append-nil (decimal 0))) (subst (λ t. length t ≤ 1) (sym zero_text) (omega arith))
 
-    go : (s t : Bool) → nat_le a most_number ≡ s → nat_le b most_number ≡ t → length (magnitude_text (if s && t then or_nought (quotient_of kind (signed negative a) (pos b)) else residue 0)) ≤ 5 * digits a + 1 + 5 * digits b
+    go : (s t : Bool) → nat_le a most_number ≡ s → nat_le b most_number ≡ t →
+        length (magnitude_text (if s && t then or_nought (quotient_of kind (signed negative a) (pos b)) else residue 0)) ≤ 5 * digits a + 1 + 5 * digits b
     go true true x y = quotient_short negative a b (leb-true a most_number x) (leb-true b most_number y) kind h
     go true false x y = omega (arith, none_there)
     go false t x y = omega (arith, none_there)

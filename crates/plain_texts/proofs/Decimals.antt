@@ -22,7 +22,8 @@ value_from-append n (d ∷ ds) b = value_from-append (10 * n + (d - 48)) ds b
 
 all-append : (ds : List ℕ) (b : ℕ) → IsTrue (list_all is_digit ds) → IsTrue (is_digit b) → IsTrue (list_all is_digit (ds ++ b ∷ []))
 all-append [] b h k = and_from (is_digit b) true k refl
-all-append (d ∷ ds) b h k = let s = and_parts (is_digit d) (list_all is_digit ds) h in and_from (is_digit d) (list_all is_digit (ds ++ b ∷ [])) s.0 (all-append ds b s.1 k)
+all-append (d ∷ ds) b h k = let s = and_parts (is_digit d) (list_all is_digit ds) h in and_from (is_digit d) (list_all is_digit (ds ++ b ∷ [])) s.0
+    (all-append ds b s.1 k)
 
 digits-append : (ds : List ℕ) (b : ℕ) → AreDigits ds → IsTrue (is_digit b) → AreDigits (ds ++ b ∷ [])
 digits-append [] b h k = elim h [ ]
@@ -43,7 +44,11 @@ one_more n ds l w =
     let m : n % 10 < 10 = mod-lt n (omega arith) in
     let d : 10 * (n / 10) + n % 10 ≡ n = div-add-mod n 10 in
     let e : 10 * (n / 10) + (48 + n % 10 - 48) ≡ n = omega arith in
-    record { digits = digits-append ds (48 + n % 10) w.digits (digit_is (n % 10) m); value = value_from-append 0 ds (48 + n % 10) ∙ ap (λ v. 10 * v + (48 + n % 10 - 48)) w.value ∙ e }
+    record {
+      digits = digits-append ds (48 + n % 10) w.digits (digit_is (n % 10) m);
+      value =
+          value_from-append 0 ds (48 + n % 10) ∙ ap (λ v. 10 * v + (48 + n % 10 - 48)) w.value ∙ e;
+    }
 
 written : (n : ℕ) → n ≤ most_value → Writes n (decimal n)
 written n few = decimal_by_steps_wide Writes one_digit one_more n (omega arith)

@@ -40,7 +40,8 @@ use Rattle.plain_texts.proofs.Lines.{or_none, spells_first, spells_line_end, Sai
 weight_fine : (place n : ℕ) → 1 ≤ n → n ≤ 1000 → bad_weight_given (Some (record { place = place; value = n })) ≡ None
 weight_fine place n l m = ap₂ (λ (x y : Bool). if x && y then None else Some place) (le-leb 1 n l) (le-leb n 1000 m)
 
-generator_shape : (g : Generator) (after : List ℕ) → generator_line g ++ after ≡ parity_text (parity_in g.parity) ++ (32 ∷ (g.name ++ (58 ∷ (decimal g.weight ++ (59 ∷ 10 ∷ after)))))
+generator_shape : (g : Generator) (after : List ℕ) → generator_line g ++ after ≡ parity_text (parity_in g.parity)
+    ++ (32 ∷ (g.name ++ (58 ∷ (decimal g.weight ++ (59 ∷ 10 ∷ after)))))
 generator_shape g after =
     let P = parity_text (parity_in g.parity) in
     let D = decimal g.weight in
@@ -48,15 +49,18 @@ generator_shape g after =
     ∙ append_assoc (P ++ codes " " ++ g.name) (codes ":") (D ++ (59 ∷ 10 ∷ after)) ∙ append_assoc (P ++ codes " ") g.name (58 ∷ (D ++ (59 ∷ 10 ∷ after)))
     ∙ append_assoc P (codes " ") (g.name ++ (58 ∷ (D ++ (59 ∷ 10 ∷ after))))
 
-module _ (text : List ℕ) (p : Presentation) (known : IsField p.field) (named : All (λ g. IsName g.name) p.generators) (distinct : AreDistinct p.generators) where
+module _ (text : List ℕ) (p : Presentation) (known : IsField p.field) (named : All (λ g. IsName g.name) p.generators)
+    (distinct : AreDistinct p.generators) where
   abbrev IsSaid : List ℕ → List FieldStatement → List Generator → Type 0
   IsSaid rest fs gs = Said text p known named distinct rest fs gs p.relations p.ideals p.queries
 
-  spells_parity : (s : Parity) (rest : List ℕ) (terminals : List Terminal) → IsLeft text (parity_text (parity_in s) ++ (32 ∷ rest)) → Spells text 0 rest terminals → Spells text 0 (parity_text (parity_in s) ++ (32 ∷ rest)) (mark.Declare s ∷ terminals)
+  spells_parity : (s : Parity) (rest : List ℕ) (terminals : List Terminal) → IsLeft text (parity_text (parity_in s) ++ (32 ∷ rest)) →
+      Spells text 0 rest terminals → Spells text 0 (parity_text (parity_in s) ++ (32 ∷ rest)) (mark.Declare s ∷ terminals)
   spells_parity Even rest terminals e s = spells_first text p known named distinct (codes "even") rest terminals refl (omega arith) e s
   spells_parity Odd rest terminals e s = spells_first text p known named distinct (codes "odd") rest terminals refl (omega arith) e s
 
-  said_generator : (g : Generator) (after : List ℕ) (gs : List Generator) → IsName g.name → 1 ≤ g.weight → g.weight ≤ 1000 → IsLeft text (parity_text (parity_in g.parity) ++ (32 ∷ (g.name ++ (58 ∷ (decimal g.weight ++ (59 ∷ 10 ∷ after))))))
+  said_generator : (g : Generator) (after : List ℕ) (gs : List Generator) → IsName g.name → 1 ≤ g.weight → g.weight ≤ 1000 →
+      IsLeft text (parity_text (parity_in g.parity) ++ (32 ∷ (g.name ++ (58 ∷ (decimal g.weight ++ (59 ∷ 10 ∷ after))))))
       → IsSaid after [] gs → IsSaid (parity_text (parity_in g.parity) ++ (32 ∷ (g.name ++ (58 ∷ (decimal g.weight ++ (59 ∷ 10 ∷ after)))))) [] (g ∷ gs)
   said_generator g after gs is l m e0 said =
       let D = decimal g.weight in
@@ -70,13 +74,18 @@ module _ (text : List ℕ) (p : Presentation) (known : IsField p.field) (named :
       let number = place text (D ++ (59 ∷ 10 ∷ after)) in
       let s1 = spells_line_end text p known named distinct after (spelling said.sentence) e5 said.spells in
       let s2 = spells_number text 0 g.weight (59 ∷ 10 ∷ after) (mark.Semicolon ∷ spelling said.sentence) (omega arith) refl (omega arith) e4 s1 in
-      let s3 = spells_mark text 0 0 58 (D ++ (59 ∷ 10 ∷ after)) (mark.Number (record { place = number; value = g.weight }) ∷ mark.Semicolon ∷ spelling said.sentence) refl refl (omega arith) e3 s2 in
-      let s4 = spells_word text 0 g.name (58 ∷ (D ++ (59 ∷ 10 ∷ after))) (mark.Colon ∷ mark.Number (record { place = number; value = g.weight }) ∷ mark.Semicolon ∷ spelling said.sentence) is.spelled is.short refl (omega arith) e2 s3 in
-      let s5 = subst (λ x. Spells text 0 rest (x ∷ mark.Colon ∷ mark.Number (record { place = number; value = g.weight }) ∷ mark.Semicolon ∷ spelling said.sentence)) (name_terminal g.name at (at + length g.name) is.free) s4 in
+      let s3 = spells_mark text 0 0 58 (D ++ (59 ∷ 10 ∷ after))
+      (mark.Number (record { place = number; value = g.weight }) ∷ mark.Semicolon ∷ spelling said.sentence) refl refl (omega arith) e3 s2 in
+      let s4 = spells_word text 0 g.name (58 ∷ (D ++ (59 ∷ 10 ∷ after))) (mark.Colon ∷ mark.Number
+      (record { place = number; value = g.weight }) ∷ mark.Semicolon ∷ spelling said.sentence) is.spelled is.short refl (omega arith) e2 s3 in
+      let s5 = subst (λ x. Spells text 0 rest (x ∷ mark.Colon ∷ mark.Number (record { place = number; value = g.weight }) ∷ mark.Semicolon ∷ spelling
+      said.sentence)) (name_terminal g.name at (at + length g.name) is.free) s4 in
       let name_is = bytes_there text g.name (58 ∷ (D ++ (59 ∷ 10 ∷ after))) e2 in
-      let generator_is : ◌≡◌ {A = Generator} (record { name = word_of text at (at + length g.name); parity = g.parity; weight = g.weight }) g = λ i. record { name = name_is i; parity = g.parity; weight = g.weight } in
+      let generator_is : ◌≡◌ {A = Generator} (record { name = word_of text at (at + length g.name); parity = g.parity; weight = g.weight }) g =
+      λ i. record { name = name_is i; parity = g.parity; weight = g.weight } in
       record {
-        sentence = declare g.parity (weighted (record { start = at; end = at + length g.name; rationals = bytes_eq g.name (codes "Q") }) (record { place = number; value = g.weight })) [] ∷ said.sentence;
+        sentence = declare g.parity (weighted (record { start = at; end = at + length g.name; rationals = bytes_eq g.name (codes "Q") })
+            (record { place = number; value = g.weight })) [] ∷ said.sentence;
         spells = spells_parity g.parity rest _ e0 s5;
         fields = said.fields;
         declared = ap₂ (λ x xs. x ∷ xs) generator_is said.declared;
@@ -90,7 +99,8 @@ module _ (text : List ℕ) (p : Presentation) (known : IsField p.field) (named :
         paired = said.paired;
       }
 
-  said_generators : (gs : List Generator) (after : List ℕ) → All (λ g. IsName g.name) gs → HaveWeights gs → IsLeft text (lines generator_line gs ++ after) → IsSaid after [] [] → IsSaid (lines generator_line gs ++ after) [] gs
+  said_generators : (gs : List Generator) (after : List ℕ) → All (λ g. IsName g.name) gs → HaveWeights gs →
+      IsLeft text (lines generator_line gs ++ after) → IsSaid after [] [] → IsSaid (lines generator_line gs ++ after) [] gs
   said_generators [] after is weights e said = said
   said_generators (g ∷ gs) after is weights e said =
       let rest = lines generator_line gs ++ after in
@@ -99,7 +109,8 @@ module _ (text : List ℕ) (p : Presentation) (known : IsField p.field) (named :
       let w = weights 0 g (omega arith) in
       subst (λ r. IsSaid r [] (g ∷ gs)) (sym shape)
       (said_generator g rest gs (is 0 g (omega arith)) w.0 w.1 (subst (IsLeft text) shape e)
-      (said_generators gs after (λ k d l. is (suc k) d (omega arith)) (λ k d l. weights (suc k) d (omega arith)) (later text (generator_line g) rest (subst (IsLeft text) split e)) said))
+      (said_generators gs after (λ k d l. is (suc k) d (omega arith)) (λ k d l. weights (suc k) d (omega arith))
+      (later text (generator_line g) rest (subst (IsLeft text) split e)) said))
 
   field_shape : (k : Kind) (after : List ℕ) → field_line k ++ after ≡ codes "field " ++ (field_text k ++ (59 ∷ 10 ∷ after))
   field_shape k after = append_assoc (codes "field " ++ field_text k) (codes ";\n") after ∙ append_assoc (codes "field ") (field_text k) (59 ∷ 10 ∷ after)
@@ -111,7 +122,8 @@ module _ (text : List ℕ) (p : Presentation) (known : IsField p.field) (named :
     fine : bad_prime_named statement.name ≡ None
     said : IsSaid rest (statement ∷ []) gs
 
-  field_said : (k : Kind) (rest after : List ℕ) (gs : List Generator) (at : ℕ) (naming : Naming) → kind_named (field_name_of naming) ≡ k → bad_prime_named (field_name_of naming) ≡ None
+  field_said : (k : Kind) (rest after : List ℕ) (gs : List Generator) (at : ℕ) (naming : Naming) → kind_named (field_name_of naming) ≡ k →
+      bad_prime_named (field_name_of naming) ≡ None
       → (said : IsSaid after [] gs) → Spells text 0 rest (mark.Field at ∷ naming_terminal naming ∷ mark.Semicolon ∷ spelling said.sentence) → Names k rest gs
   field_said k rest after gs at naming kind fine said spells = record {
     statement = record { place = at; name = field_name_of naming };
@@ -133,15 +145,19 @@ module _ (text : List ℕ) (p : Presentation) (known : IsField p.field) (named :
     };
   }
 
-  said_field : (k : Kind) (after : List ℕ) (gs : List Generator) → IsField k → IsLeft text (codes "field " ++ (field_text k ++ (59 ∷ 10 ∷ after))) → IsSaid after [] gs → Names k (codes "field " ++ (field_text k ++ (59 ∷ 10 ∷ after))) gs
+  said_field : (k : Kind) (after : List ℕ) (gs : List Generator) → IsField k → IsLeft text (codes "field " ++ (field_text k ++ (59 ∷ 10 ∷ after))) →
+      IsSaid after [] gs → Names k (codes "field " ++ (field_text k ++ (59 ∷ 10 ∷ after))) gs
   said_field Rational after gs h e said =
       let rest = codes "Q" ++ (59 ∷ 10 ∷ after) in
       let e1 = later text (codes "field ") rest e in
       let e2 = later text (codes "Q") (59 ∷ 10 ∷ after) e1 in
       let s1 = spells_line_end text p known named distinct after (spelling said.sentence) e2 said.spells in
       let s2 = spells_word text 0 (codes "Q") (59 ∷ 10 ∷ after) (mark.Semicolon ∷ spelling said.sentence) refl (omega arith) refl (omega arith) e1 s1 in
-      field_said Rational (codes "field " ++ rest) after gs (place text (codes "field " ++ rest)) (rationals (place text rest) (place text rest + 1)) refl refl said
-      (spells_first text p known named distinct (codes "field") rest (mark.Name (record { start = place text rest; end = place text rest + 1; rationals = true }) ∷ mark.Semicolon ∷ spelling said.sentence) refl (omega arith) e s2)
+      field_said Rational (codes "field " ++ rest) after gs (place text (codes "field " ++ rest))
+      (rationals (place text rest) (place text rest + 1)) refl refl said
+      (spells_first text p known named distinct (codes "field") rest
+      (mark.Name (record { start = place text rest; end = place text rest + 1; rationals = true }) ∷ mark.Semicolon ∷ spelling said.sentence) refl
+      (omega arith) e s2)
   said_field (Prime q) after gs h e said =
       let rest = decimal q ++ (59 ∷ 10 ∷ after) in
       let small = listed_small q h in
@@ -151,11 +167,13 @@ module _ (text : List ℕ) (p : Presentation) (known : IsField p.field) (named :
       let s2 = spells_number text 0 q (59 ∷ 10 ∷ after) (mark.Semicolon ∷ spelling said.sentence) (omega arith) refl (omega arith) e1 s1 in
       field_said (Prime q) (codes "field " ++ rest) after gs (place text (codes "field " ++ rest)) (prime (record { place = place text rest; value = q })) refl
       (ap (λ (b : Bool). if b then None else Some (place text rest)) (listed_passes q h)) said
-      (spells_first text p known named distinct (codes "field") rest (mark.Number (record { place = place text rest; value = q }) ∷ mark.Semicolon ∷ spelling said.sentence) refl (omega arith) e s2)
+      (spells_first text p known named distinct (codes "field") rest
+      (mark.Number (record { place = place text rest; value = q }) ∷ mark.Semicolon ∷ spelling said.sentence) refl (omega arith) e s2)
 
 -- no name stands twice
 
-twice_none : (text : List ℕ) (before : List (List ℕ)) (ds : List DeclaredName) → ((i : ℕ) → i < length ds → list_any (λ b. bytes_eq b (get_or (names (map (generator_of text) ds)) i [])) before ≡ false)
+twice_none : (text : List ℕ) (before : List (List ℕ)) (ds : List DeclaredName) → ((i : ℕ) → i < length ds →
+    list_any (λ b. bytes_eq b (get_or (names (map (generator_of text) ds)) i [])) before ≡ false)
     → AreDistinct (map (generator_of text) ds) → name_twice text before ds ≡ None
 twice_none text before [] apart distinct = refl
 twice_none text before (d ∷ ds) apart distinct =
@@ -169,7 +187,8 @@ twice_none text before (d ∷ ds) apart distinct =
     no_place false place rest e h = h
 
     differs_name : (i : ℕ) → i < length ds → bytes_eq (name_of text d) (get_or (names (map (generator_of text) ds)) i []) ≡ false
-    differs_name i l = differs (name_of text d) (get_or (names (map (generator_of text) ds)) i []) (λ e. distinct 0 (suc i) (omega arith) (omega (arith, length-map ds (generator_of text))) (sym e))
+    differs_name i l = differs (name_of text d) (get_or (names (map (generator_of text) ds)) i [])
+        (λ e. distinct 0 (suc i) (omega arith) (omega (arith, length-map ds (generator_of text))) (sym e))
 
 few_none : (ds : List DeclaredName) → length ds ≤ 64 → too_many ds ≡ None
 few_none ds few = ap (option_map (λ d. d.word.start)) (slice_get_past ds 64 few)
@@ -180,15 +199,19 @@ unless_none (Some place) why rest h k = cc
 
 -- a canonical text is its presentation
 
-canonical_shape : (p : Presentation) → canonical_of p ≡ codes "field " ++ (field_text p.field ++ (59 ∷ 10 ∷ (lines generator_line p.generators ++ (lines (equation_line (codes "relation ") p) p.relations ++ (lines (ideal_line p) p.ideals ++ (lines (equation_line (codes "equal ") p) p.queries ++ []))))))
+canonical_shape : (p : Presentation) → canonical_of p ≡ codes "field " ++ (field_text p.field
+    ++ (59 ∷ 10 ∷ (lines generator_line p.generators ++ (lines (equation_line (codes "relation ") p) p.relations
+    ++ (lines (ideal_line p) p.ideals ++ (lines (equation_line (codes "equal ") p) p.queries ++ []))))))
 canonical_shape p =
     let F = field_line p.field in
     let G = lines generator_line p.generators in
     let R = lines (equation_line (codes "relation ") p) p.relations in
     let I = lines (ideal_line p) p.ideals in
     let Q = lines (equation_line (codes "equal ") p) p.queries in
-    ap (λ x. F ++ G ++ R ++ I ++ x) (sym (append-nil Q)) ∙ append_assoc (F ++ G ++ R) I (Q ++ []) ∙ append_assoc (F ++ G) R (I ++ (Q ++ [])) ∙ append_assoc F G (R ++ (I ++ (Q ++ [])))
-    ∙ append_assoc (codes "field " ++ field_text p.field) (codes ";\n") (G ++ (R ++ (I ++ (Q ++ [])))) ∙ append_assoc (codes "field ") (field_text p.field) (59 ∷ 10 ∷ (G ++ (R ++ (I ++ (Q ++ [])))))
+    ap (λ x. F ++ G ++ R ++ I ++ x) (sym (append-nil Q)) ∙ append_assoc (F ++ G ++ R) I (Q ++ []) ∙ append_assoc (F ++ G) R (I ++ (Q ++ [])) ∙
+    append_assoc F G (R ++ (I ++ (Q ++ [])))
+    ∙ append_assoc (codes "field " ++ field_text p.field) (codes ";\n") (G ++ (R ++ (I ++ (Q ++ [])))) ∙
+    append_assoc (codes "field ") (field_text p.field) (59 ∷ 10 ∷ (G ++ (R ++ (I ++ (Q ++ [])))))
 
 module _ (p : Presentation) (sound : IsSound p) where
   abbrev text : List ℕ
@@ -215,7 +238,8 @@ module _ (p : Presentation) (sound : IsSound p) where
       let e4 = later text (lines generator_line p.generators) relations_text e3 in
       let e5 = later text (lines (equation_line (codes "relation ") p) p.relations) ideals_text e4 in
       let e6 = later text (lines (ideal_line p) p.ideals) queries_text e5 in
-      let s1 = said_queries text p sound.field sound.names sound.distinct p.queries [] sound.queries e6 (said_nothing text p sound.field sound.names sound.distinct) in
+      let s1 = said_queries text p sound.field sound.names sound.distinct p.queries [] sound.queries e6
+      (said_nothing text p sound.field sound.names sound.distinct) in
       let s2 = said_ideals text p sound.field sound.names sound.distinct p.ideals queries_text p.queries sound.ideals e5 s1 in
       let s3 = said_relations text p sound.field sound.names sound.distinct p.relations ideals_text p.ideals p.queries sound.relations e4 s2 in
       let s4 = said_generators text p sound.field sound.names sound.distinct p.generators relations_text sound.names sound.weights e3 s3 in
@@ -237,9 +261,16 @@ module _ (p : Presentation) (sound : IsSound p) where
   kind_is = ap kind_of whole.said.fields ∙ whole.kind
 
   few_declared : length ds ≤ 64
-  few_declared = omega (arith, length-map ds (generator_of text), sound.few, (let l : length (map (generator_of text) ds) ≡ length p.generators = ap length whole.said.declared in l))
+  few_declared = omega (
+    arith,
+    length-map ds (generator_of text),
+    sound.few,
+    (let l : length (map (generator_of text) ds) ≡ length p.generators =
+        ap length whole.said.declared in l),
+  )
 
-  late_none : late_refusal (scope_of text p.field p.generators) (events_of sentence) (with_claims p.field p.generators []) (claims_of (scope_of text p.field p.generators) sentence) ≡ None
+  late_none : late_refusal (scope_of text p.field p.generators) (events_of sentence) (with_claims p.field p.generators [])
+      (claims_of (scope_of text p.field p.generators) sentence) ≡ None
   late_none =
       unless_none _ reason.UnknownName _ whole.said.names
       (unless_none _ reason.ZeroDenominator _ whole.said.denominators
@@ -254,13 +285,21 @@ module _ (p : Presentation) (sound : IsSound p) where
       (unless_none _ reason.BadWeight _ whole.said.weights (unless_none _ reason.TooManyGenerators _ (few_none ds few_declared) h)))))
 
   abbrev refused_for : Kind → List Generator → Option (ℕ × Reason)
-  refused_for k gs = early_refusal text fs ds (late_refusal (scope_of text k gs) (events_of sentence) (with_claims k gs []) (claims_of (scope_of text k gs) sentence))
+  refused_for k gs = early_refusal text fs ds (late_refusal (scope_of text k gs) (events_of sentence) (with_claims k gs [])
+      (claims_of (scope_of text k gs) sentence))
 
   abbrev presented_for : Kind → List Generator → Presentation
   presented_for k gs = with_claims k gs (claims_of (scope_of text k gs) sentence)
 
   presented : presented_for p.field p.generators ≡ p
-  presented = λ i. record { field = p.field; generators = p.generators; relations = whole.said.relations i; ideals = whole.said.ideals i; queries = whole.said.queries i }
+  presented = λ i. record {
+    field = p.field;
+    generators = p.generators;
+    relations = whole.said.relations i;
+    ideals = whole.said.ideals i;
+    queries =
+        whole.said.queries i;
+  }
 
   at_once : place text text ≡ 0
   at_once = omega arith
@@ -268,7 +307,12 @@ module _ (p : Presentation) (sound : IsSound p) where
   pub has_presentation : HasPresentation (canonical_of p) p
   has_presentation = record {
     tokens = whole.said.spells.tokens;
-    lexed = record { pieces = whole.said.spells.pieces; cut = whole.said.spells.cut; read = ap (λ n. reading_from n whole.said.spells.pieces) (sym at_once) ∙ whole.said.spells.read };
+    lexed = record {
+      pieces = whole.said.spells.pieces;
+      cut = whole.said.spells.cut;
+      read =
+          ap (λ n. reading_from n whole.said.spells.pieces) (sym at_once) ∙ whole.said.spells.read;
+    };
     shallow = whole.said.spells.shallow 0 0 refl;
     sentence = sentence;
     spelled = sym whole.said.spells.said;

@@ -39,11 +39,13 @@ number_none true n m e = cc
 number_none false n m e = refl
 
 -- a name that is known stands where its number says
-named_there : (k : ℕ) (gs : List Generator) (w : List ℕ) → 1 ≤ k → 1 ≤ number_from k gs w → (k ≤ number_from k gs w) × (get_or (names gs) (number_from k gs w - k) [] ≡ w)
+named_there : (k : ℕ) (gs : List Generator) (w : List ℕ) → 1 ≤ k → 1 ≤ number_from k gs w →
+    (k ≤ number_from k gs w) × (get_or (names gs) (number_from k gs w - k) [] ≡ w)
 named_there k [] w l h = absurd (omega arith)
 named_there k (g ∷ gs) w l h = go (bytes_eq g.name w) refl h (named_there (k + 1) gs w (omega arith))
   where
-    go : (t : Bool) → bytes_eq g.name w ≡ t → 1 ≤ (if t then k else number_from (k + 1) gs w) → (1 ≤ number_from (k + 1) gs w → (k + 1 ≤ number_from (k + 1) gs w) × (get_or (names gs) (number_from (k + 1) gs w - (k + 1)) [] ≡ w))
+    go : (t : Bool) → bytes_eq g.name w ≡ t → 1 ≤ (if t then k else number_from (k + 1) gs w) →
+        (1 ≤ number_from (k + 1) gs w → (k + 1 ≤ number_from (k + 1) gs w) × (get_or (names gs) (number_from (k + 1) gs w - (k + 1)) [] ≡ w))
         → (k ≤ (if t then k else number_from (k + 1) gs w)) × (get_or (names (g ∷ gs)) ((if t then k else number_from (k + 1) gs w) - k) [] ≡ w)
     go true e h rest = (omega arith, ap (λ i. get_or (names (g ∷ gs)) i []) (let z : k - k ≡ 0 = omega arith in z) ∙ (bytes_eq-Decides g.name w).0 e)
     go false e h rest =
@@ -107,7 +109,8 @@ module _ (text : List ℕ) (kind : Kind) (gs : List Generator) (field : IsField 
   name_long : (w : Word) → IsKnown (Used w ∷ []) → behind ns (plain (expr.Gen (scope.number w))) ≤ w.end - w.start
   name_long w h =
       let there = named_there 1 gs (word_of text w.start w.end) (omega arith) (some_number (scope.number w) (known_some (scope.number w == 0) w.start h)) in
-      let long : behind ns (plain (expr.Gen (scope.number w))) ≡ length (word_of text w.start w.end) = ap (behind ns) (plain-Gen (scope.number w)) ∙ ap length there.1 in
+      let long : behind ns (plain (expr.Gen (scope.number w))) ≡ length (word_of text w.start w.end) =
+      ap (behind ns) (plain-Gen (scope.number w)) ∙ ap length there.1 in
       omega (arith, long, word_short text w.start w.end)
 
   -- a term as a later member of a sum, as its first one, and alone
@@ -117,7 +120,8 @@ module _ (text : List ℕ) (kind : Kind) (gs : List Generator) (field : IsField 
 
   record TermCost (negative : Bool) (scale : Scale) (e : Expr) : Type 0 where
     later : 3 + member ns (plain (term_of scope negative scale e)) ≤ 16 * (1 + scale_size scale) + behind ns (plain e)
-    first : (plus : Bool) → length (sign_text true (begins_below (plain (term_of scope negative scale e)))) + member ns (plain (term_of scope negative scale e)) ≤ 16 * (lead_size plus negative + scale_size scale) + behind ns (plain e)
+    first : (plus : Bool) → length (sign_text true (begins_below (plain (term_of scope negative scale e)))) +
+        member ns (plain (term_of scope negative scale e)) ≤ 16 * (lead_size plus negative + scale_size scale) + behind ns (plain e)
     only : (plus : Bool) → alone ns (plain (term_of scope negative scale e)) ≤ 16 * (lead_size plus negative + scale_size scale) + behind ns (plain e)
 
   record TimesCost (c : Num) (e : Tree Num) (cost : ℕ) : Type 0 where
@@ -137,14 +141,17 @@ module _ (text : List ℕ) (kind : Kind) (gs : List Generator) (field : IsField 
   }
 
   -- the cost of a multiple, from that of its number
-  of_times : (negative : Bool) (scale : Scale) (e : Expr) (c : Num) (cost : ℕ) → plain (term_of scope negative scale e) ≡ multiple c (plain e) → length (magnitude_text c) ≤ cost
+  of_times : (negative : Bool) (scale : Scale) (e : Expr) (c : Num) (cost : ℕ) → plain (term_of scope negative scale e) ≡ multiple c (plain e) →
+      length (magnitude_text c) ≤ cost
       → cost + 4 ≤ 16 * (1 + scale_size scale) → ((plus : Bool) → cost + 2 ≤ 16 * (lead_size plus negative + scale_size scale)) → TermCost negative scale e
   of_times negative scale e c cost is short after before =
       let t = times_cost c (plain e) cost short in
       record {
         later = subst (λ x. 3 + member ns x ≤ 16 * (1 + scale_size scale) + behind ns (plain e)) (sym is) (omega (arith, t.later));
-        first = λ plus. subst (λ x. length (sign_text true (begins_below x)) + member ns x ≤ 16 * (lead_size plus negative + scale_size scale) + behind ns (plain e)) (sym is) (omega (arith, t.first, before plus));
-        only = λ plus. subst (λ x. alone ns x ≤ 16 * (lead_size plus negative + scale_size scale) + behind ns (plain e)) (sym is) (omega (arith, t.only, before plus));
+        first = λ plus. subst (λ x. length (sign_text true (begins_below x)) + member ns x ≤ 16 * (lead_size plus negative + scale_size scale) +
+            behind ns (plain e)) (sym is) (omega (arith, t.first, before plus));
+        only = λ plus. subst (λ x. alone ns x ≤ 16 * (lead_size plus negative + scale_size scale) + behind ns (plain e)) (sym is)
+            (omega (arith, t.only, before plus));
       }
 
   term_cost : (negative : Bool) (scale : Scale) (e : Expr) → TermCost negative scale e
@@ -154,12 +161,14 @@ module _ (text : List ℕ) (kind : Kind) (gs : List Generator) (field : IsField 
     only = λ plus. omega (arith, alone_behind ns (plain e));
   }
   term_cost true One e =
-      of_times true One e (coefficient_of kind true 1 1) 11 (plain-Times _ e) (let l = coefficient_long kind true 1 1 field in omega (arith, one_long)) (omega arith) (λ plus. omega arith)
+      of_times true One e (coefficient_of kind true 1 1) 11 (plain-Times _ e) (let l = coefficient_long kind true 1 1 field in
+      omega (arith, one_long)) (omega arith) (λ plus. omega arith)
   term_cost negative (Whole n) e =
       of_times negative (Whole n) e (coefficient_of kind negative n.value 1) (5 * digits n.value + 6) (term_whole scope negative n.place n.value e)
       (let l = coefficient_long kind negative n.value 1 field in omega (arith, one_long)) (omega arith) (λ plus. omega arith)
   term_cost negative (Quotient n d) e =
-      of_times negative (Quotient n d) e (coefficient_of kind negative n.value d.value) (5 * digits n.value + 1 + 5 * digits d.value) (term_quotient scope negative n.place d.place n.value d.value e)
+      of_times negative (Quotient n d) e (coefficient_of kind negative n.value d.value) (5 * digits n.value + 1 + 5 * digits d.value)
+      (term_quotient scope negative n.place d.place n.value d.value e)
       (coefficient_long kind negative n.value d.value field) (omega arith) (λ plus. omega arith)
 
   total_long : (x : Expr) (ys : List Expr) (n : ℕ) → alone ns (plain x) ≤ n → length (sign_text true (begins_below (plain x))) + member ns (plain x) ≤ n
@@ -170,19 +179,22 @@ module _ (text : List ℕ) (kind : Kind) (gs : List Generator) (field : IsField 
       (omega (arith, sum_long ns (trees (map plain (x ∷ y ∷ ys))), more_long ns true (plain x) (trees (map plain (y ∷ ys)))))
 
   mutual
-    pub sum_cost : (s : Sum) → IsKnown (events_sum s) → (after : List Terminal) → alone ns (plain (expression_of scope s)) + 16 * sizes after ≤ 16 * sizes (spell_sum s after)
+    pub sum_cost : (s : Sum) → IsKnown (events_sum s) → (after : List Terminal) → alone ns (plain (expression_of scope s)) +
+        16 * sizes after ≤ 16 * sizes (spell_sum s after)
     sum_cost (sum plus (term negative scale f) ts) h after =
         let k = first_place-append (unknown_in scope) (events_scale scale) (events_factor f ++ events_terms ts) h in
         let l = first_place-append (unknown_in scope) (events_factor f) (events_terms ts) k.1 in
         let t = term_cost negative scale (factor_of scope f) in
-        let all = total_long (term_of scope negative scale (factor_of scope f)) (further_of scope ts) (16 * (lead_size plus negative + scale_size scale) + behind ns (plain (factor_of scope f))) (t.only plus) (t.first plus) in
+        let all = total_long (term_of scope negative scale (factor_of scope f)) (further_of scope ts)
+        (16 * (lead_size plus negative + scale_size scale) + behind ns (plain (factor_of scope f))) (t.only plus) (t.first plus) in
         let a = factor_cost f l.0 (spell_terms ts after) in
         let b = terms_cost ts l.1 after in
         let c = scale_sizes scale (spell_factor f (spell_terms ts after)) in
         let d = lead_sizes plus negative (spell_scale scale (spell_factor f (spell_terms ts after))) in
         omega (arith, all, a, b, c, d)
 
-    terms_cost : (ts : Terms) → IsKnown (events_terms ts) → (after : List Terminal) → length (sum_text ns false (trees (map plain (further_of scope ts)))) + 16 * sizes after ≤ 16 * sizes (spell_terms ts after)
+    terms_cost : (ts : Terms) → IsKnown (events_terms ts) → (after : List Terminal) → length
+        (sum_text ns false (trees (map plain (further_of scope ts)))) + 16 * sizes after ≤ 16 * sizes (spell_terms ts after)
     terms_cost end h after = omega arith
     terms_cost (further (term negative scale f) ts) h after =
         let k = first_place-append (unknown_in scope) (events_scale scale) (events_factor f ++ events_terms ts) h in
@@ -197,7 +209,8 @@ module _ (text : List ℕ) (kind : Kind) (gs : List Generator) (field : IsField 
         let d = sign_size negative (spell_scale scale (spell_factor f (spell_terms ts after))) in
         omega (arith, all, sign, t.later, a, b, c, d)
 
-    factor_cost : (f : Factor) → IsKnown (events_factor f) → (after : List Terminal) → behind ns (plain (factor_of scope f)) + 16 * sizes after ≤ 16 * sizes (spell_factor f after)
+    factor_cost : (f : Factor) → IsKnown (events_factor f) → (after : List Terminal) → behind ns (plain (factor_of scope f)) +
+        16 * sizes after ≤ 16 * sizes (spell_factor f after)
     factor_cost (name w) h after = omega (arith, name_long w h)
     factor_cost (nought place) h after = omega (arith, zero_long, (let z : behind ns (plain expr.Zero) ≡ 1 = ap (behind ns) plain-Zero in z))
     factor_cost (bracket a b) h after =
@@ -205,7 +218,8 @@ module _ (text : List ℕ) (kind : Kind) (gs : List Generator) (field : IsField 
         let x = sum_cost a k.0 (mark.Comma ∷ spell_sum b (mark.CloseBracket ∷ after)) in
         let y = sum_cost b k.1 (mark.CloseBracket ∷ after) in
         let z = bracket_long ns (plain (expression_of scope a)) (plain (expression_of scope b)) in
-        let all : behind ns (plain (expr.Br (expression_of scope a) (expression_of scope b))) ≡ alone ns (plain (expression_of scope a)) + alone ns (plain (expression_of scope b)) + 3 =
+        let all : behind ns (plain (expr.Br (expression_of scope a) (expression_of scope b))) ≡ alone ns (plain (expression_of scope a)) +
+        alone ns (plain (expression_of scope b)) + 3 =
         ap (behind ns) (plain-Br (expression_of scope a) (expression_of scope b)) ∙ z in
         omega (arith, x, y, all)
     factor_cost (group a) h after =

@@ -57,11 +57,13 @@ quiet_scale (Quotient n d) = (refl, refl)
 
 mutual
   quiet_sum : (s : Sum) → IsQuiet (events_sum s)
-  quiet_sum (sum plus (term negative scale f) ts) = quiet_both (events_scale scale) _ (quiet_scale scale) (quiet_both (events_factor f) (events_terms ts) (quiet_factor f) (quiet_terms ts))
+  quiet_sum (sum plus (term negative scale f) ts) = quiet_both (events_scale scale) _ (quiet_scale scale)
+      (quiet_both (events_factor f) (events_terms ts) (quiet_factor f) (quiet_terms ts))
 
   quiet_terms : (ts : Terms) → IsQuiet (events_terms ts)
   quiet_terms end = (refl, refl)
-  quiet_terms (further (term negative scale f) ts) = quiet_both (events_scale scale) _ (quiet_scale scale) (quiet_both (events_factor f) (events_terms ts) (quiet_factor f) (quiet_terms ts))
+  quiet_terms (further (term negative scale f) ts) = quiet_both (events_scale scale) _ (quiet_scale scale)
+      (quiet_both (events_factor f) (events_terms ts) (quiet_factor f) (quiet_terms ts))
 
   quiet_factor : (f : Factor) → IsQuiet (events_factor f)
   quiet_factor (name w) = (refl, refl)
@@ -93,7 +95,8 @@ lefts_cons : (b : Bool) (q : Equation) (qs : List Equation) → lefts (cons_if b
 lefts_cons true q qs = refl
 lefts_cons false q qs = refl
 
-module _ (text : List ℕ) (p : Presentation) (known : IsField p.field) (named : All (λ g. IsName g.name) p.generators) (distinct : AreDistinct p.generators) where
+module _ (text : List ℕ) (p : Presentation) (known : IsField p.field) (named : All (λ g. IsName g.name) p.generators)
+    (distinct : AreDistinct p.generators) where
   abbrev scope : Scope
   scope = scope_of text p.field p.generators
 
@@ -133,21 +136,26 @@ module _ (text : List ℕ) (p : Presentation) (known : IsField p.field) (named :
 
   -- a claim that is homogeneous is not refused
 
-  weight_unmixed : (place : ℕ) (kind : ClaimKind) (a b x y : Expr) → a ≡ x → b ≡ y → IsHomogeneous p (tree_in p.field x) (tree_in p.field y) → mixed_weight_of bare (equate kind place a b) ≡ None
+  weight_unmixed : (place : ℕ) (kind : ClaimKind) (a b x y : Expr) → a ≡ x → b ≡ y → IsHomogeneous p (tree_in p.field x) (tree_in p.field y) →
+      mixed_weight_of bare (equate kind place a b) ≡ None
   weight_unmixed place kind a b x y h k homogeneous =
       ap₂ (λ a b. mixed_weight_of bare (equate kind place a b)) h k
-      ∙ no_place _ place (ap is_mixed (ap₂ (of_both nat_eq) (weight_same (presentation_in bare) (presentation_in p) refl (tree_in p.field x)) (weight_same (presentation_in bare) (presentation_in p) refl (tree_in p.field y)))
+      ∙ no_place _ place (ap is_mixed (ap₂ (of_both nat_eq) (weight_same (presentation_in bare) (presentation_in p) refl (tree_in p.field x))
+      (weight_same (presentation_in bare) (presentation_in p) refl (tree_in p.field y)))
       ∙ unmixed (weight_of_both (presentation_in p) (tree_in p.field x) (tree_in p.field y)) homogeneous.0)
 
-  parity_unmixed : (place : ℕ) (kind : ClaimKind) (a b x y : Expr) → a ≡ x → b ≡ y → IsHomogeneous p (tree_in p.field x) (tree_in p.field y) → mixed_parity_of bare (equate kind place a b) ≡ None
+  parity_unmixed : (place : ℕ) (kind : ClaimKind) (a b x y : Expr) → a ≡ x → b ≡ y → IsHomogeneous p (tree_in p.field x) (tree_in p.field y) →
+      mixed_parity_of bare (equate kind place a b) ≡ None
   parity_unmixed place kind a b x y h k homogeneous =
       ap₂ (λ a b. mixed_parity_of bare (equate kind place a b)) h k
-      ∙ no_place _ place (ap is_mixed (ap₂ (of_both same_parity) (parity_same (presentation_in bare) (presentation_in p) refl (tree_in p.field x)) (parity_same (presentation_in bare) (presentation_in p) refl (tree_in p.field y)))
+      ∙ no_place _ place (ap is_mixed (ap₂ (of_both same_parity) (parity_same (presentation_in bare) (presentation_in p) refl (tree_in p.field x))
+      (parity_same (presentation_in bare) (presentation_in p) refl (tree_in p.field y)))
       ∙ unmixed (parity_of_both (presentation_in p) (tree_in p.field x) (tree_in p.field y)) homogeneous.1)
 
   -- one more claim
 
-  said_claim : (rest after : List ℕ) (s : Statement) (kind : ClaimKind) (place : ℕ) (a b : Expr) (q : Equation) (rs : List Equation) (is : List Expr) (qs : List Equation) → claims_in scope s ≡ equate kind place a b ∷ []
+  said_claim : (rest after : List ℕ) (s : Statement) (kind : ClaimKind) (place : ℕ) (a b : Expr) (q : Equation) (rs : List Equation) (is : List Expr)
+      (qs : List Equation) → claims_in scope s ≡ equate kind place a b ∷ []
       → a ≡ q.left → b ≡ q.right → IsHomogeneous p (tree_in p.field q.left) (tree_in p.field q.right)
       → IsQuiet (events_statement s) → first_place (unknown_in scope) (events_statement s) ≡ None → first_place (zero_in p.field) (events_statement s) ≡ None
       → (said : Said after [] [] rs is qs) → Spells text 0 rest (spell_statement s (spelling said.sentence))
@@ -165,18 +173,23 @@ module _ (text : List ℕ) (p : Presentation) (known : IsField p.field) (named :
         declared = ap (map (generator_of text)) (declared_in-append (events_statement s) es ∙ ap (λ x. x ++ declared_in es) quiet.1) ∙ said.declared;
         weights = ap bad_weight (declared_in-append (events_statement s) es ∙ ap (λ x. x ++ declared_in es) quiet.1) ∙ said.weights;
         relations = ap (claimed_as is_relation) all ∙ ap₂ (cons_if (is_relation kind)) whole said.relations;
-        ideals = ap (λ x. lefts (claimed_as is_ideal x)) all ∙ lefts_cons (is_ideal kind) c.equation (claimed_as is_ideal cs) ∙ ap₂ (cons_if (is_ideal kind)) left_is said.ideals;
+        ideals = ap (λ x. lefts (claimed_as is_ideal x)) all ∙ lefts_cons (is_ideal kind) c.equation (claimed_as is_ideal cs) ∙
+            ap₂ (cons_if (is_ideal kind)) left_is said.ideals;
         queries = ap (claimed_as is_equal) all ∙ ap₂ (cons_if (is_equal kind)) whole said.queries;
         names = first_place-both (unknown_in scope) (events_statement s) es unknown said.names;
         denominators = first_place-both (zero_in p.field) (events_statement s) es zeros said.denominators;
-        weighed = ap (first_place (mixed_weight_of bare)) all ∙ or_none (mixed_weight_of bare c) _ (weight_unmixed place kind a b q.left q.right left_is right_is homogeneous) said.weighed;
-        paired = ap (first_place (mixed_parity_of bare)) all ∙ or_none (mixed_parity_of bare c) _ (parity_unmixed place kind a b q.left q.right left_is right_is homogeneous) said.paired;
+        weighed = ap (first_place (mixed_weight_of bare)) all ∙ or_none (mixed_weight_of bare c) _
+            (weight_unmixed place kind a b q.left q.right left_is right_is homogeneous) said.weighed;
+        paired = ap (first_place (mixed_parity_of bare)) all ∙ or_none (mixed_parity_of bare c) _
+            (parity_unmixed place kind a b q.left q.right left_is right_is homogeneous) said.paired;
       }
 
   -- the sides of claims
 
-  pub spells_line_end : (after : List ℕ) (terminals : List Terminal) → IsLeft text (59 ∷ 10 ∷ after) → Spells text 0 after terminals → Spells text 0 (59 ∷ 10 ∷ after) (mark.Semicolon ∷ terminals)
-  spells_line_end after terminals e s = spells_mark text 0 0 59 (10 ∷ after) terminals refl refl (omega arith) e (spells_blank text 0 10 after terminals refl (later text (59 ∷ []) (10 ∷ after) e) s)
+  pub spells_line_end : (after : List ℕ) (terminals : List Terminal) → IsLeft text (59 ∷ 10 ∷ after) → Spells text 0 after terminals →
+      Spells text 0 (59 ∷ 10 ∷ after) (mark.Semicolon ∷ terminals)
+  spells_line_end after terminals e s = spells_mark text 0 0 59 (10 ∷ after) terminals refl refl (omega arith) e
+      (spells_blank text 0 10 after terminals refl (later text (59 ∷ []) (10 ∷ after) e) s)
 
   abbrev side : Expr → List ℕ
   side x = expression_text (names p.generators) Alone (plain x)
@@ -188,7 +201,8 @@ module _ (text : List ℕ) (p : Presentation) (known : IsField p.field) (named :
     names : first_place (unknown_in scope) (events_sum tree) ≡ None
     denominators : first_place (zero_in p.field) (events_sum tree) ≡ None
 
-  one_side : (x : Expr) → IsExpression p x → (after : List ℕ) (terminals : List Terminal) → Stops is_word_byte after → IsLeft text (side x ++ after) → Spells text 0 after terminals → OneSide (side x ++ after) terminals x
+  one_side : (x : Expr) → IsExpression p x → (after : List ℕ) (terminals : List Terminal) → Stops is_word_byte after → IsLeft text (side x ++ after) →
+      Spells text 0 after terminals → OneSide (side x ++ after) terminals x
   one_side x sound after terminals stops e s =
       let u = summed text p.field p.generators known named distinct (plain x) sound.0 0 after terminals (omega (arith, sound.1)) stops e s in
       record { tree = u.tree; spells = u.spells; value = same_tree (expression_of scope u.tree) x u.value; names = u.fine.0; denominators = u.fine.1 }
@@ -206,7 +220,8 @@ module _ (text : List ℕ) (p : Presentation) (known : IsField p.field) (named :
     names : first_place (unknown_in scope) (events_sum left ++ events_sum right) ≡ None
     denominators : first_place (zero_in p.field) (events_sum left ++ events_sum right) ≡ None
 
-  two_sides : (q : Equation) → IsSoundEquation p q → (after : List ℕ) (terminals : List Terminal) → IsLeft text (sides q after) → Spells text 0 after terminals → TwoSides (sides q after) terminals q
+  two_sides : (q : Equation) → IsSoundEquation p q → (after : List ℕ) (terminals : List Terminal) → IsLeft text (sides q after) →
+      Spells text 0 after terminals → TwoSides (sides q after) terminals q
   two_sides q sound after terminals e s =
       let e1 = later text (side q.left) (32 ∷ 61 ∷ 32 ∷ (side q.right ++ (59 ∷ 10 ∷ after))) e in
       let e2 = later text (32 ∷ []) (61 ∷ 32 ∷ (side q.right ++ (59 ∷ 10 ∷ after))) e1 in
@@ -217,7 +232,8 @@ module _ (text : List ℕ) (p : Presentation) (known : IsField p.field) (named :
       let b = spells_blank text 0 32 (side q.right ++ (59 ∷ 10 ∷ after)) _ refl e3 r.spells in
       let m = spells_mark text 0 0 61 (32 ∷ (side q.right ++ (59 ∷ 10 ∷ after))) _ refl refl (omega arith) e2 b in
       let c = spells_blank text 0 32 (61 ∷ 32 ∷ (side q.right ++ (59 ∷ 10 ∷ after))) _ refl e1 m in
-      let l = one_side q.left sound.0 (32 ∷ 61 ∷ 32 ∷ (side q.right ++ (59 ∷ 10 ∷ after))) (mark.Equals ∷ spell_sum r.tree (mark.Semicolon ∷ terminals)) refl e c in
+      let l = one_side q.left sound.0 (32 ∷ 61 ∷ 32 ∷ (side q.right ++ (59 ∷ 10 ∷ after))) (mark.Equals ∷ spell_sum r.tree
+      (mark.Semicolon ∷ terminals)) refl e c in
       record {
         left = l.tree;
         right = r.tree;
@@ -236,72 +252,93 @@ module _ (text : List ℕ) (p : Presentation) (known : IsField p.field) (named :
       ∙ append_assoc (word ++ L) (codes " = ") (R ++ (59 ∷ 10 ∷ after)) ∙ append_assoc word L (32 ∷ 61 ∷ 32 ∷ (R ++ (59 ∷ 10 ∷ after)))
 
   -- the first word of a line
-  pub spells_first : (word rest : List ℕ) (terminals : List Terminal) → IsTrue (is_word word) → length word ≤ 32 → IsLeft text (word ++ (32 ∷ rest)) → Spells text 0 rest terminals
+  pub spells_first : (word rest : List ℕ) (terminals : List Terminal) → IsTrue (is_word word) → length word ≤ 32 → IsLeft text (word ++ (32 ∷ rest)) →
+      Spells text 0 rest terminals
       → Spells text 0 (word ++ (32 ∷ rest)) (word_terminal word (place text (word ++ (32 ∷ rest))) (place text (word ++ (32 ∷ rest)) + length word) ∷ terminals)
-  spells_first word rest terminals is few e s = spells_word text 0 word (32 ∷ rest) terminals is few refl (omega arith) e (spells_blank text 0 32 rest terminals refl (later text word (32 ∷ rest) e) s)
+  spells_first word rest terminals is few e s = spells_word text 0 word (32 ∷ rest) terminals is few refl (omega arith) e
+      (spells_blank text 0 32 rest terminals refl (later text word (32 ∷ rest) e) s)
 
   -- relations and queries
 
-  relation_said : (rest after : List ℕ) (at : ℕ) (q : Equation) (rs : List Equation) (is : List Expr) (qs : List Equation) → IsSoundEquation p q → (said : Said after [] [] rs is qs)
-      → (t : TwoSides (sides q after) (spelling said.sentence) q) → Spells text 0 rest (mark.Claim claim.Relation at ∷ spell_sum t.left (mark.Equals ∷ spell_sum t.right (mark.Semicolon ∷ spelling said.sentence)))
+  relation_said : (rest after : List ℕ) (at : ℕ) (q : Equation) (rs : List Equation) (is : List Expr) (qs : List Equation) → IsSoundEquation p q →
+      (said : Said after [] [] rs is qs)
+      → (t : TwoSides (sides q after) (spelling said.sentence) q) →
+      Spells text 0 rest (mark.Claim claim.Relation at ∷ spell_sum t.left (mark.Equals ∷ spell_sum t.right (mark.Semicolon ∷ spelling said.sentence)))
       → Said rest [] [] (q ∷ rs) is qs
   relation_said rest after at q rs is qs sound said t spells =
-      said_claim rest after (equation at t.left t.right) claim.Relation at (expression_of scope t.left) (expression_of scope t.right) q rs is qs refl t.left_is t.right_is sound.2
+      said_claim rest after (equation at t.left t.right) claim.Relation at (expression_of scope t.left)
+      (expression_of scope t.right) q rs is qs refl t.left_is t.right_is sound.2
       (quiet_both (events_sum t.left) (events_sum t.right) (quiet_sum t.left) (quiet_sum t.right)) t.names t.denominators said spells
 
-  query_said : (rest after : List ℕ) (at : ℕ) (q : Equation) (rs : List Equation) (is : List Expr) (qs : List Equation) → IsSoundEquation p q → (said : Said after [] [] rs is qs)
-      → (t : TwoSides (sides q after) (spelling said.sentence) q) → Spells text 0 rest (mark.Claim claim.Equal at ∷ spell_sum t.left (mark.Equals ∷ spell_sum t.right (mark.Semicolon ∷ spelling said.sentence)))
+  query_said : (rest after : List ℕ) (at : ℕ) (q : Equation) (rs : List Equation) (is : List Expr) (qs : List Equation) → IsSoundEquation p q →
+      (said : Said after [] [] rs is qs)
+      → (t : TwoSides (sides q after) (spelling said.sentence) q) →
+      Spells text 0 rest (mark.Claim claim.Equal at ∷ spell_sum t.left (mark.Equals ∷ spell_sum t.right (mark.Semicolon ∷ spelling said.sentence)))
       → Said rest [] [] rs is (q ∷ qs)
   query_said rest after at q rs is qs sound said t spells =
-      said_claim rest after (equal at t.left t.right) claim.Equal at (expression_of scope t.left) (expression_of scope t.right) q rs is qs refl t.left_is t.right_is sound.2
+      said_claim rest after (equal at t.left t.right) claim.Equal at (expression_of scope t.left)
+      (expression_of scope t.right) q rs is qs refl t.left_is t.right_is sound.2
       (quiet_both (events_sum t.left) (events_sum t.right) (quiet_sum t.left) (quiet_sum t.right)) t.names t.denominators said spells
 
-  said_relation : (q : Equation) (after : List ℕ) (rs : List Equation) (is : List Expr) (qs : List Equation) → IsSoundEquation p q → IsLeft text (codes "relation " ++ sides q after)
+  said_relation : (q : Equation) (after : List ℕ) (rs : List Equation) (is : List Expr) (qs : List Equation) → IsSoundEquation p q →
+      IsLeft text (codes "relation " ++ sides q after)
       → Said after [] [] rs is qs → Said (codes "relation " ++ sides q after) [] [] (q ∷ rs) is qs
   said_relation q after rs is qs sound e said =
       let t = two_sides q sound after (spelling said.sentence) (later text (codes "relation ") (sides q after) e) said.spells in
       relation_said (codes "relation " ++ sides q after) after (place text (codes "relation " ++ sides q after)) q rs is qs sound said t
-      (spells_first (codes "relation") (sides q after) (spell_sum t.left (mark.Equals ∷ spell_sum t.right (mark.Semicolon ∷ spelling said.sentence))) refl (omega arith) e t.spells)
+      (spells_first (codes "relation") (sides q after) (spell_sum t.left (mark.Equals ∷ spell_sum t.right (mark.Semicolon ∷ spelling said.sentence)))
+      refl (omega arith) e t.spells)
 
-  said_query : (q : Equation) (after : List ℕ) (rs : List Equation) (is : List Expr) (qs : List Equation) → IsSoundEquation p q → IsLeft text (codes "equal " ++ sides q after)
+  said_query : (q : Equation) (after : List ℕ) (rs : List Equation) (is : List Expr) (qs : List Equation) → IsSoundEquation p q →
+      IsLeft text (codes "equal " ++ sides q after)
       → Said after [] [] rs is qs → Said (codes "equal " ++ sides q after) [] [] rs is (q ∷ qs)
   said_query q after rs is qs sound e said =
       let t = two_sides q sound after (spelling said.sentence) (later text (codes "equal ") (sides q after) e) said.spells in
       query_said (codes "equal " ++ sides q after) after (place text (codes "equal " ++ sides q after)) q rs is qs sound said t
-      (spells_first (codes "equal") (sides q after) (spell_sum t.left (mark.Equals ∷ spell_sum t.right (mark.Semicolon ∷ spelling said.sentence))) refl (omega arith) e t.spells)
+      (spells_first (codes "equal") (sides q after) (spell_sum t.left (mark.Equals ∷ spell_sum t.right (mark.Semicolon ∷ spelling said.sentence)))
+      refl (omega arith) e t.spells)
 
   -- ideal elements
 
   ideal_shape : (x : Expr) (after : List ℕ) → ideal_line p x ++ after ≡ codes "ideal " ++ (side x ++ (59 ∷ 10 ∷ after))
   ideal_shape x after = append_assoc (codes "ideal " ++ side x) (codes ";\n") after ∙ append_assoc (codes "ideal ") (side x) (59 ∷ 10 ∷ after)
 
-  ideal_said : (rest after : List ℕ) (at : ℕ) (x : Expr) (rs : List Equation) (is : List Expr) (qs : List Equation) → IsSoundElement p x → (said : Said after [] [] rs is qs)
-      → (t : OneSide (side x ++ (59 ∷ 10 ∷ after)) (mark.Semicolon ∷ spelling said.sentence) x) → Spells text 0 rest (mark.Claim claim.Ideal at ∷ spell_sum t.tree (mark.Semicolon ∷ spelling said.sentence))
+  ideal_said : (rest after : List ℕ) (at : ℕ) (x : Expr) (rs : List Equation) (is : List Expr) (qs : List Equation) → IsSoundElement p x →
+      (said : Said after [] [] rs is qs)
+      → (t : OneSide (side x ++ (59 ∷ 10 ∷ after)) (mark.Semicolon ∷ spelling said.sentence) x) →
+      Spells text 0 rest (mark.Claim claim.Ideal at ∷ spell_sum t.tree (mark.Semicolon ∷ spelling said.sentence))
       → Said rest [] [] rs (x ∷ is) qs
   ideal_said rest after at x rs is qs sound said t spells =
-      said_claim rest after (ideal at t.tree) claim.Ideal at (expression_of scope t.tree) expr.Zero (record { left = x; right = expr.Zero }) rs is qs refl t.value refl
+      said_claim rest after (ideal at t.tree) claim.Ideal at (expression_of scope t.tree) expr.Zero
+      (record { left = x; right = expr.Zero }) rs is qs refl t.value refl
       (subst (IsHomogeneous p (tree_in p.field x)) (sym (ap (in_field p.field) plain-Zero)) sound.1) (quiet_sum t.tree) t.names t.denominators said spells
 
-  said_ideal : (x : Expr) (after : List ℕ) (rs : List Equation) (is : List Expr) (qs : List Equation) → IsSoundElement p x → IsLeft text (codes "ideal " ++ (side x ++ (59 ∷ 10 ∷ after)))
+  said_ideal : (x : Expr) (after : List ℕ) (rs : List Equation) (is : List Expr) (qs : List Equation) → IsSoundElement p x →
+      IsLeft text (codes "ideal " ++ (side x ++ (59 ∷ 10 ∷ after)))
       → Said after [] [] rs is qs → Said (codes "ideal " ++ (side x ++ (59 ∷ 10 ∷ after))) [] [] rs (x ∷ is) qs
   said_ideal x after rs is qs sound e said =
       let e1 = later text (codes "ideal ") (side x ++ (59 ∷ 10 ∷ after)) e in
       let e2 = later text (side x) (59 ∷ 10 ∷ after) e1 in
-      let t = one_side x sound.0 (59 ∷ 10 ∷ after) (mark.Semicolon ∷ spelling said.sentence) refl e1 (spells_line_end after (spelling said.sentence) e2 said.spells) in
+      let t = one_side x sound.0 (59 ∷ 10 ∷ after) (mark.Semicolon ∷ spelling said.sentence) refl e1
+      (spells_line_end after (spelling said.sentence) e2 said.spells) in
       ideal_said (codes "ideal " ++ (side x ++ (59 ∷ 10 ∷ after))) after (place text (codes "ideal " ++ (side x ++ (59 ∷ 10 ∷ after)))) x rs is qs sound said t
       (spells_first (codes "ideal") (side x ++ (59 ∷ 10 ∷ after)) (spell_sum t.tree (mark.Semicolon ∷ spelling said.sentence)) refl (omega arith) e t.spells)
 
   -- all of a kind
 
-  pub said_relations : (ps : List Equation) (after : List ℕ) (is : List Expr) (qs : List Equation) → All (IsSoundEquation p) ps → IsLeft text (lines (equation_line (codes "relation ") p) ps ++ after)
+  pub said_relations : (ps : List Equation) (after : List ℕ) (is : List Expr) (qs : List Equation) → All (IsSoundEquation p) ps →
+      IsLeft text (lines (equation_line (codes "relation ") p) ps ++ after)
       → Said after [] [] [] is qs → Said (lines (equation_line (codes "relation ") p) ps ++ after) [] [] ps is qs
   said_relations [] after is qs sound e said = said
   said_relations (q ∷ ps) after is qs sound e said =
       let rest = lines (equation_line (codes "relation ") p) ps ++ after in
-      let shape = append_assoc (equation_line (codes "relation ") p q) (lines (equation_line (codes "relation ") p) ps) after ∙ line_shape (codes "relation ") q rest in
+      let shape = append_assoc (equation_line (codes "relation ") p q) (lines (equation_line (codes "relation ") p) ps) after ∙
+      line_shape (codes "relation ") q rest in
       let e1 = subst (IsLeft text) shape e in
-      let e2 = later text (equation_line (codes "relation ") p q) rest (subst (IsLeft text) (append_assoc (equation_line (codes "relation ") p q) (lines (equation_line (codes "relation ") p) ps) after) e) in
-      subst (λ r. Said r [] [] (q ∷ ps) is qs) (sym shape) (said_relation q rest ps is qs (sound 0 q (omega arith)) e1 (said_relations ps after is qs (λ k d l. sound (suc k) d (omega arith)) e2 said))
+      let e2 = later text (equation_line (codes "relation ") p q) rest (subst (IsLeft text)
+      (append_assoc (equation_line (codes "relation ") p q) (lines (equation_line (codes "relation ") p) ps) after) e) in
+      subst (λ r. Said r [] [] (q ∷ ps) is qs) (sym shape) (said_relation q rest ps is qs (sound 0 q (omega arith)) e1
+      (said_relations ps after is qs (λ k d l. sound (suc k) d (omega arith)) e2 said))
 
   pub said_queries : (ps : List Equation) (after : List ℕ) → All (IsSoundEquation p) ps → IsLeft text (lines (equation_line (codes "equal ") p) ps ++ after)
       → Said after [] [] [] [] [] → Said (lines (equation_line (codes "equal ") p) ps ++ after) [] [] [] [] ps
@@ -310,8 +347,10 @@ module _ (text : List ℕ) (p : Presentation) (known : IsField p.field) (named :
       let rest = lines (equation_line (codes "equal ") p) ps ++ after in
       let shape = append_assoc (equation_line (codes "equal ") p q) (lines (equation_line (codes "equal ") p) ps) after ∙ line_shape (codes "equal ") q rest in
       let e1 = subst (IsLeft text) shape e in
-      let e2 = later text (equation_line (codes "equal ") p q) rest (subst (IsLeft text) (append_assoc (equation_line (codes "equal ") p q) (lines (equation_line (codes "equal ") p) ps) after) e) in
-      subst (λ r. Said r [] [] [] [] (q ∷ ps)) (sym shape) (said_query q rest [] [] ps (sound 0 q (omega arith)) e1 (said_queries ps after (λ k d l. sound (suc k) d (omega arith)) e2 said))
+      let e2 = later text (equation_line (codes "equal ") p q) rest
+      (subst (IsLeft text) (append_assoc (equation_line (codes "equal ") p q) (lines (equation_line (codes "equal ") p) ps) after) e) in
+      subst (λ r. Said r [] [] [] [] (q ∷ ps)) (sym shape) (said_query q rest [] [] ps (sound 0 q (omega arith)) e1
+      (said_queries ps after (λ k d l. sound (suc k) d (omega arith)) e2 said))
 
   pub said_ideals : (xs : List Expr) (after : List ℕ) (qs : List Equation) → All (IsSoundElement p) xs → IsLeft text (lines (ideal_line p) xs ++ after)
       → Said after [] [] [] [] qs → Said (lines (ideal_line p) xs ++ after) [] [] [] xs qs
@@ -321,4 +360,5 @@ module _ (text : List ℕ) (p : Presentation) (known : IsField p.field) (named :
       let shape = append_assoc (ideal_line p x) (lines (ideal_line p) xs) after ∙ ideal_shape x rest in
       let e1 = subst (IsLeft text) shape e in
       let e2 = later text (ideal_line p x) rest (subst (IsLeft text) (append_assoc (ideal_line p x) (lines (ideal_line p) xs) after) e) in
-      subst (λ r. Said r [] [] [] (x ∷ xs) qs) (sym shape) (said_ideal x rest [] xs qs (sound 0 x (omega arith)) e1 (said_ideals xs after qs (λ k d l. sound (suc k) d (omega arith)) e2 said))
+      subst (λ r. Said r [] [] [] (x ∷ xs) qs) (sym shape) (said_ideal x rest [] xs qs (sound 0 x (omega arith)) e1
+      (said_ideals xs after qs (λ k d l. sound (suc k) d (omega arith)) e2 said))

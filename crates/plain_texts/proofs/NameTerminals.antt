@@ -25,7 +25,8 @@ step true a b c e h = cc
 step false a b c e h = h
 
 -- a word that is not reserved is a name
-pub name_terminal : (word : List ℕ) (start end : ℕ) → (Contains reserved word → ⊥) → word_terminal word start end ≡ terminal.Name (record { start = start; end = end; rationals = bytes_eq word (codes "Q") })
+pub name_terminal : (word : List ℕ) (start end : ℕ) → (Contains reserved word → ⊥) → word_terminal word start end ≡
+    terminal.Name (record { start = start; end = end; rationals = bytes_eq word (codes "Q") })
 name_terminal word start end free =
     step (bytes_eq word (codes "field")) _ _ _ (differs word (codes "field") (λ e. free (0, omega arith, e)))
     (step (bytes_eq word (codes "even")) _ _ _ (differs word (codes "even") (λ e. free (1, omega arith, e)))
@@ -50,7 +51,8 @@ number_if false n m k e h = h
 -- a name is found where it stands
 pub number_there : (k : ℕ) (gs : List Generator) (i : ℕ) → AreDistinct gs → i < length gs → number_from k gs (get_or (names gs) i []) ≡ k + i
 number_there k [] i d l = absurd (omega arith)
-number_there k (g ∷ gs) zero d l = ap (λ (b : Bool). if b then k else number_from (k + 1) gs g.name) (same_bytes g.name) ∙ (let e : k ≡ k + 0 = omega arith in e)
+number_there k (g ∷ gs) zero d l = ap (λ (b : Bool). if b then k else number_from (k + 1) gs g.name) (same_bytes g.name)
+    ∙ (let e : k ≡ k + 0 = omega arith in e)
 number_there k (g ∷ gs) (suc i) d l =
     number_if (bytes_eq g.name (get_or (names gs) i [])) k _ _ (differs g.name (get_or (names gs) i []) (λ e. d 0 (suc i) (omega arith) l (sym e)))
     (number_there (k + 1) gs i (distinct_rest g gs d) (omega arith) ∙ (let e : k + 1 + i ≡ k + suc i = omega arith in e))

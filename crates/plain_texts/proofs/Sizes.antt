@@ -63,7 +63,8 @@ power_above = decimal_by_steps_wide (λ m ds. m + 1 ≤ 10 ^ length ds) (λ m l.
 
 pub digits_up : (m n : ℕ) → m ≤ n → n ≤ most_value → length (decimal m) ≤ length (decimal n)
 digits_up m n l few =
-    length-decimal-le_wide (length (decimal n)) m (decimal_is_IsNumeral_wide n (omega arith)).0.0 (let h = power_above n (omega arith) in omega arith) (omega arith)
+    length-decimal-le_wide (length (decimal n)) m (decimal_is_IsNumeral_wide n (omega arith)).0.0 (let h = power_above n (omega arith) in omega arith)
+    (omega arith)
 
 -- tokens
 
@@ -84,8 +85,10 @@ module _ (text : List ℕ) where
   mark_size : (b : ℕ) → size (mark_terminal b) ≤ 1
   mark_size b =
       let one : 1 ≤ 1 = omega arith in
-      either_size (b == 59) _ _ 1 one (either_size (b == 44) _ _ 1 one (either_size (b == 58) _ _ 1 one (either_size (b == 61) _ _ 1 one (either_size (b == 43) _ _ 1 one (either_size (b == 45) _ _ 1 one
-      (either_size (b == 42) _ _ 1 one (either_size (b == 47) _ _ 1 one (either_size (b == 91) _ _ 1 one (either_size (b == 93) _ _ 1 one (either_size (b == 40) _ _ 1 one one))))))))))
+      either_size (b == 59) _ _ 1 one (either_size (b == 44) _ _ 1 one (either_size (b == 58) _ _ 1 one
+      (either_size (b == 61) _ _ 1 one (either_size (b == 43) _ _ 1 one (either_size (b == 45) _ _ 1 one
+      (either_size (b == 42) _ _ 1 one (either_size (b == 47) _ _ 1 one (either_size (b == 91) _ _ 1 one
+      (either_size (b == 93) _ _ 1 one (either_size (b == 40) _ _ 1 one one))))))))))
 
   -- tokens fit into so many bytes
   abbrev Fit : ℕ → List Token → Type 0
@@ -98,15 +101,18 @@ module _ (text : List ℕ) where
   ok_same : {A : Type 0} {x y : A} → ◌≡◌ {A = Result A LexError} (Ok x) (Ok y) → x ≡ y
   ok_same e = cc
 
-  word_fits : (at : ℕ) (bytes : List ℕ) (us : List Token) (t : Bool) → 1 ≤ length bytes → ◌≡◌ {A = Result (List Token) LexError} (if t then Err (NameTooLong at) else Ok (token_at at bytes kinds.Word ∷ [])) (Ok us) → Fit (length bytes) us
+  word_fits : (at : ℕ) (bytes : List ℕ) (us : List Token) (t : Bool) → 1 ≤ length bytes → ◌≡◌ {A = Result (List Token) LexError}
+      (if t then Err (NameTooLong at) else Ok (token_at at bytes kinds.Word ∷ [])) (Ok us) → Fit (length bytes) us
   unfolding terminal_of
   word_fits at bytes us true some e = cc
   word_fits at bytes us false some e =
       let w = word_size (word_of text at (at + length bytes)) at (at + length bytes) (length bytes) some (omega arith) in
       subst (Fit (length bytes)) (ok_same e) (omega (arith, w))
 
-  number_fits : (at : ℕ) (bytes : List ℕ) (us : List Token) (t : Bool) → nat_lt most_value (value_of bytes) ≡ t → 1 ≤ length bytes → IsTrue (list_all is_digit bytes)
-      → ◌≡◌ {A = Result (List Token) LexError} (if t then Err (NumberTooLarge at) else Ok (token_at at bytes (kinds.Number (value_of bytes)) ∷ [])) (Ok us) → Fit (length bytes) us
+  number_fits : (at : ℕ) (bytes : List ℕ) (us : List Token) (t : Bool) → nat_lt most_value (value_of bytes) ≡ t → 1 ≤ length bytes →
+      IsTrue (list_all is_digit bytes)
+      → ◌≡◌ {A = Result (List Token) LexError} (if t then Err (NumberTooLarge at) else Ok (token_at at bytes (kinds.Number (value_of bytes)) ∷ []))
+      (Ok us) → Fit (length bytes) us
   unfolding terminal_of
   number_fits at bytes us true test some digits e = cc
   number_fits at bytes us false test some digits e =
@@ -118,19 +124,22 @@ module _ (text : List ℕ) where
   unfolding terminal_of
   mark_fits at b = omega (arith, mark_size b)
 
-  piece_fits : (at : ℕ) (form : Form) (bytes after : List ℕ) (us : List Token) → IsPiece form bytes after → piece_tokens at form bytes ≡ Ok us → Fit (length bytes) us
+  piece_fits : (at : ℕ) (form : Form) (bytes after : List ℕ) (us : List Token) → IsPiece form bytes after → piece_tokens at form bytes ≡ Ok us →
+      Fit (length bytes) us
   piece_fits at blank bytes after us piece e = subst (Fit (length bytes)) (ok_same e) (omega arith)
   piece_fits at comment bytes after us piece e = subst (Fit (length bytes)) (ok_same e) (omega arith)
   piece_fits at word [] after us piece e = elim piece [ ]
   piece_fits at word (b ∷ bs) after us piece e = word_fits at (b ∷ bs) us (nat_lt 32 (length (b ∷ bs))) (omega arith) e
   piece_fits at number [] after us piece e = elim piece [ ]
-  piece_fits at number (b ∷ bs) after us piece e = number_fits at (b ∷ bs) us (nat_lt most_value (value_of (b ∷ bs))) refl (omega arith) (and_from (is_digit b) (list_all is_digit bs) piece.0 piece.1) e
+  piece_fits at number (b ∷ bs) after us piece e = number_fits at (b ∷ bs) us (nat_lt most_value (value_of (b ∷ bs))) refl (omega arith)
+      (and_from (is_digit b) (list_all is_digit bs) piece.0 piece.1) e
   piece_fits at mark [] after us piece e = elim piece [ ]
   piece_fits at mark (b ∷ []) after us piece e = subst (Fit 1) (ok_same e) (mark_fits at b)
   piece_fits at mark (b ∷ c ∷ bs) after us piece e = elim piece [ ]
   piece_fits at other bytes after us piece e = cc
 
-  join_fits : (n m : ℕ) (a b : Result (List Token) LexError) (ts : List Token) → ((us : List Token) → a ≡ Ok us → Fit n us) → ((vs : List Token) → b ≡ Ok vs → Fit m vs) → joined a b ≡ Ok ts → Fit (n + m) ts
+  join_fits : (n m : ℕ) (a b : Result (List Token) LexError) (ts : List Token) → ((us : List Token) → a ≡ Ok us → Fit n us) →
+      ((vs : List Token) → b ≡ Ok vs → Fit m vs) → joined a b ≡ Ok ts → Fit (n + m) ts
   join_fits n m (Ok us) (Ok vs) ts h k e = subst (Fit (n + m)) (ok_same e) (omega (arith, sizes-append us vs, h us refl, k vs refl))
   join_fits n m (Ok us) (Err f) ts h k e = cc
   join_fits n m (Err f) b ts h k e = cc

@@ -59,10 +59,12 @@ module _ (text : List ℕ) where
   pub spells_end : (held : ℕ) → Spells held [] []
   spells_end held = record { pieces = []; tokens = []; cut = refl; read = refl; said = refl; shallow = λ o c e. refl }
 
-  read_later : (bytes after : List ℕ) (pieces : List Piece) (tokens : List Token) → IsLeft (bytes ++ after) → reading_from (place after) pieces ≡ Ok tokens → reading_from (place (bytes ++ after) + length bytes) pieces ≡ Ok tokens
+  read_later : (bytes after : List ℕ) (pieces : List Piece) (tokens : List Token) → IsLeft (bytes ++ after) →
+      reading_from (place after) pieces ≡ Ok tokens → reading_from (place (bytes ++ after) + length bytes) pieces ≡ Ok tokens
   read_later bytes after pieces tokens e read = ap (λ n. reading_from n pieces) (place_later bytes after e) ∙ read
 
-  pub spells_blank : (held b : ℕ) (after : List ℕ) (terminals : List Terminal) → IsTrue (is_blank b) → IsLeft (b ∷ after) → Spells held after terminals → Spells held (b ∷ after) terminals
+  pub spells_blank : (held b : ℕ) (after : List ℕ) (terminals : List Terminal) → IsTrue (is_blank b) → IsLeft (b ∷ after) →
+      Spells held after terminals → Spells held (b ∷ after) terminals
   spells_blank held b after terminals is e s = record {
     pieces = record { form = blank; bytes = b ∷ [] } ∷ s.pieces;
     tokens = s.tokens;
@@ -74,7 +76,8 @@ module _ (text : List ℕ) where
 
   deeper : (held next : ℕ) (t : Token) (ts : List Token) → held + opens t.kind ≡ next + closes t.kind → next ≤ 64 → IsShallow next ts → IsShallow held (t ∷ ts)
   deeper held next t ts same few shallow o c e =
-      ap (λ (b : Bool). if b then Some t.start else too_deep (o + opens t.kind) (c + closes t.kind) ts) (le-ltb (c + closes t.kind + 64) (o + opens t.kind) (omega arith))
+      ap (λ (b : Bool). if b then Some t.start else too_deep (o + opens t.kind) (c + closes t.kind) ts)
+      (le-ltb (c + closes t.kind + 64) (o + opens t.kind) (omega arith))
       ∙ shallow (o + opens t.kind) (c + closes t.kind) (omega arith)
 
   -- a piece that is a token
@@ -100,7 +103,8 @@ module _ (text : List ℕ) where
   word_fits : (at : ℕ) (w : List ℕ) → length w ≤ most_name → piece_tokens at word w ≡ Ok (token_at at w kinds.Word ∷ [])
   word_fits at w few = ap (λ (b : Bool). if b then Err (NameTooLong at) else Ok (token_at at w kinds.Word ∷ [])) (le-ltb most_name (length w) few)
 
-  pub spells_word : (held : ℕ) (w after : List ℕ) (terminals : List Terminal) → IsTrue (is_word w) → length w ≤ most_name → Stops is_word_byte after → held ≤ 64 → IsLeft (w ++ after)
+  pub spells_word : (held : ℕ) (w after : List ℕ) (terminals : List Terminal) → IsTrue (is_word w) → length w ≤ most_name → Stops is_word_byte after →
+      held ≤ 64 → IsLeft (w ++ after)
       → Spells held after terminals → Spells held (w ++ after) (word_terminal w (place (w ++ after)) (place (w ++ after) + length w) ∷ terminals)
   spells_word held w after terminals is few stops depth e s =
       spells_token held held word kinds.Word w after _ terminals (word_is w after is stops) (word_fits (place (w ++ after)) w few)
@@ -111,12 +115,15 @@ module _ (text : List ℕ) where
       ap (λ v. if nat_lt most_value v then Err (NumberTooLarge at) else Ok (token_at at ds (kinds.Number v) ∷ [])) is
       ∙ ap (λ (b : Bool). if b then Err (NumberTooLarge at) else Ok (token_at at ds (kinds.Number n) ∷ [])) (le-ltb most_value n few)
 
-  pub spells_number : (held n : ℕ) (after : List ℕ) (terminals : List Terminal) → n ≤ most_value → Stops is_digit after → held ≤ 64 → IsLeft (decimal n ++ after)
+  pub spells_number : (held n : ℕ) (after : List ℕ) (terminals : List Terminal) → n ≤ most_value → Stops is_digit after → held ≤ 64 →
+      IsLeft (decimal n ++ after)
       → Spells held after terminals → Spells held (decimal n ++ after) (terminal.Number (record { place = place (decimal n ++ after); value = n }) ∷ terminals)
   spells_number held n after terminals few stops depth e s =
-      spells_token held held number (kinds.Number n) (decimal n) after _ terminals (decimal_piece n after few stops) (number_fits (place (decimal n ++ after)) (decimal n) n (decimal_value n few) few) refl refl depth e s
+      spells_token held held number (kinds.Number n) (decimal n) after _ terminals (decimal_piece n after few stops)
+      (number_fits (place (decimal n ++ after)) (decimal n) n (decimal_value n few) few) refl refl depth e s
 
   -- a mark, with so many marks open after it
-  pub spells_mark : (held next b : ℕ) (after : List ℕ) (terminals : List Terminal) → IsTrue (is_mark b) → held + opens (kinds.Mark b) ≡ next + closes (kinds.Mark b) → next ≤ 64
+  pub spells_mark : (held next b : ℕ) (after : List ℕ) (terminals : List Terminal) → IsTrue (is_mark b) →
+      held + opens (kinds.Mark b) ≡ next + closes (kinds.Mark b) → next ≤ 64
       → IsLeft (b ∷ after) → Spells next after terminals → Spells held (b ∷ after) (mark_terminal b ∷ terminals)
   spells_mark held next b after terminals is same depth e s = spells_token held next mark (kinds.Mark b) (b ∷ []) after _ terminals is refl refl same depth e s

@@ -37,11 +37,18 @@ use Rattle.plain_texts.proofs.Expressions.{IsKnown, sum_cost}
 
 -- the lengths of lines
 
-equation_long : (word : List ℕ) (p : Presentation) (q : Equation) → length (equation_line word p q) ≡ length word + alone (names_of p) (plain q.left) + alone (names_of p) (plain q.right) + 5
+equation_long : (word : List ℕ) (p : Presentation) (q : Equation) → length (equation_line word p q) ≡ length word +
+    alone (names_of p) (plain q.left) + alone (names_of p) (plain q.right) + 5
 equation_long word p q =
     let L = side_text p q.left in
     let R = side_text p q.right in
-    omega (arith, length-append (word ++ L ++ codes " = " ++ R) (codes ";\n"), length-append (word ++ L ++ codes " = ") R, length-append (word ++ L) (codes " = "), length-append word L)
+    omega (
+      arith,
+      length-append (word ++ L ++ codes " = " ++ R) (codes ";\n"),
+      length-append (word ++ L ++ codes " = ") R,
+      length-append (word ++ L) (codes " = "),
+      length-append word L,
+    )
 
 ideal_long : (p : Presentation) (x : Expr) → length (ideal_line p x) ≡ alone (names_of p) (plain x) + 8
 ideal_long p x = let L = side_text p x in omega (arith, length-append (codes "ideal " ++ L) (codes ";\n"), length-append (codes "ideal ") L)
@@ -69,9 +76,15 @@ field_short : (k : Kind) → IsField k → length (field_line k) ≤ 13
 field_short Rational h = omega arith
 field_short (Prime p) h =
     let small = listed_small p h in
-    omega (arith, length-decimal-le_wide 5 p (omega arith) (omega arith) (omega arith), length-append (codes "field " ++ decimal p) (codes ";\n"), length-append (codes "field ") (decimal p))
+    omega (
+      arith,
+      length-decimal-le_wide 5 p (omega arith) (omega arith) (omega arith),
+      length-append (codes "field " ++ decimal p) (codes ";\n"),
+      length-append (codes "field ") (decimal p),
+    )
 
-generators_short : (text : List ℕ) (ds : List DeclaredName) → AreNames text ds → bad_weight ds ≡ None → length (lines generator_line (map (generator_of text) ds)) ≤ 44 * length ds
+generators_short : (text : List ℕ) (ds : List DeclaredName) → AreNames text ds → bad_weight ds ≡ None →
+    length (lines generator_line (map (generator_of text) ds)) ≤ 44 * length ds
 generators_short text [] names weights = omega arith
 generators_short text (d ∷ ds) names weights =
     let g = generator_of text d in
@@ -96,18 +109,33 @@ module _ (text : List ℕ) (p : Presentation) (known : IsField p.field) where
   -- the lines of claims
   abbrev claims_long : List Claim → ℕ
   claims_long cs =
-      length (lines (equation_line (codes "relation ") p) (claimed_as is_relation cs)) + length (lines (ideal_line p) (lefts (claimed_as is_ideal cs))) + length (lines (equation_line (codes "equal ") p) (claimed_as is_equal cs))
+      length (lines (equation_line (codes "relation ") p) (claimed_as is_relation cs)) + length
+      (lines (ideal_line p) (lefts (claimed_as is_ideal cs))) + length (lines (equation_line (codes "equal ") p) (claimed_as is_equal cs))
 
-  side_cost : (s : Sum) → IsKnown text p.field p.generators known (events_sum s) → (after : List Terminal) → alone (names_of p) (plain (expression_of scope s)) + 16 * sizes after ≤ 16 * sizes (spell_sum s after)
+  side_cost : (s : Sum) → IsKnown text p.field p.generators known (events_sum s) → (after : List Terminal) →
+      alone (names_of p) (plain (expression_of scope s)) + 16 * sizes after ≤ 16 * sizes (spell_sum s after)
   side_cost s h after = sum_cost text p.field p.generators known s h after
 
-  statement_cost : (s : Statement) (cs : List Claim) (after : List Terminal) → IsKnown text p.field p.generators known (events_statement s) → claims_long cs ≤ 16 * sizes after → claims_long (claims_in scope s ++ cs) ≤ 16 * sizes (spell_statement s after)
+  statement_cost : (s : Statement) (cs : List Claim) (after : List Terminal) → IsKnown text p.field p.generators known (events_statement s) →
+      claims_long cs ≤ 16 * sizes after → claims_long (claims_in scope s ++ cs) ≤ 16 * sizes (spell_statement s after)
   statement_cost (field place naming) cs after h k = omega arith
-  statement_cost (declare parity d ds) cs after h k = omega (arith, declaration_sizes d (spell_declarations ds (mark.Semicolon ∷ after)), declarations_sizes ds (mark.Semicolon ∷ after))
+  statement_cost (declare parity d ds) cs after h k = omega (
+    arith,
+    declaration_sizes d (spell_declarations ds (mark.Semicolon ∷ after)),
+    declarations_sizes ds (mark.Semicolon ∷ after),
+  )
   statement_cost (relation place a) cs after h k =
       let q : Equation = record { left = expression_of scope a; right = expr.Zero } in
       let zero_side : alone (names_of p) (plain expr.Zero) ≡ 1 = ap (alone (names_of p)) plain-Zero in
-      omega (arith, k, length-append (equation_line (codes "relation ") p q) (lines (equation_line (codes "relation ") p) (claimed_as is_relation cs)), equation_long (codes "relation ") p q, zero_side, side_cost a h (mark.Semicolon ∷ after))
+      omega (
+        arith,
+        k,
+        length-append (equation_line (codes "relation ") p q) (lines (equation_line (codes "relation ") p)
+            (claimed_as is_relation cs)),
+        equation_long (codes "relation ") p q,
+        zero_side,
+        side_cost a h (mark.Semicolon ∷ after),
+      )
   statement_cost (equation place a b) cs after h k =
       let q : Equation = record { left = expression_of scope a; right = expression_of scope b } in
       let s = first_place-append (unknown_in scope) (events_sum a) (events_sum b) h in
@@ -120,7 +148,13 @@ module _ (text : List ℕ) (p : Presentation) (known : IsField p.field) where
         side_cost b s.1 (mark.Semicolon ∷ after),
       )
   statement_cost (ideal place a) cs after h k =
-      omega (arith, k, length-append (ideal_line p (expression_of scope a)) (lines (ideal_line p) (lefts (claimed_as is_ideal cs))), ideal_long p (expression_of scope a), side_cost a h (mark.Semicolon ∷ after))
+      omega (
+        arith,
+        k,
+        length-append (ideal_line p (expression_of scope a)) (lines (ideal_line p) (lefts (claimed_as is_ideal cs))),
+        ideal_long p (expression_of scope a),
+        side_cost a h (mark.Semicolon ∷ after),
+      )
   statement_cost (equal place a b) cs after h k =
       let q : Equation = record { left = expression_of scope a; right = expression_of scope b } in
       let s = first_place-append (unknown_in scope) (events_sum a) (events_sum b) h in
@@ -140,7 +174,8 @@ module _ (text : List ℕ) (p : Presentation) (known : IsField p.field) where
       statement_cost s (claims_of scope ss) (spelling ss) k.0 (claims_cost ss k.1)
 
 canonical_parts : (p : Presentation) → length (canonical_of p) ≡ length (field_line p.field) + length (lines generator_line p.generators)
-    + (length (lines (equation_line (codes "relation ") p) p.relations) + length (lines (ideal_line p) p.ideals) + length (lines (equation_line (codes "equal ") p) p.queries))
+    + (length (lines (equation_line (codes "relation ") p) p.relations) + length (lines (ideal_line p) p.ideals) +
+    length (lines (equation_line (codes "equal ") p) p.queries))
 canonical_parts p =
     let F = field_line p.field in
     let G = lines generator_line p.generators in

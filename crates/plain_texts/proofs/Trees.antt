@@ -47,7 +47,9 @@ back_all : (fs : List Found) → expressions_of_trees (trees (map plain (express
 back_all [] = refl
 back_all (f ∷ fs) = ap₂ (λ x xs. x ∷ xs) f.1 (back_all fs)
 
-back_layer : (y : Expr-F ((e : Expr) × (expression_of_tree (plain e) ≡ e))) → expression_of_tree (plain (roll-Expr (expr.map-Expr ((e : Expr) × (expression_of_tree (plain e) ≡ e)) Expr (λ e. e.0) y))) ≡ roll-Expr (expr.map-Expr ((e : Expr) × (expression_of_tree (plain e) ≡ e)) Expr (λ e. e.0) y)
+back_layer : (y : Expr-F ((e : Expr) × (expression_of_tree (plain e) ≡ e))) → expression_of_tree
+    (plain (roll-Expr (expr.map-Expr ((e : Expr) × (expression_of_tree (plain e) ≡ e)) Expr (λ e. e.0) y))) ≡
+    roll-Expr (expr.map-Expr ((e : Expr) × (expression_of_tree (plain e) ≡ e)) Expr (λ e. e.0) y)
 back_layer (layer.Gen g) = rw rolls-Gen (back_gen g)
 back_layer layer.Zero = rw rolls-Zero back_zero
 back_layer (layer.Sum fs) = rw rolls-Sum (back_sum (expressions fs) (back_all fs))

@@ -42,7 +42,8 @@ or_else-both (Some place) b h k = cc
 
 pub first_place-both : {A : Type 0} (f : A → Option ℕ) (xs ys : List A) → first_place f xs ≡ None → first_place f ys ≡ None → first_place f (xs ++ ys) ≡ None
 first_place-both f [] ys h k = k
-first_place-both f (x ∷ xs) ys h k = let s = or_else-none (f x) (first_place f xs) h in or_else-both (f x) (first_place f (xs ++ ys)) s.0 (first_place-both f xs ys s.1 k)
+first_place-both f (x ∷ xs) ys h k = let s = or_else-none (f x) (first_place f xs) h in or_else-both (f x) (first_place f (xs ++ ys)) s.0
+    (first_place-both f xs ys s.1 k)
 
 -- where no word goes on, no number does
 
@@ -65,11 +66,14 @@ total_more : (x : Expr) (ys : List Expr) (es : Trees Num) → 1 ≤ many es → 
 total_more x [] es some h = absurd (let none_left : many es ≡ 0 = ap many (sym h) in omega arith)
 total_more x (y ∷ ys) es some h = plain-Sum (x ∷ y ∷ ys) ∙ ap (λ ts. sum_of (more (plain x) ts)) h
 
-pub term_whole : (scope : Scope) (t : Bool) (place n : ℕ) (e : Expr) → plain (term_of scope t (Whole (record { place = place; value = n })) e) ≡ multiple (coefficient_of scope.kind t n 1) (plain e)
+pub term_whole : (scope : Scope) (t : Bool) (place n : ℕ) (e : Expr) → plain (term_of scope t (Whole (record { place = place; value = n })) e) ≡
+    multiple (coefficient_of scope.kind t n 1) (plain e)
 term_whole scope true place n e = plain-Times _ e
 term_whole scope false place n e = plain-Times _ e
 
-pub term_quotient : (scope : Scope) (t : Bool) (at below n d : ℕ) (e : Expr) → plain (term_of scope t (Quotient (record { place = at; value = n }) (record { place = below; value = d })) e) ≡ multiple (coefficient_of scope.kind t n d) (plain e)
+pub term_quotient : (scope : Scope) (t : Bool) (at below n d : ℕ) (e : Expr) →
+    plain (term_of scope t (Quotient (record { place = at; value = n }) (record { place = below; value = d })) e) ≡
+    multiple (coefficient_of scope.kind t n d) (plain e)
 term_quotient scope true at below n d e = plain-Times _ e
 term_quotient scope false at below n d e = plain-Times _ e
 
@@ -85,14 +89,16 @@ name_there (g ∷ gs) h (suc i) l = name_there gs (λ k d m. h (suc k) d (omega 
 -- the texts, from left to right
 
 bracket_shape : (a b after : List ℕ) → codes "[" ++ a ++ codes "," ++ b ++ codes "]" ++ after ≡ 91 ∷ (a ++ (44 ∷ (b ++ (93 ∷ after))))
-bracket_shape a b after = ap (λ x. 91 ∷ x) (append_assoc ((a ++ (44 ∷ [])) ++ b) (93 ∷ []) after ∙ append_assoc (a ++ (44 ∷ [])) b (93 ∷ after) ∙ append_assoc a (44 ∷ []) (b ++ (93 ∷ after)))
+bracket_shape a b after = ap (λ x. 91 ∷ x) (append_assoc ((a ++ (44 ∷ [])) ++ b) (93 ∷ []) after ∙ append_assoc (a ++ (44 ∷ [])) b (93 ∷ after) ∙
+    append_assoc a (44 ∷ []) (b ++ (93 ∷ after)))
 
 group_shape : (t after : List ℕ) → codes "(" ++ t ++ codes ")" ++ after ≡ 40 ∷ (t ++ (41 ∷ after))
 group_shape t after = ap (λ x. 40 ∷ x) (append_assoc t (41 ∷ []) after)
 
 times_shape : (sign n d f after : List ℕ) → sign ++ (n ++ d) ++ codes "*" ++ f ++ after ≡ sign ++ (n ++ (d ++ (42 ∷ (f ++ after))))
 times_shape sign n d f after =
-    append_assoc (sign ++ (n ++ d) ++ (42 ∷ [])) f after ∙ append_assoc (sign ++ (n ++ d)) (42 ∷ []) (f ++ after) ∙ append_assoc sign (n ++ d) (42 ∷ (f ++ after))
+    append_assoc (sign ++ (n ++ d) ++ (42 ∷ [])) f after ∙ append_assoc (sign ++ (n ++ d)) (42 ∷ []) (f ++ after) ∙
+    append_assoc sign (n ++ d) (42 ∷ (f ++ after))
     ∙ ap (λ x. sign ++ x) (append_assoc n d (42 ∷ (f ++ after)))
 
 module _ (text : List ℕ) (kind : Kind) (gs : List Generator) (field : IsField kind) (named : All (λ g. IsName g.name) gs) (distinct : AreDistinct gs) where
@@ -135,7 +141,8 @@ module _ (text : List ℕ) (kind : Kind) (gs : List Generator) (field : IsField 
 
   -- what stands before such a part, and what comes after it
   abbrev Leads : (List ℕ → List Terminal → Type 0) → (deepest held : ℕ) → List ℕ → Type 0
-  Leads Part deepest held t = (after : List ℕ) (terminals : List Terminal) → held + deepest ≤ 64 → Stops is_word_byte after → IsLeft text (t ++ after) → Spells text held after terminals → Part (t ++ after) terminals
+  Leads Part deepest held t = (after : List ℕ) (terminals : List Terminal) → held + deepest ≤ 64 → Stops is_word_byte after →
+      IsLeft text (t ++ after) → Spells text held after terminals → Part (t ++ after) terminals
 
   abbrev ns : List (List ℕ)
   ns = names gs
@@ -154,22 +161,27 @@ module _ (text : List ℕ) (kind : Kind) (gs : List Generator) (field : IsField 
 
   -- signs
 
-  spells_lead : (held : ℕ) (b : Bool) (rest : List ℕ) (terminals : List Terminal) → held ≤ 64 → IsLeft text (sign_text true b ++ rest) → Spells text held rest terminals → Spells text held (sign_text true b ++ rest) (spell_lead false b terminals)
+  spells_lead : (held : ℕ) (b : Bool) (rest : List ℕ) (terminals : List Terminal) → held ≤ 64 → IsLeft text (sign_text true b ++ rest) →
+      Spells text held rest terminals → Spells text held (sign_text true b ++ rest) (spell_lead false b terminals)
   spells_lead held true rest terminals depth e s = spells_mark text held held 45 rest terminals refl refl depth e s
   spells_lead held false rest terminals depth e s = s
 
-  spells_sign : (held : ℕ) (b : Bool) (rest : List ℕ) (terminals : List Terminal) → held ≤ 64 → IsLeft text (sign_text false b ++ rest) → Spells text held rest terminals → Spells text held (sign_text false b ++ rest) (sign_of b ∷ terminals)
+  spells_sign : (held : ℕ) (b : Bool) (rest : List ℕ) (terminals : List Terminal) → held ≤ 64 → IsLeft text (sign_text false b ++ rest) →
+      Spells text held rest terminals → Spells text held (sign_text false b ++ rest) (sign_of b ∷ terminals)
   spells_sign held true rest terminals depth e s =
       let e1 = later text (32 ∷ []) (45 ∷ 32 ∷ rest) e in
       let e2 = later text (45 ∷ []) (32 ∷ rest) e1 in
-      spells_blank text held 32 (45 ∷ 32 ∷ rest) _ refl e (spells_mark text held held 45 (32 ∷ rest) terminals refl refl depth e1 (spells_blank text held 32 rest terminals refl e2 s))
+      spells_blank text held 32 (45 ∷ 32 ∷ rest) _ refl e (spells_mark text held held 45 (32 ∷ rest) terminals refl refl depth e1
+      (spells_blank text held 32 rest terminals refl e2 s))
   spells_sign held false rest terminals depth e s =
       let e1 = later text (32 ∷ []) (43 ∷ 32 ∷ rest) e in
       let e2 = later text (43 ∷ []) (32 ∷ rest) e1 in
-      spells_blank text held 32 (43 ∷ 32 ∷ rest) _ refl e (spells_mark text held held 43 (32 ∷ rest) terminals refl refl depth e1 (spells_blank text held 32 rest terminals refl e2 s))
+      spells_blank text held 32 (43 ∷ 32 ∷ rest) _ refl e (spells_mark text held held 43 (32 ∷ rest) terminals refl refl depth e1
+      (spells_blank text held 32 rest terminals refl e2 s))
 
   -- a sum of one term
-  single : (held : ℕ) (t : Tree Num) (rest : List ℕ) (terminals : List Terminal) → held ≤ 64 → IsLeft text (sign_text true (begins_below t) ++ rest) → Termed held rest terminals t → Summed held (sign_text true (begins_below t) ++ rest) terminals t
+  single : (held : ℕ) (t : Tree Num) (rest : List ℕ) (terminals : List Terminal) → held ≤ 64 → IsLeft text (sign_text true (begins_below t) ++ rest) →
+      Termed held rest terminals t → Summed held (sign_text true (begins_below t) ++ rest) terminals t
   single held t rest terminals depth e u = record {
     tree = sum false (term (begins_below t) u.scale u.factor) end;
     spells = spells_lead held (begins_below t) rest (spell_scale u.scale (spell_factor u.factor terminals)) depth e u.spells;
@@ -189,10 +201,12 @@ module _ (text : List ℕ) (kind : Kind) (gs : List Generator) (field : IsField 
       let is = name_there gs named (g - 1) (omega arith) in
       let at = place text (w ++ after) in
       let number : number_from 1 gs (word_of text at (at + length w)) ≡ g =
-      ap (number_from 1 gs) (bytes_there text w after e) ∙ number_there 1 gs (g - 1) distinct (omega arith) ∙ (let same : 1 + (g - 1) ≡ g = omega arith in same) in
+      ap (number_from 1 gs) (bytes_there text w after e) ∙ number_there 1 gs (g - 1) distinct (omega arith)
+      ∙ (let same : 1 + (g - 1) ≡ g = omega arith in same) in
       record {
         factor = name (record { start = at; end = at + length w; rationals = bytes_eq w (codes "Q") });
-        spells = subst (λ x. Spells text held (w ++ after) (x ∷ terminals)) (name_terminal w at (at + length w) is.free) (spells_word text held w after terminals is.spelled is.short stops (omega arith) e s);
+        spells = subst (λ x. Spells text held (w ++ after) (x ∷ terminals)) (name_terminal w at (at + length w) is.free)
+            (spells_word text held w after terminals is.spelled is.short stops (omega arith) e s);
         value = plain-Gen _ ∙ ap gen number;
         fine = (known_place _ at (ap (λ k. k == 0) number ∙ ne_eqb g 0 (λ none. absurd (omega arith))), refl);
       }
@@ -202,13 +216,16 @@ module _ (text : List ℕ) (kind : Kind) (gs : List Generator) (field : IsField 
     factor = nought (place text (48 ∷ after));
     spells =
         subst (λ ds. Spells text held (ds ++ after) (mark.Number (record { place = place text (ds ++ after); value = 0 }) ∷ terminals)) zero_text
-        (spells_number text held 0 after terminals (omega arith) (digit_stops after stops) (omega arith) (subst (λ ds. IsLeft text (ds ++ after)) (sym zero_text) e) s);
+        (spells_number text held 0 after terminals (omega arith) (digit_stops after stops) (omega arith)
+        (subst (λ ds. IsLeft text (ds ++ after)) (sym zero_text) e) s);
     value = plain-Zero;
     fine = (refl, refl);
   }
 
-  factor_bracket : (held : ℕ) (a b : Tree Num) → AsSum a (deep a) (held + 1) (expression_text ns Alone a) → AsSum b (deep b) (held + 1) (expression_text ns Alone b)
-      → AsFactor (bracket_of a b) (max (deep a) (deep b) + 1) held (codes "[" ++ expression_text ns Alone a ++ codes "," ++ expression_text ns Alone b ++ codes "]")
+  factor_bracket : (held : ℕ) (a b : Tree Num) → AsSum a (deep a) (held + 1) (expression_text ns Alone a) →
+      AsSum b (deep b) (held + 1) (expression_text ns Alone b)
+      → AsFactor (bracket_of a b) (max (deep a) (deep b) + 1) held (codes "[" ++ expression_text ns Alone a ++ codes "," ++ expression_text ns Alone b
+      ++ codes "]")
   factor_bracket held a b first second after terminals depth stops e s =
       let A = expression_text ns Alone a in
       let B = expression_text ns Alone b in
@@ -225,12 +242,14 @@ module _ (text : List ℕ) (kind : Kind) (gs : List Generator) (field : IsField 
       let opened = spells_mark text held (held + 1) 91 (A ++ (44 ∷ (B ++ (93 ∷ after)))) _ refl (omega arith) (omega arith) e0 left.spells in
       record {
         factor = bracket left.tree right.tree;
-        spells = subst (λ r. Spells text held r (mark.OpenBracket ∷ spell_sum left.tree (mark.Comma ∷ spell_sum right.tree (mark.CloseBracket ∷ terminals)))) (sym shape) opened;
+        spells = subst (λ r. Spells text held r (mark.OpenBracket ∷ spell_sum left.tree (mark.Comma ∷ spell_sum right.tree
+            (mark.CloseBracket ∷ terminals)))) (sym shape) opened;
         value = plain-Br _ _ ∙ ap₂ bracket_of left.value right.value;
         fine = fine_both (events_sum left.tree) (events_sum right.tree) left.fine right.fine;
       }
 
-  factor_group : (held deepest : ℕ) (t : Tree Num) (inner : List ℕ) → AsSum t deepest (held + 1) inner → AsFactor t (deepest + 1) held (codes "(" ++ inner ++ codes ")")
+  factor_group : (held deepest : ℕ) (t : Tree Num) (inner : List ℕ) → AsSum t deepest (held + 1) inner →
+      AsFactor t (deepest + 1) held (codes "(" ++ inner ++ codes ")")
   factor_group held deepest t inner sum_in after terminals depth stops e s =
       let shape = group_shape inner after in
       let e0 : IsLeft text (40 ∷ (inner ++ (41 ∷ after))) = subst (IsLeft text) shape e in
@@ -248,7 +267,8 @@ module _ (text : List ℕ) (kind : Kind) (gs : List Generator) (field : IsField 
 
   -- terms
 
-  term_of_factor : (held : ℕ) (rest : List ℕ) (terminals : List Terminal) (t : Tree Num) → begins_below t ≡ false → Factored held rest terminals t → Termed held rest terminals t
+  term_of_factor : (held : ℕ) (rest : List ℕ) (terminals : List Terminal) (t : Tree Num) → begins_below t ≡ false → Factored held rest terminals t →
+      Termed held rest terminals t
   term_of_factor held rest terminals t above f = record {
     scale = One;
     factor = f.factor;
@@ -277,7 +297,8 @@ module _ (text : List ℕ) (kind : Kind) (gs : List Generator) (field : IsField 
         let b = behind after terminals depth stops e2 s in
         let star = spells_mark text held held 42 (f ++ after) _ refl (omega arith) (omega arith) e1 b.spells in
         let number = spells_number text held n (42 ∷ (f ++ after)) _ small.0 refl (omega arith) e0 star in
-        let back : coefficient_of kind (is_below_nought c) n 1 ≡ c = ap (coefficient_of kind (is_below_nought c) n) (sym (eqb-true d 1 whole)) ∙ coefficient_back kind c field element in
+        let back : coefficient_of kind (is_below_nought c) n 1 ≡ c = ap (coefficient_of kind (is_below_nought c) n) (sym (eqb-true d 1 whole)) ∙
+        coefficient_back kind c field element in
         record {
           scale = Whole (record { place = place text (decimal n ++ (42 ∷ (f ++ after))); value = n });
           factor = b.factor;
@@ -297,16 +318,19 @@ module _ (text : List ℕ) (kind : Kind) (gs : List Generator) (field : IsField 
         let slash = spells_mark text held held 47 (decimal d ++ (42 ∷ (f ++ after))) _ refl (omega arith) (omega arith) e1 below in
         let number = spells_number text held n (47 ∷ (decimal d ++ (42 ∷ (f ++ after)))) _ small.0 refl (omega arith) e0 slash in
         record {
-          scale = Quotient (record { place = place text (decimal n ++ (47 ∷ (decimal d ++ (42 ∷ (f ++ after))))); value = n }) (record { place = place text (decimal d ++ (42 ∷ (f ++ after))); value = d });
+          scale = Quotient (record { place = place text (decimal n ++ (47 ∷ (decimal d ++ (42 ∷ (f ++ after))))); value = n })
+              (record { place = place text (decimal d ++ (42 ∷ (f ++ after))); value = d });
           factor = b.factor;
           spells = number;
-          value = term_quotient scope (is_below_nought c) (place text (decimal n ++ (47 ∷ (decimal d ++ (42 ∷ (f ++ after)))))) (place text (decimal d ++ (42 ∷ (f ++ after)))) n d (factor_of scope b.factor) ∙ ap₂ multiple (coefficient_back kind c field element) b.value;
+          value = term_quotient scope (is_below_nought c) (place text (decimal n ++ (47 ∷ (decimal d ++ (42 ∷ (f ++ after))))))
+              (place text (decimal d ++ (42 ∷ (f ++ after)))) n d (factor_of scope b.factor) ∙ ap₂ multiple (coefficient_back kind c field element) b.value;
           scale_fine = (refl, known_place _ _ (denominator_some kind c field element));
           fine = b.fine;
         }
 
     -- a multiple after its sign, where a sign stands before it
-    term_after : (sign after : List ℕ) (terminals : List Terminal) → held + deep_factor e ≤ 64 → Stops is_word_byte after → IsLeft text (sign ++ (decimal n ++ (below_text d ++ (42 ∷ (f ++ after))))) → Spells text held after terminals
+    term_after : (sign after : List ℕ) (terminals : List Terminal) → held + deep_factor e ≤ 64 → Stops is_word_byte after →
+        IsLeft text (sign ++ (decimal n ++ (below_text d ++ (42 ∷ (f ++ after))))) → Spells text held after terminals
         → Termed held (decimal n ++ (below_text d ++ (42 ∷ (f ++ after)))) terminals (multiple c e)
     term_after sign after terminals depth stops e0 s = term_if (nat_eq d 1) after terminals refl depth stops (later text sign _ e0) s
 
@@ -319,7 +343,8 @@ module _ (text : List ℕ) (kind : Kind) (gs : List Generator) (field : IsField 
     sum_multiple after terminals depth stops e0 s =
         let shape = times_shape (sign_text true (is_below_nought c)) (decimal n) (below_text d) f after in
         let e1 : IsLeft text (sign_text true (is_below_nought c) ++ (decimal n ++ (below_text d ++ (42 ∷ (f ++ after))))) = subst (IsLeft text) shape e0 in
-        subst (λ r. Summed held r terminals (multiple c e)) (sym shape) (single held (multiple c e) _ terminals (omega arith) e1 (term_after (sign_text true (is_below_nought c)) after terminals depth stops e1 s))
+        subst (λ r. Summed held r terminals (multiple c e)) (sym shape) (single held (multiple c e) _ terminals (omega arith) e1
+        (term_after (sign_text true (is_below_nought c)) after terminals depth stops e1 s))
 
   -- sums
 
@@ -329,9 +354,11 @@ module _ (text : List ℕ) (kind : Kind) (gs : List Generator) (field : IsField 
   further_stops : (es : Trees Num) (after : List ℕ) → Stops is_word_byte after → Stops is_word_byte (sum_text ns false es ++ after)
   further_stops last after h = h
   further_stops (more e es) after h =
-      subst (Stops is_word_byte) (sym (sum_shape (sign_text false (begins_below e)) (expression_text ns Member e) (sum_text ns false es) after)) (sign_stops (begins_below e) _)
+      subst (Stops is_word_byte) (sym (sum_shape (sign_text false (begins_below e)) (expression_text ns Member e) (sum_text ns false es) after))
+      (sign_stops (begins_below e) _)
 
-  further_member : (held : ℕ) (e : Tree Num) (es : Trees Num) → AsTerm e (deep_member e) held (expression_text ns Member e) → AsTerms es (deep_members es) held (sum_text ns false es)
+  further_member : (held : ℕ) (e : Tree Num) (es : Trees Num) → AsTerm e (deep_member e) held (expression_text ns Member e) →
+      AsTerms es (deep_members es) held (sum_text ns false es)
       → AsTerms (more e es) (max (deep_member e) (deep_members es)) held (sum_text ns false (more e es))
   further_member held e es member rest_of after terminals depth stops left s =
       let b = begins_below e in
@@ -345,12 +372,15 @@ module _ (text : List ℕ) (kind : Kind) (gs : List Generator) (field : IsField 
       let m = member (R ++ after) (spell_terms r.terms terminals) (omega arith) (further_stops es after stops) e1 r.spells in
       record {
         terms = further (term b m.scale m.factor) r.terms;
-        spells = subst (λ t. Spells text held t (sign_of b ∷ spell_scale m.scale (spell_factor m.factor (spell_terms r.terms terminals)))) (sym shape) (spells_sign held b (E ++ (R ++ after)) _ (omega arith) e0 m.spells);
+        spells = subst (λ t. Spells text held t (sign_of b ∷ spell_scale m.scale (spell_factor m.factor (spell_terms r.terms terminals)))) (sym shape)
+            (spells_sign held b (E ++ (R ++ after)) _ (omega arith) e0 m.spells);
         value = ap₂ more m.value r.value;
-        fine = fine_both (events_scale m.scale) (events_factor m.factor ++ events_terms r.terms) m.scale_fine (fine_both (events_factor m.factor) (events_terms r.terms) m.fine r.fine);
+        fine = fine_both (events_scale m.scale) (events_factor m.factor ++ events_terms r.terms) m.scale_fine
+            (fine_both (events_factor m.factor) (events_terms r.terms) m.fine r.fine);
       }
 
-  sum_members : (held : ℕ) (e : Tree Num) (es : Trees Num) → 2 ≤ many (more e es) → AsTerm e (deep_member e) held (expression_text ns Member e) → AsTerms es (deep_members es) held (sum_text ns false es)
+  sum_members : (held : ℕ) (e : Tree Num) (es : Trees Num) → 2 ≤ many (more e es) → AsTerm e (deep_member e) held (expression_text ns Member e) →
+      AsTerms es (deep_members es) held (sum_text ns false es)
       → AsSum (sum_of (more e es)) (max (deep_member e) (deep_members es)) held (sum_text ns true (more e es))
   sum_members held e es two member rest_of after terminals depth stops left s =
       let b = begins_below e in
@@ -364,9 +394,12 @@ module _ (text : List ℕ) (kind : Kind) (gs : List Generator) (field : IsField 
       let m = member (R ++ after) (spell_terms r.terms terminals) (omega arith) (further_stops es after stops) e1 r.spells in
       record {
         tree = sum false (term b m.scale m.factor) r.terms;
-        spells = subst (λ t. Spells text held t (spell_lead false b (spell_scale m.scale (spell_factor m.factor (spell_terms r.terms terminals))))) (sym shape) (spells_lead held b (E ++ (R ++ after)) _ (omega arith) e0 m.spells);
-        value = total_more (term_of scope b m.scale (factor_of scope m.factor)) (further_of scope r.terms) es (omega arith) r.value ∙ ap (λ x. sum_of (more x es)) m.value;
-        fine = fine_both (events_scale m.scale) (events_factor m.factor ++ events_terms r.terms) m.scale_fine (fine_both (events_factor m.factor) (events_terms r.terms) m.fine r.fine);
+        spells = subst (λ t. Spells text held t (spell_lead false b (spell_scale m.scale (spell_factor m.factor (spell_terms r.terms terminals)))))
+            (sym shape) (spells_lead held b (E ++ (R ++ after)) _ (omega arith) e0 m.spells);
+        value = total_more (term_of scope b m.scale (factor_of scope m.factor)) (further_of scope r.terms) es (omega arith) r.value ∙
+            ap (λ x. sum_of (more x es)) m.value;
+        fine = fine_both (events_scale m.scale) (events_factor m.factor ++ events_terms r.terms) m.scale_fine
+            (fine_both (events_factor m.factor) (events_terms r.terms) m.fine r.fine);
       }
 
   -- a factor alone, and as a member of a sum
@@ -374,10 +407,12 @@ module _ (text : List ℕ) (kind : Kind) (gs : List Generator) (field : IsField 
   alone t deepest held bytes above f after terminals depth stops left s =
       let none_before = ap (λ b. sign_text true b ++ (bytes ++ after)) above in
       subst (λ r. Summed held r terminals t) none_before
-      (single held t (bytes ++ after) terminals (omega arith) (subst (IsLeft text) (sym none_before) left) (term_of_factor held (bytes ++ after) terminals t above (f after terminals depth stops left s)))
+      (single held t (bytes ++ after) terminals (omega arith) (subst (IsLeft text) (sym none_before) left)
+      (term_of_factor held (bytes ++ after) terminals t above (f after terminals depth stops left s)))
 
   as_member : (t : Tree Num) (deepest held : ℕ) (bytes : List ℕ) → begins_below t ≡ false → AsFactor t deepest held bytes → AsTerm t deepest held bytes
-  as_member t deepest held bytes above f after terminals depth stops left s = term_of_factor held (bytes ++ after) terminals t above (f after terminals depth stops left s)
+  as_member t deepest held bytes above f after terminals depth stops left s = term_of_factor held (bytes ++ after) terminals t above
+      (f after terminals depth stops left s)
 
   terms_none : (held : ℕ) → AsTerms last 0 held []
   terms_none held after terminals depth stops left s = record { terms = end; spells = s; value = refl; fine = (refl, refl) }
@@ -388,22 +423,28 @@ module _ (text : List ℕ) (kind : Kind) (gs : List Generator) (field : IsField 
     summed (gen g) w held = alone (gen g) 0 held (get_or ns (g - 1) []) refl (factor_name held g w.0 w.1)
     summed none w held = alone none 0 held (codes "0") refl (factor_zero held)
     summed (sum_of es) w held = subst (AsSum (sum_of es) (deep_members es) held) (sym (append-nil (sum_text ns true es))) (membered es w.1 w.0 held)
-    summed (multiple c e) w held = subst (AsSum (multiple c e) (deep_factor e) held) (sym (append-nil _)) (sum_multiple held c e w.0 (expression_text ns Behind e) (factored e w.1 held))
-    summed (bracket_of a b) w held = alone (bracket_of a b) (max (deep a) (deep b) + 1) held (expression_text ns Behind (bracket_of a b)) refl (factor_bracket held a b (summed a w.0 (held + 1)) (summed b w.1 (held + 1)))
+    summed (multiple c e) w held = subst (AsSum (multiple c e) (deep_factor e) held) (sym (append-nil _))
+        (sum_multiple held c e w.0 (expression_text ns Behind e) (factored e w.1 held))
+    summed (bracket_of a b) w held = alone (bracket_of a b) (max (deep a) (deep b) + 1) held (expression_text ns Behind (bracket_of a b)) refl
+        (factor_bracket held a b (summed a w.0 (held + 1)) (summed b w.1 (held + 1)))
 
     factored : (t : Tree Num) → IsWithin kind (length gs) t → (held : ℕ) → AsFactor t (deep_factor t) held (expression_text ns Behind t)
     factored (gen g) w held = factor_name held g w.0 w.1
     factored none w held = factor_zero held
     factored (sum_of es) w held = factor_group held (deep_members es) (sum_of es) (sum_text ns true es) (membered es w.1 w.0 (held + 1))
-    factored (multiple c e) w held = factor_group held (deep_factor e) (multiple c e) _ (sum_multiple (held + 1) c e w.0 (expression_text ns Behind e) (factored e w.1 (held + 1)))
+    factored (multiple c e) w held = factor_group held (deep_factor e) (multiple c e) _ (sum_multiple (held + 1) c e w.0 (expression_text ns Behind e)
+        (factored e w.1 (held + 1)))
     factored (bracket_of a b) w held = factor_bracket held a b (summed a w.0 (held + 1)) (summed b w.1 (held + 1))
 
     termed : (t : Tree Num) → IsWithin kind (length gs) t → (held : ℕ) → AsTerm t (deep_member t) held (expression_text ns Member t)
     termed (gen g) w held = as_member (gen g) 0 held (get_or ns (g - 1) []) refl (factor_name held g w.0 w.1)
     termed none w held = as_member none 0 held (codes "0") refl (factor_zero held)
-    termed (sum_of es) w held = as_member (sum_of es) (deep_members es + 1) held (expression_text ns Behind (sum_of es)) refl (factor_group held (deep_members es) (sum_of es) (sum_text ns true es) (membered es w.1 w.0 (held + 1)))
-    termed (multiple c e) w held = subst (AsTerm (multiple c e) (deep_factor e) held) (sym (append-nil _)) (term_multiple held c e w.0 (expression_text ns Behind e) (factored e w.1 held))
-    termed (bracket_of a b) w held = as_member (bracket_of a b) (max (deep a) (deep b) + 1) held (expression_text ns Behind (bracket_of a b)) refl (factor_bracket held a b (summed a w.0 (held + 1)) (summed b w.1 (held + 1)))
+    termed (sum_of es) w held = as_member (sum_of es) (deep_members es + 1) held (expression_text ns Behind (sum_of es)) refl
+        (factor_group held (deep_members es) (sum_of es) (sum_text ns true es) (membered es w.1 w.0 (held + 1)))
+    termed (multiple c e) w held = subst (AsTerm (multiple c e) (deep_factor e) held) (sym (append-nil _))
+        (term_multiple held c e w.0 (expression_text ns Behind e) (factored e w.1 held))
+    termed (bracket_of a b) w held = as_member (bracket_of a b) (max (deep a) (deep b) + 1) held (expression_text ns Behind (bracket_of a b)) refl
+        (factor_bracket held a b (summed a w.0 (held + 1)) (summed b w.1 (held + 1)))
 
     membered : (es : Trees Num) → AreWithin kind (length gs) es → 2 ≤ many es → (held : ℕ) → AsSum (sum_of es) (deep_members es) held (sum_text ns true es)
     membered last w two held = absurd (omega arith)

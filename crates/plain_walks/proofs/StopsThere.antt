@@ -93,7 +93,8 @@ module _ (computes : Bool) (entries limit place : ℕ) (stored : Bool) (p : Pres
       go v l (no m) = let e : w ≡ v = omega (arith, l, m, come.whole none, one) in subst (λ u. count_through below.stage.table u ≤ entries) e few
 
 pub stops_there_too : StopsThere
-stops_there_too computes entries limit place stored p at w stop sound most range bytes one end none h = stops_there computes entries limit place stored p at w sound most range bytes one end stop none h
+stops_there_too computes entries limit place stored p at w stop sound most range bytes one end none h =
+    stops_there computes entries limit place stored p at w sound most range bytes one end stop none h
 
 pub too_many_stops : TooManyStops
 too_many_stops computes entries limit place stored p at w count sound most range bytes passes none =

@@ -4,4 +4,5 @@ use Rattle.fpl_canonical.proofs.writing.push_equations.Given as goal
 
 -- what is out so far, then what the rest gives, is what all gives
 abbrev pub invariant-loop-q : goal.invariant-loop-q
-invariant-loop-q l = l.initial.out.items ++ lines (equation_line l.word l.p) l.equations ≡ l.out.items ++ lines (equation_line l.word l.p) (drop l.q-index l.equations)
+invariant-loop-q l = l.initial.out.items ++ lines (equation_line l.word l.p) l.equations ≡ l.out.items ++
+    lines (equation_line l.word l.p) (drop l.q-index l.equations)

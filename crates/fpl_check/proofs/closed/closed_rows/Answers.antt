@@ -69,14 +69,20 @@ returns-in-Ok-test_rows-clause-value g c =
     ap (λ (t : Result (Unit {0}) Refusal). passing t (Ok (rows_stored c.args.table.now c.args.section.now)))
     (rest_is c.args.table.now (subst IsField c.field-field.ensures
     (g.met.F.Field.is_field c.field-field.result.now)) c.args.section.now c.requires.section c.args.n c.args.conclusions c.in-Ok-close_rows.rows
-    c.requires.symbols c.requires.conclusions c.requires.whole (c.in-Ok-close_rows.ensures ∙ ap (close_rows c.args.section.now.steps) c.into_vec.ensures) c.in-Ok.ensures c.in-Ok-test_forms.ensures c.in-Ok-test_conclusions.ensures
+    c.requires.symbols c.requires.conclusions c.requires.whole (c.in-Ok-close_rows.ensures ∙
+    ap (close_rows c.args.section.now.steps) c.into_vec.ensures) c.in-Ok.ensures c.in-Ok-test_forms.ensures c.in-Ok-test_conclusions.ensures
     ∙ c.in-Ok-test_rows.ensures.value)
     ∙ ap Ok (rows_are c.args.table.now (subst IsField c.field-field.ensures
     (g.met.F.Field.is_field c.field-field.result.now)) c.args.section.now c.requires.section c.args.n c.args.conclusions c.in-Ok-close_rows.rows
-    c.requires.symbols c.requires.conclusions c.requires.whole (c.in-Ok-close_rows.ensures ∙ ap (close_rows c.args.section.now.steps) c.into_vec.ensures) c.in-Ok.ensures c.in-Ok-test_forms.ensures c.in-Ok-test_conclusions.ensures)
+    c.requires.symbols c.requires.conclusions c.requires.whole (c.in-Ok-close_rows.ensures ∙
+    ap (close_rows c.args.section.now.steps) c.into_vec.ensures) c.in-Ok.ensures c.in-Ok-test_forms.ensures c.in-Ok-test_conclusions.ensures)
 
 pub returns-in-Err-test_rows-clause-value : goal.returns-in-Err-test_rows-clause-value
 returns-in-Err-test_rows-clause-value g c =
     refused c.in-Err-test_rows.fault (test_closed c.args.table.now c.args.section.now c.args.conclusions) (Ok (rows_stored c.args.table.now c.args.section.now))
-    (same_refusal c.in-Err-test_rows.fault _ _ (rest_is c.args.table.now (subst IsField c.field-field.ensures (g.met.F.Field.is_field c.field-field.result.now)) c.args.section.now c.requires.section c.args.n c.args.conclusions c.in-Ok-close_rows.rows
-    c.requires.symbols c.requires.conclusions c.requires.whole (c.in-Ok-close_rows.ensures ∙ ap (close_rows c.args.section.now.steps) c.into_vec.ensures) c.in-Ok.ensures c.in-Ok-test_forms.ensures c.in-Ok-test_conclusions.ensures) c.in-Err-test_rows.ensures.value)
+    (same_refusal c.in-Err-test_rows.fault _ _
+    (rest_is c.args.table.now (subst IsField c.field-field.ensures (g.met.F.Field.is_field c.field-field.result.now)) c.args.section.now
+    c.requires.section c.args.n c.args.conclusions c.in-Ok-close_rows.rows
+    c.requires.symbols c.requires.conclusions c.requires.whole (c.in-Ok-close_rows.ensures ∙
+    ap (close_rows c.args.section.now.steps) c.into_vec.ensures) c.in-Ok.ensures c.in-Ok-test_forms.ensures c.in-Ok-test_conclusions.ensures)
+    c.in-Err-test_rows.ensures.value)

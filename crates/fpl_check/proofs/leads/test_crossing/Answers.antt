@@ -42,7 +42,8 @@ symbols-preserved g c =
     record {
       within = next.to_end;
       done = c.symbols.invariant.done ∙ until ∙ elim c.else-s-lead.branch [
-        | else-s-lead-via-then-s-lead+else-marks-s w ↦ crossing_at_free c.args.k c.unwrap_or-lead.result c.in-Some.s leads row next.from_one next.to_end w.if-marks-s.false
+        | else-s-lead-via-then-s-lead+else-marks-s w ↦ crossing_at_free c.args.k c.unwrap_or-lead.result c.in-Some.s leads row next.from_one
+            next.to_end w.if-marks-s.false
         | else-s-lead-via-else-s-lead w ↦ crossing_at_lead c.args.k c.unwrap_or-lead.result c.in-Some.s leads row next.from_one next.to_end w.if-s-lead.false
       ];
     }

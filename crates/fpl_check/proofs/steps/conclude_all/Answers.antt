@@ -13,7 +13,9 @@ use Rattle.fpl_check.proofs.steps.conclude_all.Goals as goal
 
 pub returns-in-Err-clause-value : goal.returns-in-Err-clause-value
 returns-in-Err-clause-value g c =
-    same_refusal c.in-Err.fault _ _ c.loop-i.invariant.done (steps_stop c.args.table.now c.args.p.now c.args.steps.now c.in-Err.fault c.loop-i.earlier c.args.steps.now c.loop-i.i c.in-Some.step.now c.in-Some.ensures c.in-Err.ensures.value)
+    same_refusal c.in-Err.fault _ _ c.loop-i.invariant.done
+    (steps_stop c.args.table.now c.args.p.now c.args.steps.now c.in-Err.fault c.loop-i.earlier c.args.steps.now c.loop-i.i c.in-Some.step.now
+    c.in-Some.ensures c.in-Err.ensures.value)
 
 pub loop-i-preserved : goal.loop-i-preserved
 loop-i-preserved g c =

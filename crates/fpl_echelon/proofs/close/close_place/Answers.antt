@@ -7,22 +7,30 @@ use Rattle.fpl_echelon.proofs.close.close_place.Goals as goal
 pub load-requires-clause-zeros : goal.load-requires-clause-zeros
 load-requires-clause-zeros g c =
     rw (c.row.ensures)
-    (c.requires.zeros ∙ ap (λ n. replicate n (residue 0)) (found_length (g.F.Field.kind_of c.args.field.now) (length c.args.work.now.row) (c.args.s + 1) c.args.pivots.now _ c.requires.pivots c.in-Some.ensures))
+    (c.requires.zeros ∙ ap (λ n. replicate n (residue 0)) (found_length (g.F.Field.kind_of c.args.field.now) (length c.args.work.now.row)
+    (c.args.s + 1) c.args.pivots.now _ c.requires.pivots c.in-Some.ensures))
 
 pub load-requires-clause-elements : goal.load-requires-clause-elements
 load-requires-clause-elements g c =
-    rw (c.requires.kind, c.row.ensures) (found_elements (g.F.Field.kind_of c.args.field.now) (length c.args.work.now.row) (c.args.s + 1) c.args.pivots.now _ c.requires.pivots c.in-Some.ensures)
+    rw (c.requires.kind, c.row.ensures) (found_elements (g.F.Field.kind_of c.args.field.now) (length c.args.work.now.row)
+    (c.args.s + 1) c.args.pivots.now _ c.requires.pivots c.in-Some.ensures)
 
 pub sweep_work-requires-clause-kind : goal.sweep_work-requires-clause-kind
 sweep_work-requires-clause-kind g c = rw (c.load.ensures) c.requires.kind
 
 pub sweep_work-requires-clause-place : goal.sweep_work-requires-clause-place
 sweep_work-requires-clause-place g c =
-    rw (c.load.ensures, c.row.ensures) (found_fits (g.F.Field.kind_of c.args.field.now) (length c.args.work.now.row) c.args.s c.args.pivots.now _ c.requires.place c.requires.pivots c.in-Some.ensures)
+    rw (c.load.ensures, c.row.ensures) (found_fits (g.F.Field.kind_of c.args.field.now) (length c.args.work.now.row) c.args.s c.args.pivots.now _
+    c.requires.place c.requires.pivots c.in-Some.ensures)
 
 pub sweep_work-requires-clause-pivots : goal.sweep_work-requires-clause-pivots
 sweep_work-requires-clause-pivots g c =
-    rw (c.load.ensures, c.row.ensures, ← found_length (g.F.Field.kind_of c.args.field.now) (length c.args.work.now.row) (c.args.s + 1) c.args.pivots.now _ c.requires.pivots c.in-Some.ensures) c.requires.closed
+    rw (
+      c.load.ensures,
+      c.row.ensures,
+      ← found_length (g.F.Field.kind_of c.args.field.now) (length c.args.work.now.row)
+          (c.args.s + 1) c.args.pivots.now _ c.requires.pivots c.in-Some.ensures,
+    ) c.requires.closed
 
 pub returns-in_ok-push-in-Some-2-clause-emptied : goal.returns-in_ok-push-in-Some-2-clause-emptied
 returns-in_ok-push-in-Some-2-clause-emptied g c =

@@ -8,7 +8,8 @@ invariant-loop-s g l = record {
   place : l.most ≤ length l.row;
   elements : AreElements (g.F.Field.kind_of l.field) l.row;
   same : length l.row ≡ length l.initial.row;
-  left : sweep_of (g.F.Field.kind_of l.field) l.pivots l.from (record { row = l.initial.row; terms = l.initial.terms }) ≡ sweep_of (g.F.Field.kind_of l.field) l.pivots l.most (record { row = l.row; terms = l.terms });
+  left : sweep_of (g.F.Field.kind_of l.field) l.pivots l.from (record { row = l.initial.row; terms = l.initial.terms }) ≡
+      sweep_of (g.F.Field.kind_of l.field) l.pivots l.most (record { row = l.row; terms = l.terms });
 }
 
 abbrev pub decreases-loop-s : goal.decreases-loop-s

@@ -9,4 +9,5 @@ axpy-requires-clause-at_most g c =
 
 pub axpy-requires-clause-other : goal.axpy-requires-clause-other
 axpy-requires-clause-other g c =
-    rw (c.row.ensures) (found_elements (g.F.Field.kind_of c.args.field.now) (length c.args.row.now) (c.args.s + 1) c.args.pivots.now _ c.requires.pivots c.in-Some.ensures)
+    rw (c.row.ensures) (found_elements (g.F.Field.kind_of c.args.field.now) (length c.args.row.now)
+    (c.args.s + 1) c.args.pivots.now _ c.requires.pivots c.in-Some.ensures)

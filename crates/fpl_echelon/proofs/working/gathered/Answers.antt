@@ -10,4 +10,5 @@ gather-requires g c = subst (λ k. IsElement k (g.F.Field.number c.one.result)) 
 
 pub returns-in-Ok-clause-value : goal.returns-in-Ok-clause-value
 returns-in-Ok-clause-value g c =
-    sym (ok_same (sym (scale_one c.args.row.now.kind c.args.row.now.row c.len-count.ensures.elements) ∙ ap (λ f. scale_of c.args.row.now.kind f c.args.row.now.row) (sym c.one.ensures.value) ∙ c.in-Ok.ensures.value))
+    sym (ok_same (sym (scale_one c.args.row.now.kind c.args.row.now.row c.len-count.ensures.elements) ∙
+    ap (λ f. scale_of c.args.row.now.kind f c.args.row.now.row) (sym c.one.ensures.value) ∙ c.in-Ok.ensures.value))

@@ -16,10 +16,12 @@ gather-requires g c = subst (λ k. IsElement k (g.F.Field.number c.inverse-facto
 pub returns-in-Ok-clause-value : goal.returns-in-Ok-clause-value
 returns-in-Ok-clause-value g c =
     let kind = g.F.Field.kind_of c.args.field.now in
-    sym (ap (λ k. scale_of k (g.F.Field.number c.inverse-factor.result) c.args.row.now.row) c.requires.kind ∙ ap (λ f. scale_of kind f c.args.row.now.row) (c.inverse-factor.ensures.value ∙ ap (inverse_of kind) c.at.ensures.value)) ∙ c.in-Ok.ensures.value
+    sym (ap (λ k. scale_of k (g.F.Field.number c.inverse-factor.result) c.args.row.now.row) c.requires.kind ∙
+    ap (λ f. scale_of kind f c.args.row.now.row) (c.inverse-factor.ensures.value ∙ ap (inverse_of kind) c.at.ensures.value)) ∙ c.in-Ok.ensures.value
 
 pub returns-in-Err-clause-value : goal.returns-in-Err-clause-value
 returns-in-Err-clause-value g c =
     let kind = g.F.Field.kind_of c.args.field.now in
     subst (IsFault c.in-Err.fault)
-    (ap (λ k. scale_of k (g.F.Field.number c.inverse-factor.result) c.args.row.now.row) c.requires.kind ∙ ap (λ f. scale_of kind f c.args.row.now.row) (c.inverse-factor.ensures.value ∙ ap (inverse_of kind) c.at.ensures.value)) c.in-Err.ensures.value
+    (ap (λ k. scale_of k (g.F.Field.number c.inverse-factor.result) c.args.row.now.row) c.requires.kind ∙
+    ap (λ f. scale_of kind f c.args.row.now.row) (c.inverse-factor.ensures.value ∙ ap (inverse_of kind) c.at.ensures.value)) c.in-Err.ensures.value

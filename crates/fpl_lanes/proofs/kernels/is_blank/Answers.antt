@@ -30,6 +30,7 @@ loop-x-preserved c =
 pub returns : goal.returns
 returns c =
     let end = c.loop-x-test.false in (
-      λ e k d l. get_or_default c.args.block.now k d 0 l ∙ (let z = is_nought c.loop-x.bits e in let a = c.loop-x.invariant.above k (omega arith) in omega arith),
+      λ e k d l. get_or_default c.args.block.now k d 0 l ∙ (let z = is_nought c.loop-x.bits e in let a = c.loop-x.invariant.above k (omega arith) in
+          omega arith),
       λ h. nought_is c.loop-x.bits (c.loop-x.invariant.blank (λ k l. h k 0 (let t = c.loop-x.auto in omega arith))),
     )

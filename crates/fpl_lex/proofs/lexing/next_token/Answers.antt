@@ -9,7 +9,8 @@ returns-in-Ends c =
     (c.loop-at.invariant.0 ∙ a.0, a.1, a.2)
 
 pub returns-in-Fault : goal.returns-in-Fault
-returns-in-Fault c = c.loop-at.invariant.0 ∙ advanced c.args.text.now c.args.from c.loop-at.at (omega arith) c.loop-at.mode c.loop-at.invariant.1 (Fault c.in-Fault.e) c.in-Fault.ensures
+returns-in-Fault c = c.loop-at.invariant.0 ∙ advanced c.args.text.now c.args.from c.loop-at.at (omega arith) c.loop-at.mode c.loop-at.invariant.1
+    (Fault c.in-Fault.e) c.in-Fault.ensures
 
 pub loop-at-preserved : goal.loop-at-preserved
 loop-at-preserved c =

@@ -11,6 +11,7 @@ pub loop-i-preserved : goal.loop-i-preserved
 loop-i-preserved c = elim c.match-get.branch [
   | in-None w ↦ absurd (let l : length c.args.steps.now ≤ c.loop-i.i = past_end c.args.steps.now c.loop-i.i w.in-None.ensures in omega arith)
   | in-Some+in_ok-place-in-Some w ↦
-      steps_next c.args.steps.now (c.loop-i.i + 1) c.loop-i.i c.loop-i.numbers.items c.match-get.numbers.items c.loop-i.kept c.match-get.kept w.in-Some.step.now (omega arith) w.in-Some.ensures c.loop-i.invariant
+      steps_next c.args.steps.now (c.loop-i.i + 1) c.loop-i.i c.loop-i.numbers.items c.match-get.numbers.items c.loop-i.kept c.match-get.kept
+      w.in-Some.step.now (omega arith) w.in-Some.ensures c.loop-i.invariant
       (ap (λ v. v.items) w.numbers-is ∙ w.in_ok-place-in-Some.ensures.numbers) (w.kept-is ∙ w.in_ok-place-in-Some.ensures.kept)
 ]

@@ -26,10 +26,12 @@ loop-s-preserved g c =
     let from = h.from_one in
     let end = h.to_end in
     let place : c.in-Some.s - 1 + 1 ≡ c.in-Some.s = omega (arith, from) in
-    let so_far = c.loop-s.invariant.left ∙ ap (λ w. c.loop-s.out.items ++ w) (to_next basis_name c.loop-s.first c.args.row.now c.loop-s.after c.in-Some.s c.in-Some.ensures) in
+    let so_far = c.loop-s.invariant.left ∙ ap (λ w. c.loop-s.out.items ++ w)
+    (to_next basis_name c.loop-s.first c.args.row.now c.loop-s.after c.in-Some.s c.in-Some.ensures) in
     record {
       within = end;
-      left = term_step basis_name _ c.loop-s.out.items c.push_term.new.out.items c.loop-s.first c.in_ok-first.first c.args.row.now (c.in-Some.s - 1) (g.F.Field.number c.at.result) (residue 0) (omega (arith, from, end)) c.at.ensures c.in_ok-first.ensures.0 c.in_ok-first.ensures.1 so_far
+      left = term_step basis_name _ c.loop-s.out.items c.push_term.new.out.items c.loop-s.first c.in_ok-first.first c.args.row.now (c.in-Some.s - 1)
+          (g.F.Field.number c.at.result) (residue 0) (omega (arith, from, end)) c.at.ensures c.in_ok-first.ensures.0 c.in_ok-first.ensures.1 so_far
           ∙ ap (λ n. c.push_term.new.out.items ++ terms_text basis_name c.in_ok-first.first n (drop n c.args.row.now)) place;
     }
 
@@ -38,16 +40,19 @@ push_term-requires-clause-element g c =
     let h = next_is_at c.args.row.now c.loop-s.after c.in-Some.s c.in-Some.ensures in
     let from = h.from_one in
     let end = h.to_end in
-    subst (λ (n : Num). IsElement (g.F.Field.kind_of c.args.field.now) n) (sym c.at.ensures) (c.requires (c.in-Some.s - 1) (residue 0) (omega (arith, from, end)))
+    subst (λ (n : Num). IsElement (g.F.Field.kind_of c.args.field.now) n) (sym c.at.ensures)
+    (c.requires (c.in-Some.s - 1) (residue 0) (omega (arith, from, end)))
 
 pub returns-then-first : goal.returns-then-first
 returns-then-first g c =
     let all : c.args.out.now.items ++ combination_text basis_name c.args.row.now ≡ c.loop-s.out.items ++ terms_text basis_name true (length c.args.row.now) [] =
-    c.loop-s.invariant.left ∙ ap (λ w. c.loop-s.out.items ++ w) (to_end basis_name c.loop-s.first c.args.row.now c.loop-s.after c.loop-s.invariant.within c.in_default.ensures)
+    c.loop-s.invariant.left ∙ ap (λ w. c.loop-s.out.items ++ w)
+    (to_end basis_name c.loop-s.first c.args.row.now c.loop-s.after c.loop-s.invariant.within c.in_default.ensures)
     ∙ ap (λ b. c.loop-s.out.items ++ terms_text basis_name b (length c.args.row.now) []) c.if-first.true in
     grind (arith, common_steps, all)
 
 pub returns : goal.returns
 returns g c =
-    sym (c.loop-s.invariant.left ∙ ap (λ w. c.loop-s.out.items ++ w) (to_end basis_name c.loop-s.first c.args.row.now c.loop-s.after c.loop-s.invariant.within c.in_default.ensures)
+    sym (c.loop-s.invariant.left ∙ ap (λ w. c.loop-s.out.items ++ w)
+    (to_end basis_name c.loop-s.first c.args.row.now c.loop-s.after c.loop-s.invariant.within c.in_default.ensures)
     ∙ ap (λ b. c.loop-s.out.items ++ terms_text basis_name b (length c.args.row.now) []) c.if-first.false ∙ append-nil c.loop-s.out.items)

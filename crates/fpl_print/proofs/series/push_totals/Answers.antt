@@ -8,6 +8,8 @@ pub returns : goal.returns
 returns g c =
     let bs = c.args.table.now.basis in
     let all : take (length bs) bs ≡ bs = grind (arith, common_steps) in
-    let evens : count_by (λ b. not (is_odd b.parity)) bs ≡ c.counts_between.result.evens = (let h = rw (c.basis_len.ensures.value, all) at c.counts_between.ensures.evens in omega (arith, h)) in
-    let odds : count_by (λ b. is_odd b.parity) bs ≡ c.counts_between.result.odds = (let h = rw (c.basis_len.ensures.value, all) at c.counts_between.ensures.odds in omega (arith, h)) in
+    let evens : count_by (λ b. not (is_odd b.parity)) bs ≡ c.counts_between.result.evens = (let h =
+    rw (c.basis_len.ensures.value, all) at c.counts_between.ensures.evens in omega (arith, h)) in
+    let odds : count_by (λ b. is_odd b.parity) bs ≡ c.counts_between.result.odds = (let h =
+    rw (c.basis_len.ensures.value, all) at c.counts_between.ensures.odds in omega (arith, h)) in
     rw (evens, odds) (grind (arith, common_steps))

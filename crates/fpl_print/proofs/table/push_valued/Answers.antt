@@ -8,7 +8,9 @@ pub loop-x-preserved : goal.loop-x-preserved
 loop-x-preserved g c =
     let inside : c.loop-x.x-index < length c.deref-x-items.result.now = omega arith in
     record {
-      value = valued_step (has_value c.args.table.now) _ (map symbol_in c.loop-x.valued.items) (map symbol_in c.push_if_valued.new.valued.items) c.deref-x-items.result.now c.loop-x.x-index _ _ inside refl c.in_ok-push_if_valued.ensures.value c.loop-x.invariant.value;
+      value = valued_step (has_value c.args.table.now) _ (map symbol_in c.loop-x.valued.items)
+          (map symbol_in c.push_if_valued.new.valued.items) c.deref-x-items.result.now c.loop-x.x-index _ _ inside refl
+          c.in_ok-push_if_valued.ensures.value c.loop-x.invariant.value;
       entries = λ all. c.in_ok-push_if_valued.ensures.entries (c.loop-x.invariant.entries all);
       listed = c.loop-x.invariant.listed;
       same = c.loop-x.invariant.same;

@@ -4,7 +4,8 @@ use Rattle.fpl_reader.proofs.Twice.{twice_by-same, name_twice-by, has, has_none,
 use Rattle.fpl_reader.proofs.declarations.name_twice.Goals as goal
 
 pub loop-d-init : goal.loop-d-init
-loop-d-init c = name_twice-by c.args.text.now [] c.args.names.now ∙ twice_by-same c.args.text.now _ (has c.new-seen.result) c.args.names.now (has_none c.new-seen.result c.new-seen.ensures.empty)
+loop-d-init c = name_twice-by c.args.text.now [] c.args.names.now ∙ twice_by-same c.args.text.now _ (has c.new-seen.result) c.args.names.now
+    (has_none c.new-seen.result c.new-seen.ensures.empty)
 
 pub loop-d-preserved : goal.loop-d-preserved
 loop-d-preserved c =

@@ -7,7 +7,8 @@ use Rattle.fpl_reader.specs.Reading.{first_place, unknown_in}
 use Rattle.fpl_reader.proofs.names.unknown_name.Given as goal
 
 abbrev pub invariant-loop-token : goal.invariant-loop-token
-invariant-loop-token l = first_place (unknown_in (sight l.scope)) (text_events l.scope.text.now) ≡ first_place (unknown_in (sight l.scope)) (scan l.track (terminals_of l.scope.text.now l.stream))
+invariant-loop-token l = first_place (unknown_in (sight l.scope)) (text_events l.scope.text.now) ≡
+    first_place (unknown_in (sight l.scope)) (scan l.track (terminals_of l.scope.text.now l.stream))
 
 abbrev pub decreases-loop-token : goal.decreases-loop-token
 decreases-loop-token l = length l.stream

@@ -6,7 +6,8 @@ use Rattle.fpl_reader.specs.Reading.{first_place, zero_in}
 use Rattle.fpl_reader.proofs.names.zero_denominator.Given as goal
 
 abbrev pub invariant-loop-token : goal.invariant-loop-token
-invariant-loop-token l = first_place (zero_in l.scope.kind) (text_events l.scope.text.now) ≡ first_place (zero_in l.scope.kind) (scan l.track (terminals_of l.scope.text.now l.stream))
+invariant-loop-token l = first_place (zero_in l.scope.kind) (text_events l.scope.text.now) ≡
+    first_place (zero_in l.scope.kind) (scan l.track (terminals_of l.scope.text.now l.stream))
 
 abbrev pub decreases-loop-token : goal.decreases-loop-token
 decreases-loop-token l = length l.stream

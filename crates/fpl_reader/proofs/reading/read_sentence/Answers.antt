@@ -15,7 +15,8 @@ late_refusal-requires-clause-weights c = bare_weights c.args.text.now c.args.p c
 pub late_refusal-requires-clause-terms : goal.late_refusal-requires-clause-terms
 late_refusal-requires-clause-terms c = λ unknown.
     parsed_terms c.args.text.now c.args.p.field c.as_slice.result.now c.args.p.generators c.as_slice-2.result.now c.in_ok-claims.claims.items
-    (bare_known c.args.text.now c.args.p c.requires.bare c.requires.early) c.requires.few c.as_slice.ensures c.as_slice-2.ensures.value c.in_ok-claims.ensures.claims unknown
+    (bare_known c.args.text.now c.args.p c.requires.bare c.requires.early) c.requires.few c.as_slice.ensures c.as_slice-2.ensures.value
+    c.in_ok-claims.ensures.claims unknown
 
 pub returns-in_err-claims : goal.returns-in_err-claims
 returns-in_err-claims c =
@@ -27,9 +28,11 @@ pub returns-in-Some : goal.returns-in-Some
 returns-in-Some c =
     rw c.refused.ensures
     (late_refused c.args.text.now c.in-Some.place c.in-Some.reason c.requires.lexable c.requires.shallow c.requires.early
-    (sight_is c.args.text.now c.args.p c.as_slice.result.now c.requires.bare c.as_slice.ensures) c.requires.bare c.as_slice-2.ensures.value c.in_ok-claims.ensures.claims c.in-Some.ensures)
+    (sight_is c.args.text.now c.args.p c.as_slice.result.now c.requires.bare c.as_slice.ensures) c.requires.bare c.as_slice-2.ensures.value
+    c.in_ok-claims.ensures.claims c.in-Some.ensures)
 
 pub returns-in-Ok : goal.returns-in-Ok
 returns-in-Ok c =
     presented c.args.text.now c.in-Ok.p c.requires.lexable c.requires.shallow c.requires.early
-    (sight_is c.args.text.now c.args.p c.as_slice.result.now c.requires.bare c.as_slice.ensures) c.requires.bare c.as_slice-2.ensures.value c.in_ok-claims.ensures.claims c.in_default.ensures c.in-Ok.ensures
+    (sight_is c.args.text.now c.args.p c.as_slice.result.now c.requires.bare c.as_slice.ensures) c.requires.bare c.as_slice-2.ensures.value
+    c.in_ok-claims.ensures.claims c.in_default.ensures c.in-Ok.ensures

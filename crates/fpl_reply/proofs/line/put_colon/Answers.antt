@@ -5,10 +5,16 @@ use Rattle.fpl_reply.proofs.Lines.{on_err, on_err_after, on_ok_after}
 use Rattle.fpl_reply.proofs.line.put_colon.Goals as goal
 
 pub returns-in_err-put_spotted-clause-part : goal.returns-in_err-put_spotted-clause-part
-returns-in_err-put_spotted-clause-part g c = on_err _ _ (wrote_front (g.E.Sink.taken c.args.err.now) (g.E.Sink.taken c.put_spotted.new.err) (codes "bad checkpoint in weight " ++ decimal c.args.weight ++ spot_text c.args.spot) (codes ": ") c.in_err-put_spotted.ensures.part)
+returns-in_err-put_spotted-clause-part g c =
+    on_err _ _ (wrote_front (g.E.Sink.taken c.args.err.now) (g.E.Sink.taken c.put_spotted.new.err)
+    (codes "bad checkpoint in weight " ++ decimal c.args.weight ++ spot_text c.args.spot) (codes ": ") c.in_err-put_spotted.ensures.part)
 
 pub returns-clause-part : goal.returns-clause-part
-returns-clause-part g c = on_err_after c.write_whole.result (g.E.Sink.taken c.args.err.now) (g.E.Sink.taken c.put_spotted.new.err) (g.E.Sink.taken c.write_whole.new.sink) (codes "bad checkpoint in weight " ++ decimal c.args.weight ++ spot_text c.args.spot) (codes ": ") c.in_ok-put_spotted.ensures.whole c.write_whole.ensures.part
+returns-clause-part g c = on_err_after c.write_whole.result (g.E.Sink.taken c.args.err.now) (g.E.Sink.taken c.put_spotted.new.err)
+    (g.E.Sink.taken c.write_whole.new.sink) (codes "bad checkpoint in weight " ++ decimal c.args.weight ++ spot_text c.args.spot)
+    (codes ": ") c.in_ok-put_spotted.ensures.whole c.write_whole.ensures.part
 
 pub returns-clause-whole : goal.returns-clause-whole
-returns-clause-whole g c = on_ok_after c.write_whole.result (g.E.Sink.taken c.args.err.now) (g.E.Sink.taken c.put_spotted.new.err) (g.E.Sink.taken c.write_whole.new.sink) (codes "bad checkpoint in weight " ++ decimal c.args.weight ++ spot_text c.args.spot) (codes ": ") c.in_ok-put_spotted.ensures.whole c.write_whole.ensures.whole
+returns-clause-whole g c = on_ok_after c.write_whole.result (g.E.Sink.taken c.args.err.now) (g.E.Sink.taken c.put_spotted.new.err)
+    (g.E.Sink.taken c.write_whole.new.sink) (codes "bad checkpoint in weight " ++ decimal c.args.weight ++ spot_text c.args.spot)
+    (codes ": ") c.in_ok-put_spotted.ensures.whole c.write_whole.ensures.whole

@@ -12,9 +12,11 @@ line_with w op a b = codes "overflow at weight " ++ decimal w ++ codes ": " ++ n
 pub returns-clause-whole : goal.returns-clause-whole
 unfolding line_with
 returns-clause-whole g c =
-    subst (λ op. OnOk c.put_pieces.result (Takes (g.E.Sink.taken c.args.err.now) (g.E.Sink.taken c.put_pieces.new.err) (line_with c.args.weight op c.args.a c.args.b))) c.op_text.ensures c.put_pieces.ensures.whole
+    subst (λ op. OnOk c.put_pieces.result (Takes (g.E.Sink.taken c.args.err.now) (g.E.Sink.taken c.put_pieces.new.err)
+    (line_with c.args.weight op c.args.a c.args.b))) c.op_text.ensures c.put_pieces.ensures.whole
 
 pub returns-clause-part : goal.returns-clause-part
 unfolding line_with
 returns-clause-part g c =
-    subst (λ op. OnErr c.put_pieces.result (WrotePrefix (g.E.Sink.taken c.args.err.now) (g.E.Sink.taken c.put_pieces.new.err) (line_with c.args.weight op c.args.a c.args.b))) c.op_text.ensures c.put_pieces.ensures.part
+    subst (λ op. OnErr c.put_pieces.result (WrotePrefix (g.E.Sink.taken c.args.err.now) (g.E.Sink.taken c.put_pieces.new.err)
+    (line_with c.args.weight op c.args.a c.args.b))) c.op_text.ensures c.put_pieces.ensures.part

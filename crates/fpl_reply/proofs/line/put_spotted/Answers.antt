@@ -5,10 +5,16 @@ use Rattle.fpl_reply.proofs.Lines.{on_err, on_err_after, on_ok_after}
 use Rattle.fpl_reply.proofs.line.put_spotted.Goals as goal
 
 pub returns-in_err-put_pieces-clause-part : goal.returns-in_err-put_pieces-clause-part
-returns-in_err-put_pieces-clause-part g c = on_err _ _ (wrote_front (g.E.Sink.taken c.args.err.now) (g.E.Sink.taken c.put_pieces.new.err) (codes "bad checkpoint in weight " ++ decimal c.args.weight) (spot_text c.args.spot) c.in_err-put_pieces.ensures.part)
+returns-in_err-put_pieces-clause-part g c =
+    on_err _ _ (wrote_front (g.E.Sink.taken c.args.err.now) (g.E.Sink.taken c.put_pieces.new.err)
+    (codes "bad checkpoint in weight " ++ decimal c.args.weight) (spot_text c.args.spot) c.in_err-put_pieces.ensures.part)
 
 pub returns-clause-part : goal.returns-clause-part
-returns-clause-part g c = on_err_after c.put_spot.result (g.E.Sink.taken c.args.err.now) (g.E.Sink.taken c.put_pieces.new.err) (g.E.Sink.taken c.put_spot.new.err) (codes "bad checkpoint in weight " ++ decimal c.args.weight) (spot_text c.args.spot) c.in_ok-put_pieces.ensures.whole c.put_spot.ensures.part
+returns-clause-part g c = on_err_after c.put_spot.result (g.E.Sink.taken c.args.err.now) (g.E.Sink.taken c.put_pieces.new.err)
+    (g.E.Sink.taken c.put_spot.new.err) (codes "bad checkpoint in weight " ++ decimal c.args.weight)
+    (spot_text c.args.spot) c.in_ok-put_pieces.ensures.whole c.put_spot.ensures.part
 
 pub returns-clause-whole : goal.returns-clause-whole
-returns-clause-whole g c = on_ok_after c.put_spot.result (g.E.Sink.taken c.args.err.now) (g.E.Sink.taken c.put_pieces.new.err) (g.E.Sink.taken c.put_spot.new.err) (codes "bad checkpoint in weight " ++ decimal c.args.weight) (spot_text c.args.spot) c.in_ok-put_pieces.ensures.whole c.put_spot.ensures.whole
+returns-clause-whole g c = on_ok_after c.put_spot.result (g.E.Sink.taken c.args.err.now) (g.E.Sink.taken c.put_pieces.new.err)
+    (g.E.Sink.taken c.put_spot.new.err) (codes "bad checkpoint in weight " ++ decimal c.args.weight)
+    (spot_text c.args.spot) c.in_ok-put_pieces.ensures.whole c.put_spot.ensures.whole

@@ -13,4 +13,5 @@ returns-clause-part g c =
     on_err_after c.put_below.result (g.E.Sink.taken c.args.err.now) (g.E.Sink.taken c.put_decimal.new.err) (g.E.Sink.taken c.put_below.new.err)
     (decimal (unsigned_abs c.args.c.numerator)) (below_text (unsigned_abs c.args.c.denominator))
     (subst (λ n. Takes (g.E.Sink.taken c.args.err.now) (g.E.Sink.taken c.put_decimal.new.err) (decimal n)) above c.in_ok-put_decimal.ensures.whole)
-    (subst (λ n. OnErr c.put_below.result (WrotePrefix (g.E.Sink.taken c.put_decimal.new.err) (g.E.Sink.taken c.put_below.new.err) (below_text n))) below c.put_below.ensures.part)
+    (subst (λ n. OnErr c.put_below.result (WrotePrefix (g.E.Sink.taken c.put_decimal.new.err) (g.E.Sink.taken c.put_below.new.err) (below_text n)))
+    below c.put_below.ensures.part)

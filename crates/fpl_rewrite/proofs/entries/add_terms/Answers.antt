@@ -23,7 +23,8 @@ add_term-requires-clause-added g c =
     let h = next_is_at c.args.entry.now c.loop-t.after c.in-Some.t c.in-Some.ensures in
     let from = h.from_one in
     let end = h.to_end in
-    subst (λ (n : Num). IsElement c.args.table.now.kind n) (sym c.at.ensures) (c.requires.entry.elements (c.in-Some.t - 1) (residue 0) (omega (arith, from, end)))
+    subst (λ (n : Num). IsElement c.args.table.now.kind n) (sym c.at.ensures) (c.requires.entry.elements (c.in-Some.t - 1) (residue 0)
+    (omega (arith, from, end)))
 
 pub loop-t-smaller : goal.loop-t-smaller
 loop-t-smaller g c =
@@ -52,10 +53,12 @@ returns-in-Err-clause-value g c =
     let add = terms_of T c.args.beside c.args.negated in
     fault_next (λ w. add_each add c.in-Some.t (drop c.in-Some.t c.args.entry.now) w) c.in-Err.fault _ _
     (c.loop-t.invariant.left ∙ to_next add c.args.entry.now c.loop-t.after c.in-Some.t c.loop-t.row c.in-Some.ensures
-    ∙ ap (λ (n : Num). and_then (λ w. add_each add c.in-Some.t (drop c.in-Some.t c.args.entry.now) w) (add (c.in-Some.t - 1) n c.loop-t.row)) (sym c.at.ensures))
+    ∙ ap (λ (n : Num). and_then (λ w. add_each add c.in-Some.t (drop c.in-Some.t c.args.entry.now) w) (add (c.in-Some.t - 1) n c.loop-t.row))
+    (sym c.at.ensures))
     c.in-Err.ensures.value
 
 pub returns-clause-value : goal.returns-clause-value
 returns-clause-value g c =
     let T = c.args.table.now in
-    c.loop-t.invariant.left ∙ to_end (terms_of T c.args.beside c.args.negated) c.args.entry.now c.loop-t.after c.loop-t.row c.loop-t.invariant.within c.in_default.ensures
+    c.loop-t.invariant.left ∙ to_end (terms_of T c.args.beside c.args.negated) c.args.entry.now c.loop-t.after c.loop-t.row c.loop-t.invariant.within
+    c.in_default.ensures

@@ -9,7 +9,8 @@ invariant-loop-t g l = record {
   within : l.after ≤ length l.entry;
   elements : AreElements l.table.kind l.row;
   whole : length l.row ≡ length l.initial.row;
-  left : add_each (terms_of l.table l.beside l.negated) 0 l.entry l.initial.row ≡ add_each (terms_of l.table l.beside l.negated) l.after (drop l.after l.entry) l.row;
+  left : add_each (terms_of l.table l.beside l.negated) 0 l.entry l.initial.row ≡ add_each (terms_of l.table l.beside l.negated) l.after
+      (drop l.after l.entry) l.row;
 }
 
 abbrev pub decreases-loop-t : goal.decreases-loop-t

@@ -15,5 +15,6 @@ invariant-form_all-loop-e g l = record {
   few : count_trees (trees (map plain (drop l.e-index l.e-items))) ≤ count_trees (trees (map plain l.members));
   elements : AreElements l.table.kind l.sum;
   whole : length l.sum ≡ length l.symbols.symbols;
-  left : forms_of l.table (trees (map plain l.members)) (zero_row (length (symbols_in l.table))) ≡ forms_of l.table (trees (map plain (drop l.e-index l.e-items))) l.sum;
+  left : forms_of l.table (trees (map plain l.members)) (zero_row (length (symbols_in l.table))) ≡
+      forms_of l.table (trees (map plain (drop l.e-index l.e-items))) l.sum;
 }

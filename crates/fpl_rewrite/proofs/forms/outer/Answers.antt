@@ -23,9 +23,11 @@ over T symbols a b row e f =
 
 pub returns-in-Ok-clause-value : goal.returns-in-Ok-clause-value
 returns-in-Ok-clause-value g c =
-    over c.args.table.now c.args.symbols.now.symbols c.args.a.now c.args.b.now c.in_ok-row.row c.requires.symbols (ok_same c.in_ok-row.ensures.value) ∙ c.in-Ok.ensures.value
+    over c.args.table.now c.args.symbols.now.symbols c.args.a.now c.args.b.now c.in_ok-row.row c.requires.symbols (ok_same c.in_ok-row.ensures.value)
+    ∙ c.in-Ok.ensures.value
 
 pub returns-in-Err-clause-value : goal.returns-in-Err-clause-value
 returns-in-Err-clause-value g c =
-    subst (IsFault c.in-Err.fault) (sym (over c.args.table.now c.args.symbols.now.symbols c.args.a.now c.args.b.now c.in_ok-row.row c.requires.symbols (ok_same c.in_ok-row.ensures.value)))
+    subst (IsFault c.in-Err.fault) (sym (over c.args.table.now c.args.symbols.now.symbols c.args.a.now c.args.b.now c.in_ok-row.row c.requires.symbols
+    (ok_same c.in_ok-row.ensures.value)))
     c.in-Err.ensures.value

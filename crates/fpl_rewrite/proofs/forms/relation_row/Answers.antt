@@ -16,5 +16,6 @@ difference-requires-clause-few g c =
 
 pub returns-clause-value : goal.returns-clause-value
 returns-clause-value g c =
-    let same = relation_row_at c.args.table.now c.args.p.now.relations c.args.r c.index-as_slice-r.result (omega arith) (omega arith) (rw c.as_slice.ensures at c.index-as_slice-r.is) in
+    let same = relation_row_at c.args.table.now c.args.p.now.relations c.args.r c.index-as_slice-r.result (omega arith) (omega arith)
+    (rw c.as_slice.ensures at c.index-as_slice-r.is) in
     rw same c.difference.ensures.value

@@ -26,7 +26,8 @@ returns-then-is_odd_at-clause-value g c =
     let three : is_three c.args.table.now.kind ≡ true = cc in
     let odd : is_odd (plain_basis c.args.table.now c.loop-at.at).parity ≡ true = cc in
     c.loop-at.invariant
-    ∙ cubes_found c.args.table.now c.loop-at.at ((c.weight-w.result + 1) / 3) c.weight-w.ensures.shape three (omega arith) (omega arith) (omega arith) (omega arith) odd
+    ∙ cubes_found c.args.table.now c.loop-at.at ((c.weight-w.result + 1) / 3) c.weight-w.ensures.shape three (omega arith) (omega arith) (omega arith)
+    (omega arith) odd
 
 pub loop-at-preserved : goal.loop-at-preserved
 loop-at-preserved g c =

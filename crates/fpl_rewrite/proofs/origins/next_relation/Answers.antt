@@ -4,15 +4,18 @@ use Rattle.fpl_rewrite.proofs.origins.next_relation.Goals as goal
 
 pub has_weight-requires-clause-left : goal.has_weight-requires-clause-left
 has_weight-requires-clause-left g c =
-    left_term c.args.p.now c.loop-at.at c.index-relations-at.result c.requires.sound (rw (← c.as_slice-relations.ensures) c.loop-at-test.true) (rw c.as_slice-relations.ensures at c.index-relations-at.is)
+    left_term c.args.p.now c.loop-at.at c.index-relations-at.result c.requires.sound (rw (← c.as_slice-relations.ensures) c.loop-at-test.true)
+    (rw c.as_slice-relations.ensures at c.index-relations-at.is)
 
 pub has_weight-requires-clause-right : goal.has_weight-requires-clause-right
 has_weight-requires-clause-right g c =
-    right_term c.args.p.now c.loop-at.at c.index-relations-at.result c.requires.sound (rw (← c.as_slice-relations.ensures) c.loop-at-test.true) (rw c.as_slice-relations.ensures at c.index-relations-at.is)
+    right_term c.args.p.now c.loop-at.at c.index-relations-at.result c.requires.sound (rw (← c.as_slice-relations.ensures) c.loop-at-test.true)
+    (rw c.as_slice-relations.ensures at c.index-relations-at.is)
 
 pub has_weight-requires-clause-few : goal.has_weight-requires-clause-few
 has_weight-requires-clause-few g c =
-    small_relation c.args.p.now c.loop-at.at c.index-relations-at.result c.requires.sound (rw (← c.as_slice-relations.ensures) c.loop-at-test.true) (rw c.as_slice-relations.ensures at c.index-relations-at.is)
+    small_relation c.args.p.now c.loop-at.at c.index-relations-at.result c.requires.sound (rw (← c.as_slice-relations.ensures) c.loop-at-test.true)
+    (rw c.as_slice-relations.ensures at c.index-relations-at.is)
 
 pub overflow_cast-result : goal.overflow_cast-result
 overflow_cast-result g c =
@@ -28,18 +31,23 @@ returns-then-has_weight-clause-range g c =
 
 pub returns-then-has_weight-clause-value : goal.returns-then-has_weight-clause-value
 returns-then-has_weight-clause-value g c =
-    let test = test_is c.args.table.now c.args.p.now c.index-relations-at.result c.args.w c.has_weight.result c.requires.agrees c.requires.weight c.has_weight.ensures in
+    let test = test_is c.args.table.now c.args.p.now c.index-relations-at.result c.args.w c.has_weight.result c.requires.agrees c.requires.weight
+    c.has_weight.ensures in
     c.loop-at.invariant
-    ∙ relation_here c.args.table.now c.args.p.now.relations c.loop-at.at c.index-relations-at.result (rw (← c.as_slice-relations.ensures) c.loop-at-test.true) (rw c.as_slice-relations.ensures at c.index-relations-at.is)
+    ∙ relation_here c.args.table.now c.args.p.now.relations c.loop-at.at c.index-relations-at.result
+    (rw (← c.as_slice-relations.ensures) c.loop-at-test.true) (rw c.as_slice-relations.ensures at c.index-relations-at.is)
     (test ∙ c.if-has_weight.true) (c.loop-at.at + 1)
 
 pub loop-at-preserved : goal.loop-at-preserved
 loop-at-preserved g c =
-    let test = test_is c.args.table.now c.args.p.now c.index-relations-at.result c.args.w c.has_weight.result c.requires.agrees c.requires.weight c.has_weight.ensures in
+    let test = test_is c.args.table.now c.args.p.now c.index-relations-at.result c.args.w c.has_weight.result c.requires.agrees c.requires.weight
+    c.has_weight.ensures in
     c.loop-at.invariant
-    ∙ relation_not c.args.table.now c.args.p.now.relations c.loop-at.at c.index-relations-at.result (rw (← c.as_slice-relations.ensures) c.loop-at-test.true) (rw c.as_slice-relations.ensures at c.index-relations-at.is)
+    ∙ relation_not c.args.table.now c.args.p.now.relations c.loop-at.at c.index-relations-at.result
+    (rw (← c.as_slice-relations.ensures) c.loop-at-test.true) (rw c.as_slice-relations.ensures at c.index-relations-at.is)
     (test ∙ c.if-has_weight.false) (c.loop-at.at + 1)
 
 pub returns-clause-value : goal.returns-clause-value
 returns-clause-value g c =
-    c.loop-at.invariant ∙ relations_end c.args.table.now c.args.p.now.relations c.loop-at.at (c.loop-at.at + 1) (rw (← c.as_slice-relations.ensures) c.loop-at-test.false)
+    c.loop-at.invariant ∙ relations_end c.args.table.now c.args.p.now.relations c.loop-at.at (c.loop-at.at + 1)
+    (rw (← c.as_slice-relations.ensures) c.loop-at-test.false)

@@ -11,7 +11,8 @@ pub returns-in-Some-clause-value : goal.returns-in-Some-clause-value
 returns-in-Some-clause-value g c =
     let h = leading_within c.args.table.now.basis ((c.weight.result + 1 - c.weight_at.result) / 2) in
     c.loop-j.invariant.left
-    ∙ seconds_found c.args.table.now c.args.first c.loop-j.j c.loop-j.k (c.in-Some.third + 1) (Jacobi (c.args.first + 1) (c.loop-j.j + 1) (c.in-Some.third + 1)) (omega arith) c.in-Some.ensures.value
+    ∙ seconds_found c.args.table.now c.args.first c.loop-j.j c.loop-j.k (c.in-Some.third + 1)
+    (Jacobi (c.args.first + 1) (c.loop-j.j + 1) (c.in-Some.third + 1)) (omega arith) c.in-Some.ensures.value
 
 pub loop-j-preserved : goal.loop-j-preserved
 loop-j-preserved g c =
@@ -25,4 +26,5 @@ loop-j-preserved g c =
 pub returns-clause-value : goal.returns-clause-value
 returns-clause-value g c =
     c.loop-j.invariant.left
-    ∙ seconds_end c.args.table.now c.args.first c.loop-j.j c.loop-j.k ((c.weight.result + 1 - c.weight_at.result) / 2) c.requires.shape (omega arith) (omega arith) c.loop-j.invariant.ascending
+    ∙ seconds_end c.args.table.now c.args.first c.loop-j.j c.loop-j.k ((c.weight.result + 1 - c.weight_at.result) / 2) c.requires.shape (omega arith)
+    (omega arith) c.loop-j.invariant.ascending

@@ -12,7 +12,8 @@ returns-in-Some-clause-value g c =
     let h = leading_within c.args.table.now.basis ((c.weight.result + 1) / 3) in
     c.loop-i.invariant.left
     ∙ firsts_found c.args.table.now c.loop-i.i c.loop-i.j c.loop-i.k c.in-Some.next.first c.in-Some.next.second (c.in-Some.next.third + 1)
-    (Jacobi (c.in-Some.next.first + 1) (c.in-Some.next.second + 1) (c.in-Some.next.third + 1)) (c.in-Some.ensures).within.0 (omega arith) (c.in-Some.ensures).value
+    (Jacobi (c.in-Some.next.first + 1) (c.in-Some.next.second + 1) (c.in-Some.next.third + 1)) (c.in-Some.ensures).within.0 (omega arith)
+    (c.in-Some.ensures).value
 
 pub loop-i-preserved : goal.loop-i-preserved
 loop-i-preserved g c =
@@ -26,4 +27,5 @@ loop-i-preserved g c =
 pub returns-clause-value : goal.returns-clause-value
 returns-clause-value g c =
     c.loop-i.invariant.left
-    ∙ firsts_end c.args.table.now c.loop-i.i c.loop-i.j c.loop-i.k ((c.weight.result + 1) / 3) c.weight.ensures.shape (omega arith) (omega arith) c.loop-i.invariant.first c.loop-i.invariant.second
+    ∙ firsts_end c.args.table.now c.loop-i.i c.loop-i.j c.loop-i.k ((c.weight.result + 1) / 3) c.weight.ensures.shape (omega arith)
+    (omega arith) c.loop-i.invariant.first c.loop-i.invariant.second

@@ -25,12 +25,16 @@ loop-s-preserved g c =
     let most = c.start_from-s-in-loop-s.ensures.at_most in
     let least = c.start_from-s-in-loop-s.ensures.at_least in
     let before = c.loop-s.invariant.at_least in
-    let none : (k : ℕ) → c.args.from ≤ k → k < c.start_from-s-in-loop-s.result → get_or (map (g.F.Field.summed c.args.field.now) c.args.sums.now) k (residue 0) ≡ residue 0 =
+    let none : (k : ℕ) → c.args.from ≤ k → k < c.start_from-s-in-loop-s.result → get_or (map (g.F.Field.summed c.args.field.now) c.args.sums.now) k
+    (residue 0) ≡ residue 0 =
     λ k a b. elim (dec_lt k c.loop-s.s) [
       | yes l ↦ c.loop-s.invariant.none k a l
       | no l ↦ elim (ℕ_discrete k c.loop-s.s) [
-        | yes e ↦ ap (λ i. get_or (map (g.F.Field.summed c.args.field.now) c.args.sums.now) i (residue 0)) e ∙ number_at (g.F.Field.summed c.args.field.now) c.args.sums.now c.loop-s.s c.index-sums-s.result (residue 0) c.loop-s-test.true c.index-sums-s.is
-            ∙ nought_is (g.F.Field.kind_of c.args.field.now) (g.F.Field.summed c.args.field.now c.index-sums-s.result) (element_at (g.F.Field.kind_of c.args.field.now) (g.F.Field.summed c.args.field.now) c.args.sums.now c.loop-s.s c.index-sums-s.result c.requires.elements c.loop-s-test.true c.index-sums-s.is)
+        | yes e ↦ ap (λ i. get_or (map (g.F.Field.summed c.args.field.now) c.args.sums.now) i (residue 0)) e ∙
+            number_at (g.F.Field.summed c.args.field.now) c.args.sums.now c.loop-s.s c.index-sums-s.result (residue 0) c.loop-s-test.true c.index-sums-s.is
+            ∙ nought_is (g.F.Field.kind_of c.args.field.now) (g.F.Field.summed c.args.field.now c.index-sums-s.result)
+            (element_at (g.F.Field.kind_of c.args.field.now) (g.F.Field.summed c.args.field.now) c.args.sums.now c.loop-s.s c.index-sums-s.result
+            c.requires.elements c.loop-s-test.true c.index-sums-s.is)
             (ap is_nought (sym c.settle.ensures) ∙ sym c.if-is_zero.ensures)
         | no d ↦ c.requires.marked.nought k (c.start_from-s-in-loop-s.ensures.none k (omega (arith, l, d)) b)
       ]

@@ -11,18 +11,21 @@ use Rattle.fpl_run.proofs.read.answer_checkpoint.Goals as goal
 
 pub returns-in-Ok-clause-reply : goal.returns-in-Ok-clause-reply
 returns-in-Ok-clause-reply g c =
-    command_through c.args.c c.args.bytes.now (of_head c.args.bytes.now c.in-Ok.head) c.requires.read (from_head c.requires.short c.requires.checkpoint c.in-Ok.head c.in-Ok.ensures.head) _ _ _
+    command_through c.args.c c.args.bytes.now (of_head c.args.bytes.now c.in-Ok.head) c.requires.read
+    (from_head c.requires.short c.requires.checkpoint c.in-Ok.head c.in-Ok.ensures.head) _ _ _
     c.answer_start.ensures.reply
 
 pub returns-in-Ok-clause-cost : goal.returns-in-Ok-clause-cost
 returns-in-Ok-clause-cost g c =
-    costs_start c.args.c c.args.bytes.now (of_head c.args.bytes.now c.in-Ok.head) c.args.steps.now c.answer_start.new.steps (from_head c.requires.short c.requires.checkpoint c.in-Ok.head c.in-Ok.ensures.head)
+    costs_start c.args.c c.args.bytes.now (of_head c.args.bytes.now c.in-Ok.head) c.args.steps.now c.answer_start.new.steps
+    (from_head c.requires.short c.requires.checkpoint c.in-Ok.head c.in-Ok.ensures.head)
     c.answer_start.ensures.rises c.answer_start.ensures.idle c.answer_start.ensures.cost
 
 pub returns-in-Err-Bad-clause-reply : goal.returns-in-Err-Bad-clause-reply
 returns-in-Err-Bad-clause-reply g c =
     rw c.in-Err-Bad.field-0-is
-    (leaves_quiet _ _ _ _ _ refl refl refl (no_start c.requires.read _ (no_head c.requires.short c.requires.checkpoint _ (rw c.in-Err-Bad.field-0-is at c.in-Err-Bad.ensures.head))))
+    (leaves_quiet _ _ _ _ _ refl refl refl (no_start c.requires.read _ (no_head c.requires.short c.requires.checkpoint _
+    (rw c.in-Err-Bad.field-0-is at c.in-Err-Bad.ensures.head))))
 
 pub returns-in-Err-NoMemory-clause-reply : goal.returns-in-Err-NoMemory-clause-reply
 returns-in-Err-NoMemory-clause-reply g c = front (inl refl)

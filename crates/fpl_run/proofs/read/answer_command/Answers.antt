@@ -33,4 +33,5 @@ returns-in-Err-NoMemory-clause-reply g c = always _ _ (λ bytes. inr (front (inl
 pub returns-in-Err-TooLong-clause-reply : goal.returns-in-Err-TooLong-clause-reply
 returns-in-Err-TooLong-clause-reply g c =
     let now : IsUnread c.args.c.view → ⊥ = λ h. search rules in
-    passed_input _ _ _ _ (c.in-Err-TooLong.ensures.too_long (search rules)) (λ bytes l. inr (leaves_quiet _ _ _ _ _ refl refl refl (no_start now _ (input_too_long l))))
+    passed_input _ _ _ _ (c.in-Err-TooLong.ensures.too_long (search rules)) (λ bytes l. inr
+    (leaves_quiet _ _ _ _ _ refl refl refl (no_start now _ (input_too_long l))))

@@ -21,18 +21,21 @@ returns-then-bytes-gt-MOST_TEXT-clause-reply g c =
 pub returns-in-Ok-clause-reply : goal.returns-in-Ok-clause-reply
 returns-in-Ok-clause-reply g c =
     let short : length c.args.bytes.now ≤ most_text = omega arith in
-    command_through c.args.c c.args.bytes.now (of_text c.in-Ok.presentation) c.requires.read (from_text short c.requires.plain c.in-Ok.presentation c.in-Ok.ensures.read) _ _ _ c.answer_start.ensures.reply
+    command_through c.args.c c.args.bytes.now (of_text c.in-Ok.presentation) c.requires.read
+    (from_text short c.requires.plain c.in-Ok.presentation c.in-Ok.ensures.read) _ _ _ c.answer_start.ensures.reply
 
 pub returns-in-Err-Refused-clause-reply : goal.returns-in-Err-Refused-clause-reply
 returns-in-Err-Refused-clause-reply g c =
     let short : length c.args.bytes.now ≤ most_text = omega arith in
     rw c.in-Err-Refused.field-0-is
-    (leaves_quiet _ _ _ _ _ refl refl refl (no_start c.requires.read _ (no_presentation short c.requires.plain _ _ (rw c.in-Err-Refused.field-0-is at c.in-Err-Refused.ensures.read))))
+    (leaves_quiet _ _ _ _ _ refl refl refl (no_start c.requires.read _ (no_presentation short c.requires.plain _ _
+    (rw c.in-Err-Refused.field-0-is at c.in-Err-Refused.ensures.read))))
 
 pub returns-in-Ok-clause-cost : goal.returns-in-Ok-clause-cost
 returns-in-Ok-clause-cost g c =
     let short : length c.args.bytes.now ≤ most_text = omega arith in
-    costs_start c.args.c c.args.bytes.now (of_text c.in-Ok.presentation) c.args.steps.now c.answer_start.new.steps (from_text short c.requires.plain c.in-Ok.presentation c.in-Ok.ensures.read)
+    costs_start c.args.c c.args.bytes.now (of_text c.in-Ok.presentation) c.args.steps.now c.answer_start.new.steps
+    (from_text short c.requires.plain c.in-Ok.presentation c.in-Ok.ensures.read)
     c.answer_start.ensures.rises c.answer_start.ensures.idle c.answer_start.ensures.cost
 
 pub returns-in-Err-NoMemory-clause-reply : goal.returns-in-Err-NoMemory-clause-reply

@@ -13,12 +13,14 @@ returns-in_default-clause-reply g c = leaves_quiet _ _ _ _ _ refl refl refl (not
 pub returns-in-Rational-clause-reply : goal.returns-in-Rational-clause-reply
 returns-in-Rational-clause-reply g c =
     let s = start_in c.args.begin c.args.bytes.now in
-    start_through c.args.c s c.in-Some.way (sym c.in-Some.ensures) _ _ _ (c.run_through.ensures.reply s (begun_start c.args.begin c.args.bytes.now c.begin_run.result c.begin_run.ensures))
+    start_through c.args.c s c.in-Some.way (sym c.in-Some.ensures) _ _ _ (c.run_through.ensures.reply s
+    (begun_start c.args.begin c.args.bytes.now c.begin_run.result c.begin_run.ensures))
 
 pub returns-in-Rational-clause-cost : goal.returns-in-Rational-clause-cost
 returns-in-Rational-clause-cost g c =
     let s = start_in c.args.begin c.args.bytes.now in
-    costs_task c.args.c s c.in-Some.way (sym c.in-Some.ensures) _ _ (c.run_through.ensures.cost s (begun_start c.args.begin c.args.bytes.now c.begin_run.result c.begin_run.ensures))
+    costs_task c.args.c s c.in-Some.way (sym c.in-Some.ensures) _ _ (c.run_through.ensures.cost s
+    (begun_start c.args.begin c.args.bytes.now c.begin_run.result c.begin_run.ensures))
 
 pub returns-in-Some-of-clause-reply : goal.returns-in-Some-of-clause-reply
 returns-in-Some-of-clause-reply g c =

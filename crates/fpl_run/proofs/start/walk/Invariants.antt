@@ -10,9 +10,11 @@ invariant-weights g l = record {
   version : l.run.version ≡ l.fn.run.version;
   within : l.run.stage.table.weight ≤ l.task.limit;
   left : walk_of (does_compute l.task.way) l.task.entries l.fn.run.presentation (stored_in l.fn.run l.bytes) l.task.limit l.fn.run.stage
-      ≡ walk_of (does_compute l.task.way) l.task.entries l.fn.run.presentation (stored_in l.fn.run l.bytes) (l.task.limit - l.run.stage.table.weight) l.run.stage;
+      ≡ walk_of (does_compute l.task.way) l.task.entries l.fn.run.presentation (stored_in l.fn.run l.bytes)
+      (l.task.limit - l.run.stage.table.weight) l.run.stage;
   later : l.fn.steps ≤ l.steps;
-  cost : l.steps + cost_of (does_compute l.task.way) l.task.entries l.fn.run.presentation (stored_in l.fn.run l.bytes) (l.task.limit - l.run.stage.table.weight) l.run.stage
+  cost : l.steps + cost_of (does_compute l.task.way) l.task.entries l.fn.run.presentation (stored_in l.fn.run l.bytes)
+      (l.task.limit - l.run.stage.table.weight) l.run.stage
       ≤ l.fn.steps + cost_of (does_compute l.task.way) l.task.entries l.fn.run.presentation (stored_in l.fn.run l.bytes) l.task.limit l.fn.run.stage;
 }
 

@@ -12,11 +12,13 @@ invariant-weights g l = record {
   version : l.run.version ≡ l.fn.run.version;
   within : l.run.stage.table.weight ≤ l.task.limit;
   left : walk_of (does_compute l.task.way) l.task.entries l.fn.run.presentation (stored_in l.fn.run l.bytes) l.task.limit l.fn.run.stage
-      ≡ walk_of (does_compute l.task.way) l.task.entries l.fn.run.presentation (stored_in l.fn.run l.bytes) (l.task.limit - l.run.stage.table.weight) l.run.stage;
+      ≡ walk_of (does_compute l.task.way) l.task.entries l.fn.run.presentation (stored_in l.fn.run l.bytes)
+      (l.task.limit - l.run.stage.table.weight) l.run.stage;
   taken : Takes (g.O.Sink.taken l.fn.out) (g.O.Sink.taken l.out) (stream_text l.fn.run.presentation l.run.stage.sections);
   unhurt : g.O.Sink.faults l.fn.out ≤ g.O.Sink.faults l.out;
   later : l.fn.steps ≤ l.steps;
-  cost : l.steps + cost_of (does_compute l.task.way) l.task.entries l.fn.run.presentation (stored_in l.fn.run l.bytes) (l.task.limit - l.run.stage.table.weight) l.run.stage
+  cost : l.steps + cost_of (does_compute l.task.way) l.task.entries l.fn.run.presentation (stored_in l.fn.run l.bytes)
+      (l.task.limit - l.run.stage.table.weight) l.run.stage
       ≤ l.fn.steps + cost_of (does_compute l.task.way) l.task.entries l.fn.run.presentation (stored_in l.fn.run l.bytes) l.task.limit l.fn.run.stage;
 }
 

@@ -8,4 +8,5 @@ pub returns-clause-element : goal.returns-clause-element
 returns-clause-element c =
     let some : 0 < c.unsigned_abs-below.result = omega (arith, ints, c.unsigned_abs-below.ensures.value, c.if-b-eq0.false, c.ranges.b) in
     let most : c.unsigned_abs-below.result ≤ most_number = omega (arith, ints, c.unsigned_abs-below.ensures.value, c.requires.below, c.ranges.b) in
-    quotient_element c.args.a c.reduced_by.result c.unsigned_abs-below.result c.unsigned_abs.result c.gcd-common.result c.requires.above most some c.unsigned_abs.ensures.value c.gcd-common.ensures.value c.reduced_by.ensures
+    quotient_element c.args.a c.reduced_by.result c.unsigned_abs-below.result c.unsigned_abs.result c.gcd-common.result c.requires.above most some
+    c.unsigned_abs.ensures.value c.gcd-common.ensures.value c.reduced_by.ensures

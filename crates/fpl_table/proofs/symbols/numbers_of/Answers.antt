@@ -10,7 +10,11 @@ pub loop-s-init : goal.loop-s-init
 loop-s-init c = record { within = omega arith; numbers = λ x. rw drop-length (ap (lookup (eq-value.it x)) c.new-numbers.ensures.empty) }
 
 pub loop-s-preserved : goal.loop-s-preserved
-loop-s-preserved c = record { within = omega arith; numbers = λ x. (c.in-Ok.ensures).updates.0 x ∙ one_put c.args.list.now c.loop-s.s x (Gen 0) _ (omega arith) (omega arith) (c.loop-s.invariant.numbers x) }
+loop-s-preserved c = record {
+  within = omega arith;
+  numbers = λ x. (c.in-Ok.ensures).updates.0 x ∙
+      one_put c.args.list.now c.loop-s.s x (Gen 0) _ (omega arith) (omega arith) (c.loop-s.invariant.numbers x);
+}
 
 pub returns : goal.returns
 returns c = λ x. c.loop-s.invariant.numbers x ∙ (let e : c.loop-s.s ≡ 0 = omega arith in rw e refl)

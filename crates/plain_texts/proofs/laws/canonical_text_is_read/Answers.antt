@@ -13,7 +13,8 @@ use Rattle.plain_texts.proofs.laws.canonical_text_is_read.Goals as goal
 pub returns-clause-presentation : goal.returns-clause-presentation
 returns-clause-presentation c = has_presentation
 
-only_answer : (p : Presentation) (answer : Result Presentation ReaderError) → IsSound p → Read (canonical_of p) answer → IfOk answer (λ q. q ≡ p) × IfErr answer (λ e. e ≡ NoMemory)
+only_answer : (p : Presentation) (answer : Result Presentation ReaderError) → IsSound p → Read (canonical_of p) answer →
+    IfOk answer (λ q. q ≡ p) × IfErr answer (λ e. e ≡ NoMemory)
 only_answer p (Ok q) sound read = (one_presentation (canonical_of p) q p read (has_presentation p sound), tt)
 only_answer p (Err (Refused place why)) sound read = absurd (not_both (canonical_of p) p place why (has_presentation p sound) read)
 only_answer p (Err NoMemory) sound read = (tt, refl)

@@ -12,4 +12,5 @@ insert-requires-2-clause-elements g c =
 pub insert-requires-3-clause-elements : goal.insert-requires-3-clause-elements
 insert-requires-3-clause-elements g c =
     let P : Kind → Type 0 = λ k. AreElements k c.in_ok-row-3.field-0 in
-    subst P (sym (c.in_ok-second.ensures.kind ∙ c.in_ok-first.ensures.kind ∙ ap (λ (e : Elimination). e.kind) c.in_ok-echelon.ensures)) c.in_ok-row-3.ensures.elements
+    subst P (sym (c.in_ok-second.ensures.kind ∙ c.in_ok-first.ensures.kind ∙ ap (λ (e : Elimination). e.kind) c.in_ok-echelon.ensures))
+    c.in_ok-row-3.ensures.elements

@@ -18,7 +18,8 @@ accept-requires-clause-few g c =
 pub returns-in-Err-Unfit-clause-fractions : goal.returns-in-Err-Unfit-clause-fractions
 returns-in-Err-Unfit-clause-fractions g c = λ w op a b e.
     ap (λ (s : PlainState). s.presentation.field) (sym c.self.view_is)
-    ∙ unfit_fractions c.self.inside.table c.self.inside.presentation c.args.section c.in-Err-Unfit.u c.self.inside.presentation.field c.self.invariant.holds.kind
+    ∙ unfit_fractions c.self.inside.table c.self.inside.presentation c.args.section c.in-Err-Unfit.u c.self.inside.presentation.field
+    c.self.invariant.holds.kind
     (rw c.in-Err-Unfit.field-0-is at c.in-Err-Unfit.ensures.value)
 
 pub keep-requires-clause-rows : goal.keep-requires-clause-rows
@@ -41,7 +42,8 @@ invariant_of-self g c =
 
 pub returns-in-Ok-keep-clause-within : goal.returns-in-Ok-keep-clause-within
 returns-in-Ok-keep-clause-within g c =
-    within_then c.self.inside.table c.args.self.now.table c.keep.new.table c.in-Ok.weighed.rows c.next_count-count.result c.args.entries c.self.invariant.holds.shape
+    within_then c.self.inside.table c.args.self.now.table c.keep.new.table c.in-Ok.weighed.rows c.next_count-count.result c.args.entries
+    c.self.invariant.holds.shape
     (ap (λ (s : PlainState). s.table) c.self.view_is) c.in-Ok-keep.ensures.table c.next_count-count.ensures (omega (arith, c.if-count-entries.false))
 
 pub returns-in-Ok-keep-clause-counts : goal.returns-in-Ok-keep-clause-counts

@@ -36,7 +36,8 @@ invariant_of-self g c =
 
 pub returns-in-Ok-keep-clause-within : goal.returns-in-Ok-keep-clause-within
 returns-in-Ok-keep-clause-within g c =
-    within_then c.self.inside.table c.args.self.now.table c.keep.new.table c.in-Ok.weighed.rows c.next_count-count.result c.args.entries c.self.invariant.holds.shape
+    within_then c.self.inside.table c.args.self.now.table c.keep.new.table c.in-Ok.weighed.rows c.next_count-count.result c.args.entries
+    c.self.invariant.holds.shape
     (ap (λ (s : PlainState). s.table) c.self.view_is) c.in-Ok-keep.ensures.table c.next_count-count.ensures (omega (arith, c.if-count-entries.false))
 
 pub returns-in-Ok-keep-clause-counts : goal.returns-in-Ok-keep-clause-counts
@@ -52,4 +53,5 @@ returns-in-Ok-keep-clause-value g c =
       table = c.self.inside.table;
       sections = c.self.inside.sections;
     }) c.keep.new.table c.keep.new.sections c.in-Ok.weighed.rows c.in-Ok.weighed.section
-    (weighs c.self.inside.table c.self.inside.presentation c.in-Ok.weighed.rows c.in-Ok.weighed.section c.in-Ok.ensures.value) c.in-Ok-keep.ensures.table c.in-Ok-keep.ensures.sections)
+    (weighs c.self.inside.table c.self.inside.presentation c.in-Ok.weighed.rows c.in-Ok.weighed.section c.in-Ok.ensures.value)
+    c.in-Ok-keep.ensures.table c.in-Ok-keep.ensures.sections)

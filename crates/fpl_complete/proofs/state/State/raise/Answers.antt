@@ -28,7 +28,8 @@ loop-self-preserved g c =
       to = search rules;
       within = within_more start.table.weight s.table.weight new.table.weight c.args.entries s.table new.table next n.counts n.within i.within;
       sections = front_stays start.sections s.sections new.sections section n.sections i.sections;
-      computed = computed_more p start.table.weight s.table.weight new.table.weight s.sections new.sections section next c.weight.ensures.sections n.sections i.computed
+      computed = computed_more p start.table.weight s.table.weight new.table.weight s.sections new.sections section next c.weight.ensures.sections
+          n.sections i.computed
           (subst (λ (p : Presentation). Computes p new.table.weight (Ok section)) i.presentation n.section);
       later = (let a = i.later in let b = n.step in omega arith);
       cost = cost_next p start.table.weight c.args.d c.args.steps.now c.loop-self.steps s.table

@@ -24,7 +24,8 @@ loop-k-preserved-in-Some-lead g c =
     record {
       at_most = (let h = c.loop-k.invariant.at_most in omega arith);
       long = length-set c.loop-k.places.items (c.in-Some-lead.lead - 1) (Some (c.loop-k.k - 1)) ∙ long;
-      index = index_row c.args.rows.now c.loop-k.places.items c.loop-k.k (c.loop-k.k - 1) c.in-Some.row.now (omega arith) c.in-Some.ensures c.loop-k.invariant.index
+      index = index_row c.args.rows.now c.loop-k.places.items c.loop-k.k (c.loop-k.k - 1) c.in-Some.row.now
+          (omega arith) c.in-Some.ensures c.loop-k.invariant.index
           c.in-Some-lead.lead (sym c.in-Some-lead.ensures) place.0 (omega (arith, place.1, most, long));
     }
 
@@ -32,8 +33,10 @@ pub loop-k-preserved-in_default-lead : goal.loop-k-preserved-in_default-lead
 loop-k-preserved-in_default-lead g c = record {
   at_most = (let h = c.loop-k.invariant.at_most in omega arith);
   long = c.loop-k.invariant.long;
-  index = index_zero c.args.rows.now c.loop-k.places.items c.loop-k.k (c.loop-k.k - 1) c.in-Some.row.now (omega arith) c.in-Some.ensures c.loop-k.invariant.index (sym c.in_default-lead.ensures);
+  index = index_zero c.args.rows.now c.loop-k.places.items c.loop-k.k (c.loop-k.k - 1) c.in-Some.row.now
+      (omega arith) c.in-Some.ensures c.loop-k.invariant.index (sym c.in_default-lead.ensures);
 }
 
 pub loop-k-preserved : goal.loop-k-preserved
-loop-k-preserved g c = absurd (let l : length c.args.rows.now ≤ c.loop-k.k - 1 = past_end c.args.rows.now (c.loop-k.k - 1) c.in_default.ensures in let h = c.loop-k.invariant.at_most in omega arith)
+loop-k-preserved g c = absurd (let l : length c.args.rows.now ≤ c.loop-k.k - 1 = past_end c.args.rows.now (c.loop-k.k - 1) c.in_default.ensures in
+    let h = c.loop-k.invariant.at_most in omega arith)

@@ -10,4 +10,5 @@ pub returns-in-None-clause-value : goal.returns-in-None-clause-value
 returns-in-None-clause-value g c =
     let list : firsts_from c.args.table.now c.args.t.first c.args.t.second c.args.t.third ++ cubes_of c.args.table.now ≡ cubes_from c.args.table.now 0 =
     ap (λ xs. xs ++ cubes_of c.args.table.now) c.in-None.ensures.value ∙ cubes_are c.args.table.now in
-    subst (λ (xs : List Origin). IsNext c.args.table.now c.args.p.now xs c.next_from_cube.result c.next_from_cube.new.self.place) (sym list) c.next_from_cube.ensures.value
+    subst (λ (xs : List Origin). IsNext c.args.table.now c.args.p.now xs c.next_from_cube.result c.next_from_cube.new.self.place)
+    (sym list) c.next_from_cube.ensures.value

@@ -11,5 +11,6 @@ invariant-loop-i g l = record {
       ≡ map_ok (λ rest. take l.i (map g.Self.Field.number l.row) ++ rest)
       (axpy_of (g.Self.Field.kind_of l.self) (drop l.i (map g.Self.Field.number l.row)) (g.Self.Field.number l.c) (drop l.i (map g.Self.Field.number l.other)));
   stands : axpied (g.Self.Field.kind_of l.self) (map g.Self.Field.number l.initial.row) (g.Self.Field.number l.c) (map g.Self.Field.number l.other)
-      ≡ take l.i (map g.Self.Field.number l.row) ++ axpied (g.Self.Field.kind_of l.self) (drop l.i (map g.Self.Field.number l.row)) (g.Self.Field.number l.c) (drop l.i (map g.Self.Field.number l.other));
+      ≡ take l.i (map g.Self.Field.number l.row) ++ axpied (g.Self.Field.kind_of l.self) (drop l.i (map g.Self.Field.number l.row))
+      (g.Self.Field.number l.c) (drop l.i (map g.Self.Field.number l.other));
 }

@@ -10,26 +10,35 @@ mul-requires-clause-right g c = element_at (g.Self.Field.kind_of c.args.self.now
 
 pub returns-in-Err-clause-value : goal.returns-in-Err-clause-value
 returns-in-Err-clause-value g c = stops _ _ _ _ c.loop-i.invariant.left
-    (scale_mul (g.Self.Field.kind_of c.args.self.now) g.Self.Field.number c.loop-i.row (g.Self.Field.number c.args.c) c.loop-i.i c.index-row-i.result (omega arith) c.index-row-i.is c.in-Err.u c.in-Err.ensures.value)
+    (scale_mul (g.Self.Field.kind_of c.args.self.now) g.Self.Field.number c.loop-i.row (g.Self.Field.number c.args.c) c.loop-i.i c.index-row-i.result
+    (omega arith) c.index-row-i.is c.in-Err.u c.in-Err.ensures.value)
 
 pub returns-in-Err-clause-row : goal.returns-in-Err-clause-row
 returns-in-Err-clause-row g c = left_standing g.Self.Field.number c.loop-i.row c.loop-i.i _ _ c.loop-i.invariant.stands
-    (scaled_mul (g.Self.Field.kind_of c.args.self.now) g.Self.Field.number c.loop-i.row (g.Self.Field.number c.args.c) c.loop-i.i c.index-row-i.result (omega arith) c.index-row-i.is c.in-Err.u c.in-Err.ensures.value)
+    (scaled_mul (g.Self.Field.kind_of c.args.self.now) g.Self.Field.number c.loop-i.row (g.Self.Field.number c.args.c) c.loop-i.i c.index-row-i.result
+    (omega arith) c.index-row-i.is c.in-Err.u c.in-Err.ensures.value)
 
 pub loop-i-preserved : goal.loop-i-preserved
 loop-i-preserved g c = record {
-  elements = elements_set (g.Self.Field.kind_of c.args.self.now) g.Self.Field.number c.loop-i.row c.loop-i.i c.in-Ok.v c.loop-i.invariant.elements c.in-Ok.ensures.element;
-  left = c.loop-i.invariant.left ∙ scale_step (g.Self.Field.kind_of c.args.self.now) g.Self.Field.number c.loop-i.row (g.Self.Field.number c.args.c) c.loop-i.i c.index-row-i.result (omega arith) c.index-row-i.is c.in-Ok.v c.in-Ok.ensures.value;
-  stands = c.loop-i.invariant.stands ∙ scaled_step (g.Self.Field.kind_of c.args.self.now) g.Self.Field.number c.loop-i.row (g.Self.Field.number c.args.c) c.loop-i.i c.index-row-i.result (omega arith) c.index-row-i.is c.in-Ok.v c.in-Ok.ensures.value;
+  elements = elements_set (g.Self.Field.kind_of c.args.self.now) g.Self.Field.number c.loop-i.row c.loop-i.i c.in-Ok.v c.loop-i.invariant.elements
+      c.in-Ok.ensures.element;
+  left = c.loop-i.invariant.left ∙ scale_step (g.Self.Field.kind_of c.args.self.now) g.Self.Field.number c.loop-i.row
+      (g.Self.Field.number c.args.c) c.loop-i.i c.index-row-i.result (omega arith) c.index-row-i.is c.in-Ok.v c.in-Ok.ensures.value;
+  stands = c.loop-i.invariant.stands ∙ scaled_step (g.Self.Field.kind_of c.args.self.now) g.Self.Field.number c.loop-i.row
+      (g.Self.Field.number c.args.c) c.loop-i.i c.index-row-i.result (omega arith) c.index-row-i.is c.in-Ok.v c.in-Ok.ensures.value;
 }
 
 pub loop-i-preserved-then-is_zero : goal.loop-i-preserved-then-is_zero
 loop-i-preserved-then-is_zero g c =
     let z : is_nought (g.Self.Field.number c.index-row-i.result) ≡ true = grind (arith, c.is_zero.ensures, c.if-is_zero.true) in
-    let same : operate (g.Self.Field.kind_of c.args.self.now) Mul (g.Self.Field.number c.args.c) (g.Self.Field.number c.index-row-i.result) ≡ Ok (g.Self.Field.number c.index-row-i.result) =
-    nothing_multiplied (g.Self.Field.kind_of c.args.self.now) _ _ c.requires.factor (element_at (g.Self.Field.kind_of c.args.self.now) _ _ _ _ c.loop-i.invariant.elements (omega arith) c.index-row-i.is) z in
+    let same : operate (g.Self.Field.kind_of c.args.self.now) Mul (g.Self.Field.number c.args.c) (g.Self.Field.number c.index-row-i.result) ≡
+    Ok (g.Self.Field.number c.index-row-i.result) =
+    nothing_multiplied (g.Self.Field.kind_of c.args.self.now) _ _ c.requires.factor (element_at
+    (g.Self.Field.kind_of c.args.self.now) _ _ _ _ c.loop-i.invariant.elements (omega arith) c.index-row-i.is) z in
     record {
       elements = c.loop-i.invariant.elements;
-      left = c.loop-i.invariant.left ∙ scale_pass (g.Self.Field.kind_of c.args.self.now) g.Self.Field.number c.loop-i.row (g.Self.Field.number c.args.c) c.loop-i.i c.index-row-i.result (omega arith) c.index-row-i.is same;
-      stands = c.loop-i.invariant.stands ∙ scaled_pass (g.Self.Field.kind_of c.args.self.now) g.Self.Field.number c.loop-i.row (g.Self.Field.number c.args.c) c.loop-i.i c.index-row-i.result (omega arith) c.index-row-i.is same;
+      left = c.loop-i.invariant.left ∙ scale_pass (g.Self.Field.kind_of c.args.self.now) g.Self.Field.number c.loop-i.row
+          (g.Self.Field.number c.args.c) c.loop-i.i c.index-row-i.result (omega arith) c.index-row-i.is same;
+      stands = c.loop-i.invariant.stands ∙ scaled_pass (g.Self.Field.kind_of c.args.self.now) g.Self.Field.number c.loop-i.row
+          (g.Self.Field.number c.args.c) c.loop-i.i c.index-row-i.result (omega arith) c.index-row-i.is same;
     }

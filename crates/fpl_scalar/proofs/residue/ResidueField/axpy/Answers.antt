@@ -14,7 +14,8 @@ axpy-requires-clause-other c = below_from_elements c.args.self.now.p c.args.othe
 pub returns-clause-elements : goal.returns-clause-elements
 returns-clause-elements c =
     let below : AllBelow c.args.self.now.p (added c.args.self.now.p c.args.row.now c.args.c c.args.other.now) =
-    added_below c.args.self.now.p c.args.row.now c.args.c c.args.other.now (omega arith) (below_from_elements c.args.self.now.p c.args.row.now c.requires.row) in
+    added_below c.args.self.now.p c.args.row.now c.args.c c.args.other.now (omega arith)
+    (below_from_elements c.args.self.now.p c.args.row.now c.requires.row) in
     elements_from_below c.args.self.now.p c.axpy.new.row (subst (AllBelow c.args.self.now.p) (sym c.axpy.ensures) below)
 
 pub returns-clause-value : goal.returns-clause-value

@@ -10,7 +10,8 @@ scale-requires-clause-row c = below_from_elements c.args.self.now.p c.args.row.n
 
 pub returns-clause-elements : goal.returns-clause-elements
 returns-clause-elements c =
-    let below : AllBelow c.args.self.now.p (multiplied c.args.self.now.p c.args.c c.args.row.now) = multiplied_below c.args.self.now.p c.args.c c.args.row.now (omega arith) in
+    let below : AllBelow c.args.self.now.p (multiplied c.args.self.now.p c.args.c c.args.row.now) =
+    multiplied_below c.args.self.now.p c.args.c c.args.row.now (omega arith) in
     elements_from_below c.args.self.now.p c.scale.new.row (subst (AllBelow c.args.self.now.p) (sym c.scale.ensures) below)
 
 pub returns-clause-value : goal.returns-clause-value

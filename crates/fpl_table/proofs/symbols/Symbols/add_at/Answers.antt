@@ -6,4 +6,5 @@ use Rattle.fpl_table.proofs.symbols.Symbols.add_at.Goals as goal
 
 pub returns-in-None-clause-value : goal.returns-in-None-clause-value
 returns-in-None-clause-value g c =
-    add_past (g.F.Field.kind_of c.args.field.now) c.args.row.now (place_of (symbol_in c.args.x) c.args.self.now.symbols) (g.F.Field.number c.args.c) c.requires.added (let e = c.in-None.ensures in omega (arith, e))
+    add_past (g.F.Field.kind_of c.args.field.now) c.args.row.now (place_of (symbol_in c.args.x) c.args.self.now.symbols)
+    (g.F.Field.number c.args.c) c.requires.added (let e = c.in-None.ensures in omega (arith, e))

@@ -13,5 +13,6 @@ invariant-sum_of-loop-e g l = record {
   few : count_trees (trees (map plain (drop l.e-index l.e-items))) ≤ count_trees (trees (map plain l.members));
   elements : AreElements l.self.kind l.sum;
   whole : length l.sum ≡ length l.self.basis;
-  left : values_of l.self (trees (map plain l.members)) (zero_row (length l.self.basis)) ≡ values_of l.self (trees (map plain (drop l.e-index l.e-items))) l.sum;
+  left : values_of l.self (trees (map plain l.members)) (zero_row (length l.self.basis)) ≡ values_of l.self
+      (trees (map plain (drop l.e-index l.e-items))) l.sum;
 }

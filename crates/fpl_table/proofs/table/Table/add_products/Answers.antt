@@ -23,7 +23,8 @@ add_product-requires-clause-second g c =
     let h = next_is_at c.args.b.now c.loop-j.after c.in-Some.j c.in-Some.ensures in
     let from = h.from_one in
     let end = h.to_end in
-    subst (λ (n : Num). IsElement c.args.self.now.kind n) (sym c.at.ensures) (c.requires.second.elements (c.in-Some.j - 1) (residue 0) (omega (arith, from, end)))
+    subst (λ (n : Num). IsElement c.args.self.now.kind n) (sym c.at.ensures) (c.requires.second.elements (c.in-Some.j - 1) (residue 0)
+    (omega (arith, from, end)))
 
 pub loop-j-smaller : goal.loop-j-smaller
 loop-j-smaller g c =
@@ -35,7 +36,8 @@ loop-j-smaller g c =
 pub loop-j-preserved : goal.loop-j-preserved
 loop-j-preserved g c =
     let T = c.args.self.now in
-    let add = λ (j : ℕ) (y : Num) (v : List Num). add_product T (g.P.PairTerm.term c.args.pairs.now T) (pairing T (c.args.x.0 - 1) j) (g.F.Field.number c.args.x.1) y v in
+    let add = λ (j : ℕ) (y : Num) (v : List Num). add_product T (g.P.PairTerm.term c.args.pairs.now T) (pairing T (c.args.x.0 - 1) j)
+    (g.F.Field.number c.args.x.1) y v in
     let h = next_is_at c.args.b.now c.loop-j.after c.in-Some.j c.in-Some.ensures in
     record {
       within = h.to_end;
@@ -49,7 +51,8 @@ loop-j-preserved g c =
 pub returns-in-Err-clause-value : goal.returns-in-Err-clause-value
 returns-in-Err-clause-value g c =
     let T = c.args.self.now in
-    let add = λ (j : ℕ) (y : Num) (v : List Num). add_product T (g.P.PairTerm.term c.args.pairs.now T) (pairing T (c.args.x.0 - 1) j) (g.F.Field.number c.args.x.1) y v in
+    let add = λ (j : ℕ) (y : Num) (v : List Num). add_product T (g.P.PairTerm.term c.args.pairs.now T) (pairing T (c.args.x.0 - 1) j)
+    (g.F.Field.number c.args.x.1) y v in
     fault_next (λ w. add_each add c.in-Some.j (drop c.in-Some.j c.args.b.now) w) c.in-Err.fault _ _
     (c.loop-j.invariant.left ∙ to_next add c.args.b.now c.loop-j.after c.in-Some.j c.loop-j.sum c.in-Some.ensures
     ∙ ap (λ (n : Num). and_then (λ w. add_each add c.in-Some.j (drop c.in-Some.j c.args.b.now) w) (add (c.in-Some.j - 1) n c.loop-j.sum)) (sym c.at.ensures))
@@ -58,5 +61,6 @@ returns-in-Err-clause-value g c =
 pub returns-clause-value : goal.returns-clause-value
 returns-clause-value g c =
     let T = c.args.self.now in
-    let add = λ (j : ℕ) (y : Num) (v : List Num). add_product T (g.P.PairTerm.term c.args.pairs.now T) (pairing T (c.args.x.0 - 1) j) (g.F.Field.number c.args.x.1) y v in
+    let add = λ (j : ℕ) (y : Num) (v : List Num). add_product T (g.P.PairTerm.term c.args.pairs.now T) (pairing T (c.args.x.0 - 1) j)
+    (g.F.Field.number c.args.x.1) y v in
     c.loop-j.invariant.left ∙ to_end add c.args.b.now c.loop-j.after c.loop-j.sum c.loop-j.invariant.within c.in_default.ensures

@@ -10,7 +10,8 @@ invariant-loop-j g l = record {
   elements : AreElements l.self.kind l.sum;
   whole : length l.sum ≡ length l.initial.sum;
   left : add_products l.self (g.P.PairTerm.term l.pairs l.self) (l.x.0 - 1) (g.F.Field.number l.x.1) l.b l.initial.sum
-      ≡ add_each (λ j y v. add_product l.self (g.P.PairTerm.term l.pairs l.self) (pairing l.self (l.x.0 - 1) j) (g.F.Field.number l.x.1) y v) l.after (drop l.after l.b) l.sum;
+      ≡ add_each (λ j y v. add_product l.self (g.P.PairTerm.term l.pairs l.self) (pairing l.self (l.x.0 - 1) j) (g.F.Field.number l.x.1) y v) l.after
+      (drop l.after l.b) l.sum;
 }
 
 abbrev pub decreases-loop-j : goal.decreases-loop-j

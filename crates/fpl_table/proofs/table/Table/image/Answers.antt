@@ -13,8 +13,10 @@ index-requires-3 g c =
     let many : length (map shape_in c.self.inside.shapes.items) ≡ length c.args.self.now.generators = ap (λ T. length T.generators) c.self.view_is in
     let h = simp length-map at many in
     let weight : (generator_at c.args.self.now (c.args.g - 1)).weight ≡ c.index.result.now.weight =
-    generator_weight c.args.self.now c.self.inside.shapes.items (ap (λ T. T.generators) c.self.view_is) (c.args.g - 1) c.index.result.now (omega (arith, h)) c.index.ensures in
-    let within = image_within c.args.self.now shape (c.args.g - 1) (omega arith) c.requires.reached c.self.inside.levels.items (λ l. l.images.items) (ap (λ T. T.images) c.self.view_is) c.index-2.result.now
+    generator_weight c.args.self.now c.self.inside.shapes.items (ap (λ T. T.generators) c.self.view_is) (c.args.g - 1) c.index.result.now
+    (omega (arith, h)) c.index.ensures in
+    let within = image_within c.args.self.now shape (c.args.g - 1) (omega arith) c.requires.reached c.self.inside.levels.items (λ l. l.images.items)
+    (ap (λ T. T.images) c.self.view_is) c.index-2.result.now
     (rw weight c.index-2.ensures) in
     omega (arith, within)
 
@@ -24,8 +26,10 @@ returns-clause-value g c =
     let many : length (map shape_in c.self.inside.shapes.items) ≡ length c.args.self.now.generators = ap (λ T. length T.generators) c.self.view_is in
     let h = simp length-map at many in
     let weight : (generator_at c.args.self.now (c.args.g - 1)).weight ≡ c.index.result.now.weight =
-    generator_weight c.args.self.now c.self.inside.shapes.items (ap (λ T. T.generators) c.self.view_is) (c.args.g - 1) c.index.result.now (omega (arith, h)) c.index.ensures in
-    image_found c.args.self.now shape (c.args.g - 1) (omega arith) c.requires.reached c.self.inside.levels.items (λ l. l.images.items) (ap (λ T. T.images) c.self.view_is) c.index-2.result.now
+    generator_weight c.args.self.now c.self.inside.shapes.items (ap (λ T. T.generators) c.self.view_is) (c.args.g - 1) c.index.result.now
+    (omega (arith, h)) c.index.ensures in
+    image_found c.args.self.now shape (c.args.g - 1) (omega arith) c.requires.reached c.self.inside.levels.items (λ l. l.images.items)
+    (ap (λ T. T.images) c.self.view_is) c.index-2.result.now
     (rw weight c.index-2.ensures) c.index-3.result.now c.index-3.ensures
 
 pub returns-clause-row : goal.returns-clause-row

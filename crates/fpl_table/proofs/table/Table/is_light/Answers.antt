@@ -5,7 +5,8 @@ use Rattle.fpl_table.proofs.Light.{light_by}
 use Rattle.fpl_table.proofs.table.Table.is_light.Goals as goal
 
 pub returns-in-Any : goal.returns-in-Any
-returns-in-Any g c = sym (light_by c.args.self.now c.args.p.now (plain c.args.e.now) c.requires.agrees ∙ ap (is_weight_light c.args.self.now.weight) (sym c.in-Any.ensures))
+returns-in-Any g c = sym (light_by c.args.self.now c.args.p.now (plain c.args.e.now) c.requires.agrees ∙
+    ap (is_weight_light c.args.self.now.weight) (sym c.in-Any.ensures))
 
 pub returns-in-Exact : goal.returns-in-Exact
 returns-in-Exact g c =
@@ -13,4 +14,5 @@ returns-in-Exact g c =
     (sym (light_by c.args.self.now c.args.p.now (plain c.args.e.now) c.requires.agrees ∙ ap (is_weight_light c.args.self.now.weight) (sym c.in-Exact.ensures)))
 
 pub returns-in-Mixed : goal.returns-in-Mixed
-returns-in-Mixed g c = sym (light_by c.args.self.now c.args.p.now (plain c.args.e.now) c.requires.agrees ∙ ap (is_weight_light c.args.self.now.weight) (sym c.in-Mixed.ensures))
+returns-in-Mixed g c = sym (light_by c.args.self.now c.args.p.now (plain c.args.e.now) c.requires.agrees ∙
+    ap (is_weight_light c.args.self.now.weight) (sym c.in-Mixed.ensures))

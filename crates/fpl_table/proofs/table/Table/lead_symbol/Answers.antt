@@ -35,7 +35,8 @@ pub overflow_add-basis : goal.overflow_add-basis
 overflow_add-basis g c =
     let h = next_is_at c.args.row.now c.loop-s.after c.in-Some.s c.in-Some.ensures in
     let place : c.in-Some.s - 1 < length (symbols_in c.args.self.now) = omega (arith, h.from_one, h.to_end, c.requires.row.length_is) in
-    let rank = rank_at c.args.closed.now.rows.now (length (symbols_in c.args.self.now)) c.args.closed.now.ranks.items c.requires.solved.places.are_ranks (c.in-Some.s - 1) c.index-then-index-eq0.result.now place c.index-then-index-eq0.ensures in
+    let rank = rank_at c.args.closed.now.rows.now (length (symbols_in c.args.self.now)) c.args.closed.now.ranks.items
+    c.requires.solved.places.are_ranks (c.in-Some.s - 1) c.index-then-index-eq0.result.now place c.index-then-index-eq0.ensures in
     let few = free_few c.args.closed.now.rows.now (c.in-Some.s - 1) in
     let shape = c.basis_len-basis.ensures.shape in
     omega (arith, rank, few, place, c.requires.solved.few, shape.small, shape.weight, c.basis_len-basis.ensures.value)
@@ -54,16 +55,22 @@ loop-s-preserved-in_ok-push-2 g c =
     let h = next_is_at c.args.row.now c.loop-s.after c.in-Some.s c.in-Some.ensures in
     let place : c.in-Some.s - 1 < length (symbols_in c.args.self.now) = omega (arith, h.from_one, h.to_end, c.requires.row.length_is) in
     let leads = c.requires.solved.places.are_leads in
-    let lead = lead_at rows (length (symbols_in c.args.self.now)) c.args.closed.now.leads.items leads (c.in-Some.s - 1) c.index.result.now place c.index.ensures in
-    let rank = rank_at rows (length (symbols_in c.args.self.now)) c.args.closed.now.ranks.items c.requires.solved.places.are_ranks (c.in-Some.s - 1) c.index-then-index-eq0.result.now place c.index-then-index-eq0.ensures in
-    let number : g.F.Field.number c.neg.result ≡ negative_of c.args.self.now.kind (get_or c.args.row.now (c.in-Some.s - 1) (residue 0)) = rw (c.neg.ensures.value, c.field-field.ensures, c.at.ensures) refl in
+    let lead = lead_at rows (length (symbols_in c.args.self.now)) c.args.closed.now.leads.items leads
+    (c.in-Some.s - 1) c.index.result.now place c.index.ensures in
+    let rank = rank_at rows (length (symbols_in c.args.self.now)) c.args.closed.now.ranks.items c.requires.solved.places.are_ranks
+    (c.in-Some.s - 1) c.index-then-index-eq0.result.now place c.index-then-index-eq0.ensures in
+    let number : g.F.Field.number c.neg.result ≡ negative_of c.args.self.now.kind (get_or c.args.row.now (c.in-Some.s - 1) (residue 0)) =
+    rw (c.neg.ensures.value, c.field-field.ensures, c.at.ensures) refl in
     let one : IsElement c.args.self.now.kind (g.F.Field.number c.neg.result) = rw (← c.field-field.ensures) c.neg.ensures.element in
     record {
       within = h.to_end;
       tells = rw (c.in_ok-push.ensures.items, c.in_ok-push-2.ensures.items, map-append)
-          (number_told (length c.args.self.now.basis) c.args.self.now.kind rows (length (symbols_in c.args.self.now)) c.args.closed.now.leads.items leads c.args.row.now c.requires.row
-          c.loop-s.places.items (map g.F.Field.number c.loop-s.numbers.items) c.loop-s.after c.in-Some.s c.in-Some.ensures c.loop-s.invariant.tells (lead ∙ c.if-index-eq0.true)
-          (c.basis_len-basis.result + c.index-then-index-eq0.result.now) (g.F.Field.number c.neg.result) (omega (arith, rank, c.basis_len-basis.ensures.value)) number);
+          (number_told (length c.args.self.now.basis) c.args.self.now.kind rows (length (symbols_in c.args.self.now)) c.args.closed.now.leads.items
+          leads c.args.row.now c.requires.row
+          c.loop-s.places.items (map g.F.Field.number c.loop-s.numbers.items) c.loop-s.after c.in-Some.s c.in-Some.ensures c.loop-s.invariant.tells
+          (lead ∙ c.if-index-eq0.true)
+          (c.basis_len-basis.result + c.index-then-index-eq0.result.now) (g.F.Field.number c.neg.result)
+          (omega (arith, rank, c.basis_len-basis.ensures.value)) number);
       elements = rw (c.in_ok-push-2.ensures.items, map-append) (all_push (IsElement c.args.self.now.kind) _ _ c.loop-s.invariant.elements one);
     }
 
@@ -72,11 +79,14 @@ loop-s-preserved g c =
     let h = next_is_at c.args.row.now c.loop-s.after c.in-Some.s c.in-Some.ensures in
     let place : c.in-Some.s - 1 < length (symbols_in c.args.self.now) = omega (arith, h.from_one, h.to_end, c.requires.row.length_is) in
     let leads = c.requires.solved.places.are_leads in
-    let lead = lead_at c.args.closed.now.rows.now (length (symbols_in c.args.self.now)) c.args.closed.now.leads.items leads (c.in-Some.s - 1) c.index.result.now place c.index.ensures in
+    let lead = lead_at c.args.closed.now.rows.now (length (symbols_in c.args.self.now)) c.args.closed.now.leads.items leads
+    (c.in-Some.s - 1) c.index.result.now place c.index.ensures in
     record {
       within = h.to_end;
-      tells = lead_passed (length c.args.self.now.basis) c.args.self.now.kind c.args.closed.now.rows.now (length (symbols_in c.args.self.now)) c.args.closed.now.leads.items leads c.args.row.now c.requires.row
-          c.loop-s.places.items (map g.F.Field.number c.loop-s.numbers.items) c.loop-s.after c.in-Some.s c.in-Some.ensures c.loop-s.invariant.tells (λ e. c.if-index-eq0.false (sym lead ∙ e));
+      tells = lead_passed (length c.args.self.now.basis) c.args.self.now.kind c.args.closed.now.rows.now
+          (length (symbols_in c.args.self.now)) c.args.closed.now.leads.items leads c.args.row.now c.requires.row
+          c.loop-s.places.items (map g.F.Field.number c.loop-s.numbers.items) c.loop-s.after c.in-Some.s c.in-Some.ensures c.loop-s.invariant.tells
+          (λ e. c.if-index-eq0.false (sym lead ∙ e));
       elements = c.loop-s.invariant.elements;
     }
 
@@ -88,8 +98,10 @@ spread-requires g c =
     let free = ap length c.requires.solved.places.free_is in
     let size : c.size_with-size.result ≡ n + length (free_in rows m) = omega (arith, free, c.size_with-size.ensures.value) in
     let told = all_told n c.args.self.now.kind rows m c.args.closed.now.leads.items c.requires.solved.places.are_leads c.args.row.now c.requires.row
-    c.loop-s.places.items (map g.F.Field.number c.loop-s.numbers.items) c.loop-s.after c.loop-s.invariant.within c.in_default.ensures c.loop-s.invariant.tells in
-    rw (c.deref.ensures.value, c.deref-2.ensures.value) (told_packing g.F.Field.number n _ (free_in rows m) c.loop-s.places.items c.loop-s.numbers.items c.size_with-size.result size told)
+    c.loop-s.places.items (map g.F.Field.number c.loop-s.numbers.items) c.loop-s.after c.loop-s.invariant.within c.in_default.ensures
+    c.loop-s.invariant.tells in
+    rw (c.deref.ensures.value, c.deref-2.ensures.value)
+    (told_packing g.F.Field.number n _ (free_in rows m) c.loop-s.places.items c.loop-s.numbers.items c.size_with-size.result size told)
 
 pub returns-clause-value : goal.returns-clause-value
 returns-clause-value g c =
@@ -99,7 +111,8 @@ returns-clause-value g c =
     let free = ap length c.requires.solved.places.free_is in
     let size : c.size_with-size.result ≡ n + length (free_in rows m) = omega (arith, free, c.size_with-size.ensures.value) in
     let told = all_told n c.args.self.now.kind rows m c.args.closed.now.leads.items c.requires.solved.places.are_leads c.args.row.now c.requires.row
-    c.loop-s.places.items (map g.F.Field.number c.loop-s.numbers.items) c.loop-s.after c.loop-s.invariant.within c.in_default.ensures c.loop-s.invariant.tells in
+    c.loop-s.places.items (map g.F.Field.number c.loop-s.numbers.items) c.loop-s.after c.loop-s.invariant.within c.in_default.ensures
+    c.loop-s.invariant.tells in
     ok_more _ _ c.spread.result
     (λ row e. e ∙ ap₂ (λ ps ys. spread c.size_with-size.result ps (map g.F.Field.number ys)) c.deref.ensures.value c.deref-2.ensures.value
     ∙ told_row g.F.Field.number n _ (free_in rows m) c.loop-s.places.items c.loop-s.numbers.items c.size_with-size.result size told
@@ -111,5 +124,6 @@ returns-clause-elements g c =
     let kind = c.args.self.now.kind in
     let all : AreElements kind (map g.F.Field.number c.deref-2.result.now) = rw c.deref-2.ensures.value c.loop-s.invariant.elements in
     ok_more _ _ c.spread.result
-    (λ row e. subst (AreElements kind) (sym e) (spread_elements kind c.size_with-size.result c.deref.result.now (map g.F.Field.number c.deref-2.result.now) (nought_element kind c.basis_len-basis.ensures.shape.field) all))
+    (λ row e. subst (AreElements kind) (sym e) (spread_elements kind c.size_with-size.result c.deref.result.now
+    (map g.F.Field.number c.deref-2.result.now) (nought_element kind c.basis_len-basis.ensures.shape.field) all))
     c.spread.ensures

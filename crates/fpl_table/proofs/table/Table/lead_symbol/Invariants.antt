@@ -8,7 +8,8 @@ use Rattle.fpl_table.proofs.table.Table.lead_symbol.Given as goal
 abbrev pub invariant-loop-s : goal.invariant-loop-s
 invariant-loop-s g l = record {
   within : l.after ≤ length l.row;
-  tells : Tells (length l.self.basis) (λ u. negative_of l.self.kind (get_or l.row u (residue 0))) (free_in l.closed.rows.now l.after) l.places.items (map g.F.Field.number l.numbers.items);
+  tells : Tells (length l.self.basis) (λ u. negative_of l.self.kind (get_or l.row u (residue 0))) (free_in l.closed.rows.now l.after) l.places.items
+      (map g.F.Field.number l.numbers.items);
   elements : AreElements l.self.kind (map g.F.Field.number l.numbers.items);
 }
 

@@ -46,7 +46,9 @@ loop-i-preserved g c =
       few = omega (arith, row, most, count, c.loop-i.invariant.few, shape.small, shape.weight);
       place = omega (arith, count, more, c.loop-i.invariant.place);
       left = rw (c.in_ok-push.ensures.items, map-append, append_assoc, partners, ← step) c.loop-i.invariant.left;
-      whole = rw (c.in_ok-push.ensures.items, map-append) (all_push (λ partners. All (IsRowUpTo c.args.self.now.kind (length c.args.self.now.basis + length c.args.closed.now.free.items)) partners) _ _ c.loop-i.invariant.whole c.in_ok-partners.ensures.whole);
+      whole = rw (c.in_ok-push.ensures.items, map-append)
+          (all_push (λ partners. All (IsRowUpTo c.args.self.now.kind (length c.args.self.now.basis + length c.args.closed.now.free.items)) partners) _
+          _ c.loop-i.invariant.whole c.in_ok-partners.ensures.whole);
     }
 
 pub returns-clause-value : goal.returns-clause-value

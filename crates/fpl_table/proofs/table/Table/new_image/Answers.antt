@@ -15,4 +15,5 @@ returns-then-is_next-clause-value g c =
     let is : (generator_at c.args.self.now c.args.g).weight ≡ suc c.args.self.now.weight = grind (arith, nat_tests) in
     let yes = sym c.is_next.ensures.value ∙ c.if-is_next.true in
     let place = rw add-one at c.requires.place in
-    ok_more _ _ c.symbol_row.result (λ row e. e ∙ rw (yes, generator_place c.args.self.now c.args.g c.requires.number is, ← place) refl) c.symbol_row.ensures.value
+    ok_more _ _ c.symbol_row.result (λ row e. e ∙ rw (yes, generator_place c.args.self.now c.args.g c.requires.number is, ← place) refl)
+    c.symbol_row.ensures.value

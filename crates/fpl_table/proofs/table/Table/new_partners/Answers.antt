@@ -60,7 +60,8 @@ loop-j-preserved g c =
     let light : (plain_basis c.args.self.now (c.args.i - 1)).weight ≤ c.args.self.now.weight = shape.light (c.args.i - 1) lti in
     let start = rw add-one at c.requires.start in
     let place = pair_place c.args.self.now shape (c.args.i - 1) lti c.loop-j.j (omega (arith, from)) (omega (arith, to)) in
-    let more = partners_more c.args.self.now c.args.closed.now.rows.now shape (c.args.i - 1) lti c.loop-j.j (omega arith) (omega (arith, from)) (omega (arith, to)) in
+    let more = partners_more c.args.self.now c.args.closed.now.rows.now shape (c.args.i - 1) lti c.loop-j.j (omega arith) (omega (arith, from))
+    (omega (arith, to)) in
     let same : row_of_symbol c.args.self.now c.args.closed.now.rows.now (of_pair (c.args.i - 1) c.loop-j.j) ≡ c.in_ok-symbol_row.field-0 =
     ap (symbol_row c.args.self.now c.args.closed.now.rows.now) (place ∙ omega (arith, start, from)) ∙ sym c.in_ok-symbol_row.ensures.value in
     let count = simp length-append at (ap length c.in_ok-push.ensures.items) in
@@ -69,7 +70,9 @@ loop-j-preserved g c =
       stop = omega arith;
       count = omega (arith, count, c.loop-j.invariant.count);
       left = rw (c.in_ok-push.ensures.items, append_assoc, ← same, ← more) c.loop-j.invariant.left;
-      whole = rw c.in_ok-push.ensures.items (all_push (IsRowUpTo c.args.self.now.kind (length c.args.self.now.basis + length c.args.closed.now.free.items)) _ _ c.loop-j.invariant.whole c.in_ok-symbol_row.ensures.whole);
+      whole = rw c.in_ok-push.ensures.items (all_push
+          (IsRowUpTo c.args.self.now.kind (length c.args.self.now.basis + length c.args.closed.now.free.items)) _ _ c.loop-j.invariant.whole
+          c.in_ok-symbol_row.ensures.whole);
     }
 
 pub returns-clause-value : goal.returns-clause-value

@@ -9,13 +9,17 @@ use Rattle.fpl_table.proofs.Pushed.{symbols_next}
 use Rattle.fpl_table.proofs.table.Table.next.Goals as goal
 
 pub next_by-requires-clause-symbols : goal.next_by-requires-clause-symbols
-next_by-requires-clause-symbols g c = rw (c.as_slice.ensures.value, c.in_ok-symbols.ensures.value, c.weight.ensures.value, add-one) (symbols_next c.args.self.now)
+next_by-requires-clause-symbols g c = rw (c.as_slice.ensures.value, c.in_ok-symbols.ensures.value, c.weight.ensures.value, add-one)
+    (symbols_next c.args.self.now)
 
 pub next_by-requires-clause-solved : goal.next_by-requires-clause-solved
 next_by-requires-clause-solved g c =
-    let many : count_of c.args.self.now (c.args.self.now.weight + 1) ≡ length (symbols_in c.args.self.now) = rw add-one (ap length (symbols_next c.args.self.now)) in
-    let listed : map symbol_in c.in_ok-symbols.symbols.items ≡ symbols_in c.args.self.now = rw (c.in_ok-symbols.ensures.value, c.weight.ensures.value, add-one) (symbols_next c.args.self.now) in
-    let size : length c.in_ok-symbols.symbols.items ≡ length (symbols_in c.args.self.now) = sym (length-map c.in_ok-symbols.symbols.items symbol_in) ∙ ap length listed in
+    let many : count_of c.args.self.now (c.args.self.now.weight + 1) ≡ length (symbols_in c.args.self.now) =
+    rw add-one (ap length (symbols_next c.args.self.now)) in
+    let listed : map symbol_in c.in_ok-symbols.symbols.items ≡ symbols_in c.args.self.now =
+    rw (c.in_ok-symbols.ensures.value, c.weight.ensures.value, add-one) (symbols_next c.args.self.now) in
+    let size : length c.in_ok-symbols.symbols.items ≡ length (symbols_in c.args.self.now) =
+    sym (length-map c.in_ok-symbols.symbols.items symbol_in) ∙ ap length listed in
     let count : c.len.result ≡ length (symbols_in c.args.self.now) = omega (arith, size) in
     record {
       below = c.requires.below;
@@ -26,8 +30,11 @@ next_by-requires-clause-solved g c =
 
 pub returns-clause-next : goal.returns-clause-next
 returns-clause-next g c =
-    let listed : map symbol_in c.in_ok-symbols.symbols.items ≡ symbols_in c.args.self.now = rw (c.in_ok-symbols.ensures.value, c.weight.ensures.value, add-one) (symbols_next c.args.self.now) in
-    let size : length c.in_ok-symbols.symbols.items ≡ length (symbols_in c.args.self.now) = sym (length-map c.in_ok-symbols.symbols.items symbol_in) ∙ ap length listed in
+    let listed : map symbol_in c.in_ok-symbols.symbols.items ≡ symbols_in c.args.self.now =
+    rw (c.in_ok-symbols.ensures.value, c.weight.ensures.value, add-one) (symbols_next c.args.self.now) in
+    let size : length c.in_ok-symbols.symbols.items ≡ length (symbols_in c.args.self.now) =
+    sym (length-map c.in_ok-symbols.symbols.items symbol_in) ∙ ap length listed in
     let count : c.len.result ≡ length (symbols_in c.args.self.now) = omega (arith, size) in
-    let free : c.in_ok-closed.closed.free.items ≡ free_of c.args.self.now c.in_ok-closed.closed.rows.now = c.in_ok-closed.ensures.places.free_is ∙ ap (free_in c.in_ok-closed.closed.rows.now) count in
+    let free : c.in_ok-closed.closed.free.items ≡ free_of c.args.self.now c.in_ok-closed.closed.rows.now =
+    c.in_ok-closed.ensures.places.free_is ∙ ap (free_in c.in_ok-closed.closed.rows.now) count in
     rw (← c.in_ok-closed.ensures.rows) (rw free at c.next_by.ensures)

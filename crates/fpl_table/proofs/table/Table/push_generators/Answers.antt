@@ -15,12 +15,21 @@ loop-g-init g c = record { value = sym (append-nil _); numbered = λ h. h }
 pub loop-g-preserved : goal.loop-g-preserved
 loop-g-preserved g c =
     let same : (generator_at c.args.self.now c.loop-g.g).weight ≡ c.index.result.now.weight =
-    generator_weight c.args.self.now c.self.inside.shapes.items (ap (λ T. T.generators) c.self.view_is) c.loop-g.g c.index.result.now (omega arith) c.index.ensures in
+    generator_weight c.args.self.now c.self.inside.shapes.items (ap (λ T. T.generators) c.self.view_is) c.loop-g.g c.index.result.now
+    (omega arith) c.index.ensures in
     elim c.if-index-w.branch [
       | then-index-w+in_ok-push w ↦
           let back : c.loop-g.g + 1 - 1 ≡ c.loop-g.g = omega arith in
           record {
-            value = rw (w.symbols-is, w.in_ok-push.ensures.items, map-append, c.loop-g.invariant.value, generator_yes c.args.self.now c.args.w c.loop-g.g (same ∙ w.if-index-w.true), append_assoc, back) refl;
+            value = rw (
+              w.symbols-is,
+              w.in_ok-push.ensures.items,
+              map-append,
+              c.loop-g.invariant.value,
+              generator_yes c.args.self.now c.args.w c.loop-g.g (same ∙ w.if-index-w.true),
+              append_assoc,
+              back,
+            ) refl;
             numbered = λ h. rw (w.symbols-is, w.in_ok-push.ensures.items) (all_push IsNumbered _ _ (c.loop-g.invariant.numbered h) (omega arith));
           }
       | else-index-w w ↦

@@ -9,7 +9,8 @@ pub loop-j-init : goal.loop-j-init
 loop-j-init g c =
     let shape : HasShape c.args.self.now = c.partners-from.ensures.shape in
     let from = from_within c.args.self.now shape c.args.w (c.args.i - 1) (omega arith) c.requires.above in
-    let none = row_before c.args.self.now shape c.args.w (c.args.i - 1) (omega arith) c.requires.above c.partners-from.result.0 (omega arith) (omega (arith, from)) in
+    let none = row_before c.args.self.now shape c.args.w (c.args.i - 1) (omega arith) c.requires.above c.partners-from.result.0 (omega arith)
+    (omega (arith, from)) in
     record {
       within = omega (arith, from);
       value = rw none (sym (append-nil _));

@@ -5,7 +5,8 @@ use Rattle.fpl_table.proofs.Weights.{through_below}
 use Rattle.fpl_table.proofs.table.Table.symbol_count.Goals as goal
 
 pub returns-then-w-eq0 : goal.returns-then-w-eq0
-returns-then-w-eq0 g c = c.from-count.ensures ∙ c.generator_count.ensures.value ∙ ap length (sym (symbols_none c.args.self.now c.generator_count.ensures.shape c.args.w c.if-w-eq0.true))
+returns-then-w-eq0 g c = c.from-count.ensures ∙ c.generator_count.ensures.value ∙ ap length
+    (sym (symbols_none c.args.self.now c.generator_count.ensures.shape c.args.w c.if-w-eq0.true))
 
 pub loop-i-init : goal.loop-i-init
 loop-i-init g c =

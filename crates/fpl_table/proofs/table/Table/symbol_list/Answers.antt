@@ -5,11 +5,20 @@ use Rattle.fpl_table.proofs.table.Table.symbol_list.Goals as goal
 
 pub returns-then-w-eq0-clause-value : goal.returns-then-w-eq0-clause-value
 returns-then-w-eq0-clause-value g c =
-    rw (symbols_none c.args.self.now c.in_ok-push_generators.ensures.shape c.args.w c.if-w-eq0.true, c.in_ok-push_generators.ensures.value, c.new-symbols.ensures.items) refl
+    rw (
+      symbols_none c.args.self.now c.in_ok-push_generators.ensures.shape c.args.w c.if-w-eq0.true,
+      c.in_ok-push_generators.ensures.value,
+      c.new-symbols.ensures.items,
+    ) refl
 
 pub loop-i-init : goal.loop-i-init
 loop-i-init g c = record {
-  value = rw (c.in_ok-push_generators.ensures.value, c.new-symbols.ensures.items, pairs_first c.args.self.now c.in_ok-push_generators.ensures.shape c.args.w) (sym (append-nil _));
+  value = rw (
+    c.in_ok-push_generators.ensures.value,
+    c.new-symbols.ensures.items,
+    pairs_first c.args.self.now c.in_ok-push_generators.ensures.shape
+        c.args.w,
+  ) (sym (append-nil _));
   numbered = c.in_ok-push_generators.ensures.numbered (rw c.new-symbols.ensures.items (λ k d lt. absurd (omega (arith, lt))));
 }
 
@@ -30,4 +39,5 @@ loop-i-preserved g c =
 
 pub returns-clause-value : goal.returns-clause-value
 returns-clause-value g c =
-    rw (pairs_last c.args.self.now c.in_ok-push_generators.ensures.shape c.args.w c.loop-i.i (omega arith) (omega arith) (omega (arith, c.if-w-eq0.false))) c.loop-i.invariant.value
+    rw (pairs_last c.args.self.now c.in_ok-push_generators.ensures.shape c.args.w c.loop-i.i (omega arith) (omega arith)
+    (omega (arith, c.if-w-eq0.false))) c.loop-i.invariant.value

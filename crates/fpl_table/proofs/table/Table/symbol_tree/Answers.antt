@@ -13,4 +13,5 @@ returns-in-Gen g c =
 
 pub returns-in-Pair : goal.returns-in-Pair
 returns-in-Pair g c =
-    ok_more _ _ c.of_pair.result (λ m e. ap plain e ∙ plain-Br _ _ ∙ ap₂ bracket_of c.mono.ensures c.mono-in-Pair.ensures ∙ rw c.in-Pair.is refl) c.of_pair.ensures
+    ok_more _ _ c.of_pair.result (λ m e. ap plain e ∙ plain-Br _ _ ∙ ap₂ bracket_of c.mono.ensures c.mono-in-Pair.ensures ∙ rw c.in-Pair.is refl)
+    c.of_pair.ensures

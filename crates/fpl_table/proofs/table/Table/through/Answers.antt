@@ -12,7 +12,8 @@ returns-then-w-eq0-clause-value g c =
 
 pub returns-clause-value : goal.returns-clause-value
 returns-clause-value g c =
-    let here : c.index-levels-w.result ≡ get_or c.self.inside.levels.items (c.args.w - 1) c.index-levels-w.result = c.index-levels-w.is ∙ ap (λ x. get_or x (c.args.w - 1) c.index-levels-w.result) c.as_slice-levels.ensures.value in
+    let here : c.index-levels-w.result ≡ get_or c.self.inside.levels.items (c.args.w - 1) c.index-levels-w.result =
+    c.index-levels-w.is ∙ ap (λ x. get_or x (c.args.w - 1) c.index-levels-w.result) c.as_slice-levels.ensures.value in
     let lt : c.args.w - 1 < length c.self.inside.levels.items = omega (arith, ap (λ T. T.weight) c.self.view_is) in
     let seen = map_at (λ l. l.through) c.self.inside.levels.items (c.args.w - 1) 0 c.index-levels-w.result lt here in
     let same : suc (c.args.w - 1) ≡ c.args.w = omega arith in

@@ -9,7 +9,8 @@ loop-k-preserved g c =
     record {
       count = c.loop-k.invariant.count;
       within = c.loop-k.invariant.within;
-      rows_are = λ s lt. lead_other c.args.rows.now c.args.count c.loop-k.leads.items (c.loop-k.k - 1) (omega arith) c.loop-k.invariant.count (λ t below. rw same (c.loop-k.invariant.rows_are t below)) s lt (omega arith);
+      rows_are = λ s lt. lead_other c.args.rows.now c.args.count c.loop-k.leads.items (c.loop-k.k - 1) (omega arith) c.loop-k.invariant.count
+          (λ t below. rw same (c.loop-k.invariant.rows_are t below)) s lt (omega arith);
       far = omega arith;
     }
 
@@ -18,9 +19,11 @@ loop-k-preserved-then-place-count g c =
     let same : c.loop-k.k - 1 + 1 ≡ c.loop-k.k = omega arith in
     record {
       count = length-set c.loop-k.leads.items c.lead_place-place.result (c.loop-k.k - 1 + 1) ∙ c.loop-k.invariant.count;
-      within = lead_within c.args.rows.now c.args.count c.loop-k.leads.items (c.loop-k.k - 1) (omega arith) c.loop-k.invariant.count (λ t below. rw same (c.loop-k.invariant.rows_are t below))
+      within = lead_within c.args.rows.now c.args.count c.loop-k.leads.items (c.loop-k.k - 1) (omega arith) c.loop-k.invariant.count
+          (λ t below. rw same (c.loop-k.invariant.rows_are t below))
           c.lead_place-place.result c.if-place-count.true c.loop-k.invariant.within;
-      rows_are = lead_set c.args.rows.now c.args.count c.loop-k.leads.items (c.loop-k.k - 1) (omega arith) c.loop-k.invariant.count (λ t below. rw same (c.loop-k.invariant.rows_are t below))
+      rows_are = lead_set c.args.rows.now c.args.count c.loop-k.leads.items (c.loop-k.k - 1) (omega arith) c.loop-k.invariant.count
+          (λ t below. rw same (c.loop-k.invariant.rows_are t below))
           c.lead_place-place.result c.if-place-count.true c.lead_place-place.ensures;
       far = omega arith;
     }

@@ -29,10 +29,13 @@ loop-s-preserved g c =
     record {
       free = elim c.if-index-eq0.branch [
         | then-index-eq0+in_ok-push-2 w ↦
-            rw (w.free-is, w.in_ok-push-2.ensures.items, c.loop-s.invariant.free) (sym (free_here c.args.rows.now _ c.in_ok-leads.leads.items leads c.loop-s.s c.loop-s-test.true (here ∙ w.if-index-eq0.true)))
+            rw (w.free-is, w.in_ok-push-2.ensures.items, c.loop-s.invariant.free)
+            (sym (free_here c.args.rows.now _ c.in_ok-leads.leads.items leads c.loop-s.s c.loop-s-test.true (here ∙ w.if-index-eq0.true)))
         | else-index-eq0 w ↦
-            rw w.free-is (c.loop-s.invariant.free ∙ sym (free_not c.args.rows.now _ c.in_ok-leads.leads.items leads c.loop-s.s c.loop-s-test.true (λ e. w.if-index-eq0.false (sym here ∙ e))))
+            rw w.free-is (c.loop-s.invariant.free ∙ sym (free_not c.args.rows.now _ c.in_ok-leads.leads.items leads c.loop-s.s c.loop-s-test.true
+            (λ e. w.if-index-eq0.false (sym here ∙ e))))
       ];
       count = omega (arith, ap length c.in_ok-push.ensures.items, count, c.loop-s.invariant.count);
-      ranks = rw c.in_ok-push.ensures.items (ranks_more c.args.rows.now c.loop-s.s c.loop-s.ranks.items c.len.result c.loop-s.invariant.count rank c.loop-s.invariant.ranks);
+      ranks = rw c.in_ok-push.ensures.items (ranks_more c.args.rows.now c.loop-s.s c.loop-s.ranks.items c.len.result c.loop-s.invariant.count rank
+          c.loop-s.invariant.ranks);
     }
