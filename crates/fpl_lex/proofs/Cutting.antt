@@ -12,7 +12,8 @@ use Rattle.fpl_lex.specs.declared.lexing.Mode.{Mode}
 use Rattle.fpl_lex.specs.declared.lexing.Mode.TheVariants.{Between, InComment, InWord, InNumber}
 use Rattle.fpl_lex.specs.declared.lexing.Class.{Class}
 use Rattle.fpl_lex.specs.declared.lexing.Class.TheVariants.{Letter, Digit, Underscore, LineEnd, Blank, Hash, Mark, Other}
-use Rattle.fpl_lex.specs.Cut.{most_value, Form, blank, comment, word, number, mark, other, Piece, Stops, begins, is_in_comment, IsPiece, IsCut, value_from, piece_tokens, joined, reading_from, Reads, Lexed}
+use Rattle.fpl_lex.specs.Cut.{Form, blank, comment, word, number, mark, other, Piece, Stops, begins, is_in_comment, IsPiece, IsCut, value_from, piece_tokens, joined, reading_from, Reads, Lexed}
+use Rattle.fpl_numbers.specs.Numbers.{most_number}
 use Rattle.fpl_lex.specs.Machine.{class_of, finished, begun, after, step_of, chained, lex, lex_of, Gives}
 
 -- tests of bytes
@@ -190,32 +191,32 @@ in_word start at (b ∷ bs) after all stops =
 
 -- the end of a number with this value
 unfoldable number_end : ℕ → ℕ → ℕ → Result (List Token) LexError
-number_end start n end = if nat_lt most_value n then Err (NumberTooLarge start) else finished (InNumber start n) end
+number_end start n end = if nat_lt most_number n then Err (NumberTooLarge start) else finished (InNumber start n) end
 
-number_end-fits : (start n end : ℕ) → n ≤ most_value → number_end start n end ≡ finished (InNumber start n) end
+number_end-fits : (start n end : ℕ) → n ≤ most_number → number_end start n end ≡ finished (InNumber start n) end
 unfolding number_end
-number_end-fits start n end fits = rw (le-ltb most_value n fits) refl
+number_end-fits start n end fits = rw (le-ltb most_number n fits) refl
 
-number_end-large : (start n end : ℕ) → most_value < n → number_end start n end ≡ Err (NumberTooLarge start)
+number_end-large : (start n end : ℕ) → most_number < n → number_end start n end ≡ Err (NumberTooLarge start)
 unfolding number_end
-number_end-large start n end large = rw (lt-ltb most_value n large) refl
+number_end-large start n end large = rw (lt-ltb most_number n large) refl
 
 value_from-least : (n : ℕ) (bs : List ℕ) → n ≤ value_from n bs
 value_from-least n [] = omega arith
 value_from-least n (b ∷ bs) = let h = value_from-least (10 * n + (b - 48)) bs in omega arith
 
-number_goes : (start n at b : ℕ) → is_digit b ≡ true → 10 * n + (b - 48) ≤ most_value → step_of (InNumber start n) at b (class_of b) ≡
+number_goes : (start n at b : ℕ) → is_digit b ≡ true → 10 * n + (b - 48) ≤ most_number → step_of (InNumber start n) at b (class_of b) ≡
     Ok ([], InNumber start (10 * n + (b - 48)))
-number_goes start n at b e fits = rw (digit_class b e, le-ltb most_value (10 * n + (b - 48)) fits) refl
+number_goes start n at b e fits = rw (digit_class b e, le-ltb most_number (10 * n + (b - 48)) fits) refl
 
-number_fails : (start n at b : ℕ) → is_digit b ≡ true → most_value < 10 * n + (b - 48) → step_of (InNumber start n) at b (class_of b) ≡
+number_fails : (start n at b : ℕ) → is_digit b ≡ true → most_number < 10 * n + (b - 48) → step_of (InNumber start n) at b (class_of b) ≡
     Err (NumberTooLarge start)
-number_fails start n at b e large = rw (digit_class b e, lt-ltb most_value (10 * n + (b - 48)) large) refl
+number_fails start n at b e large = rw (digit_class b e, lt-ltb most_number (10 * n + (b - 48)) large) refl
 
 either_side : {P : Type 0} (m n : ℕ) → (m < n → P) → (n ≤ m → P) → P
 either_side {P} m n f g = elim (nat_lt m n) as (λ t. nat_lt m n ≡ t → P) [ true ↦ λ t. f (ltb-true m n t) | false ↦ λ t. g (ltb-false m n t) ] refl
 
-in_number : (start at n : ℕ) (bs after : List ℕ) → n ≤ most_value → list_all is_digit bs ≡ true → Stops is_digit after
+in_number : (start at n : ℕ) (bs after : List ℕ) → n ≤ most_number → list_all is_digit bs ≡ true → Stops is_digit after
     → lex (InNumber start n) at (bs ++ after) ≡ joined (number_end start (value_from n bs) (at + length bs)) (lex Between (at + length bs) after)
 in_number start at n [] [] fits all stops =
     at_end (InNumber start n) at [] (sym (joined_last (finished (InNumber start n) at))) ∙ ap (λ e. joined e (lex Between (at + 0) []))
@@ -226,7 +227,7 @@ in_number start at n [] (b ∷ after) fits all stops =
 in_number start at n (b ∷ bs) after fits all stops =
     let m : ℕ = 10 * n + (b - 48) in
     let digit : is_digit b ≡ true = (and_parts _ _ all).0 in
-    either_side most_value m
+    either_side most_number m
     (λ large.
     lex_step (InNumber start n) at b (bs ++ after) ∙ ap (λ s. chained s (rest_of at (bs ++ after))) (number_fails start n at b digit large)
     ∙ ap (λ e. joined e (lex Between (at + suc (length bs)) after))
@@ -267,7 +268,7 @@ front_word at b bs after e all stops =
     goes Between (InWord at) at b (bs ++ after) (rw e refl) ∙ in_word at (at + 1) bs after all stops ∙ later (InWord at) at (length bs) after
     ∙ ap (λ t. joined t (lex Between (at + suc (length bs)) after)) (word_token at (b ∷ bs))
 
-digit_small : (b : ℕ) → is_digit b ≡ true → b - 48 ≤ most_value
+digit_small : (b : ℕ) → is_digit b ≡ true → b - 48 ≤ most_number
 digit_small b e = grind arith
 
 number_token : (at b : ℕ) (bs : List ℕ) → number_end at (value_from (b - 48) bs) (at + suc (length bs)) ≡ piece_tokens at number (b ∷ bs)

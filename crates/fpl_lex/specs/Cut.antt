@@ -1,6 +1,5 @@
 -- The tokens of a text, apart from how they are found.
 --
---   most_value      the greatest number that a text may write, 2^127-1
 --   Form            the forms of a piece: a blank, a comment, a word, a number, a mark, or a byte that begins none of these
 --   Piece           a piece of a text: its form and its bytes
 --   Stops p after   nothing comes after, or a byte outside p
@@ -20,9 +19,7 @@ use Rattle.fpl_lex.specs.declared.token.TokenKind.{TokenKind}
 use Rattle.fpl_lex.specs.declared.token.TokenKind.TheVariants as kinds
 use Rattle.fpl_lex.specs.declared.fault.LexError.{LexError}
 use Rattle.fpl_lex.specs.declared.fault.LexError.TheVariants.{BadByte, NumberTooLarge, NameTooLong, NoMemory}
-
-abbrev pub most_value : ℕ
-most_value = 2 ^ 127 - 1
+use Rattle.fpl_numbers.specs.Numbers.{most_number}
 
 pub data Form : Type 0 where
   blank : Form
@@ -79,7 +76,7 @@ abbrev pub piece_tokens : ℕ → Form → List ℕ → Result (List Token) LexE
 piece_tokens at blank bytes = Ok []
 piece_tokens at comment bytes = Ok []
 piece_tokens at word bytes = if nat_lt most_name (length bytes) then Err (NameTooLong at) else Ok (token_at at bytes kinds.Word ∷ [])
-piece_tokens at number bytes = if nat_lt most_value (value_of bytes) then Err (NumberTooLarge at) else
+piece_tokens at number bytes = if nat_lt most_number (value_of bytes) then Err (NumberTooLarge at) else
     Ok (token_at at bytes (kinds.Number (value_of bytes)) ∷ [])
 piece_tokens at mark bytes = Ok (mark_tokens at bytes)
 piece_tokens at other bytes = Err (BadByte at)

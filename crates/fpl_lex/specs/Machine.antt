@@ -30,7 +30,8 @@ use Rattle.fpl_lex.specs.declared.lexing.Class.{Class}
 use Rattle.fpl_lex.specs.declared.lexing.Class.TheVariants.{Letter, Digit, Underscore, LineEnd, Blank, Hash, Mark, Other}
 use Rattle.fpl_lex.specs.declared.lexing.Advance.{Advance}
 use Rattle.fpl_lex.specs.declared.lexing.Advance.TheVariants.{Into, Ends, Fault}
-use Rattle.fpl_lex.specs.Cut.{most_value, joined}
+use Rattle.fpl_lex.specs.Cut.{joined}
+use Rattle.fpl_numbers.specs.Numbers.{most_number}
 
 abbrev pub class_of : ℕ → Class
 class_of b =
@@ -65,7 +66,7 @@ after (Ok ts) (Err e) = Err e
 after (Ok ts) (Ok step) = Ok (ts ++ step.0, step.1)
 
 abbrev pub with_digit : ℕ → ℕ → Option ℕ
-with_digit n d = if nat_lt most_value (10 * n + d) then None else Some (10 * n + d)
+with_digit n d = if nat_lt most_number (10 * n + d) then None else Some (10 * n + d)
 
 abbrev pub longer : ℕ → Option ℕ → Result (List Token × Mode) LexError
 longer start None = Err (NumberTooLarge start)

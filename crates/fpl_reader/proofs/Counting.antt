@@ -5,7 +5,8 @@ use Rattle.std.specs.declared.option.Option.{Option}
 use Rattle.fpl_alphabet.specs.Bytes.{most_name}
 use Rattle.fpl_lex.specs.declared.token.Token.{Token}
 use Rattle.fpl_lex.specs.declared.fault.LexError.{LexError}
-use Rattle.fpl_lex.specs.Cut.{most_value, Form, blank, comment, word, number, mark, other, Piece, IsPiece, IsCut, value_of, mark_tokens, piece_tokens, joined, reading_from, Reads}
+use Rattle.fpl_lex.specs.Cut.{Form, blank, comment, word, number, mark, other, Piece, IsPiece, IsCut, value_of, mark_tokens, piece_tokens, joined, reading_from, Reads}
+use Rattle.fpl_numbers.specs.Numbers.{most_number}
 use Rattle.fpl_syntax.specs.declared.terminal.Terminal.{Terminal}
 use Rattle.fpl_reader.specs.declared.survey.Event.{Event}
 use Rattle.fpl_reader.specs.declared.survey.Track.{Track}
@@ -27,7 +28,7 @@ piece_short : (at : ℕ) (form : Form) (bytes : List ℕ) → IsShort 1 (piece_t
 piece_short at blank bytes = omega arith
 piece_short at comment bytes = omega arith
 piece_short at word bytes = one_or_fault (nat_lt most_name (length bytes)) _ _
-piece_short at number bytes = one_or_fault (nat_lt most_value (value_of bytes)) _ _
+piece_short at number bytes = one_or_fault (nat_lt most_number (value_of bytes)) _ _
 piece_short at mark bytes = mark_short at bytes
 piece_short at other bytes = tt
 

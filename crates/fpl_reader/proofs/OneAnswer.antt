@@ -7,7 +7,8 @@ use Rattle.fpl_lex.specs.declared.token.Token.{Token}
 use Rattle.fpl_lex.specs.declared.fault.LexError.{LexError}
 use Rattle.fpl_lex.specs.declared.fault.LexError.TheVariants as lexical
 use Rattle.fpl_alphabet.specs.Bytes.{most_name}
-use Rattle.fpl_lex.specs.Cut.{Reads, most_value, Form, blank, comment, word, number, mark, other, Piece, value_of, piece_tokens, joined, reading_from}
+use Rattle.fpl_lex.specs.Cut.{Reads, Form, blank, comment, word, number, mark, other, Piece, value_of, piece_tokens, joined, reading_from}
+use Rattle.fpl_numbers.specs.Numbers.{most_number}
 use Rattle.fpl_lex.specs.Machine.{lex_of}
 use Rattle.fpl_lex.proofs.Cutting.{lex_reads, reads_lexed}
 use Rattle.fpl_syntax.specs.declared.terminal.Terminal.{Terminal}
@@ -41,7 +42,7 @@ piece_memory : (at : ℕ) (form : Form) (bytes : List ℕ) → NotMemory (piece_
 piece_memory at blank bytes = tt
 piece_memory at comment bytes = tt
 piece_memory at word bytes = chosen_memory (nat_lt most_name (length bytes)) _ _ tt tt
-piece_memory at number bytes = chosen_memory (nat_lt most_value (value_of bytes)) _ _ tt tt
+piece_memory at number bytes = chosen_memory (nat_lt most_number (value_of bytes)) _ _ tt tt
 piece_memory at mark bytes = tt
 piece_memory at other bytes = tt
 

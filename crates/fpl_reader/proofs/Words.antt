@@ -9,7 +9,8 @@ use Rattle.fpl_lex.specs.declared.token.TokenKind.{TokenKind}
 use Rattle.fpl_lex.specs.declared.token.TokenKind.TheVariants as kinds
 use Rattle.fpl_lex.specs.declared.fault.LexError.{LexError}
 use Rattle.fpl_lex.specs.declared.fault.LexError.TheVariants.{NameTooLong, NumberTooLarge}
-use Rattle.fpl_lex.specs.Cut.{Form, blank, comment, word, number, mark, other, Piece, IsPiece, IsCut, piece_tokens, mark_tokens, joined, reading_from, Reads, most_value, value_of, token_at}
+use Rattle.fpl_lex.specs.Cut.{Form, blank, comment, word, number, mark, other, Piece, IsPiece, IsCut, piece_tokens, mark_tokens, joined, reading_from, Reads, value_of, token_at}
+use Rattle.fpl_numbers.specs.Numbers.{most_number}
 use Rattle.fpl_syntax.specs.Sight.{word_of}
 
 ok-equal : {A : Type 0} {x y : A} → ◌≡◌ {A = Result A LexError} (Ok x) (Ok y) → x ≡ y
@@ -66,7 +67,7 @@ piece_are : (before bytes after : List ℕ) (form : Form) (us : List Token) → 
 piece_are before bytes after blank us piece e = none_are _ us e
 piece_are before bytes after comment us piece e = none_are _ us e
 piece_are before bytes after word us piece e = word_tokens before bytes after us (nat_lt most_name (length bytes)) refl (word_piece bytes after piece) e
-piece_are before bytes after number us piece e = number_tokens _ (length before) (value_of bytes) bytes us (nat_lt most_value (value_of bytes)) e
+piece_are before bytes after number us piece e = number_tokens _ (length before) (value_of bytes) bytes us (nat_lt most_number (value_of bytes)) e
 piece_are before bytes after mark us piece e = subst (AreWords (before ++ (bytes ++ after))) (ok-equal e) (mark_are _ (length before) bytes)
 piece_are before bytes after other us piece e = cc
 

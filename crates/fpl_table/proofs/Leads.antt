@@ -5,7 +5,6 @@ use Rattle.std.proofs.Math.Nat.{mod_self}
 use Rattle.std.proofs.Math.Seq.{drop-cons, get_or-append_seam}
 use Rattle.std.proofs.lemmas.Bool.Decides.{nat_tests}
 use Rattle.std.proofs.lemmas.List.{length-map}
-use Rattle.std.specs.Prelude.{unwrap_or}
 use Rattle.fpl_numbers.specs.declared.number.Num.{Num}
 use Rattle.fpl_numbers.specs.declared.number.Kind.{Kind}
 use Rattle.fpl_numbers.specs.declared.number.Kind.TheVariants.{Rational, Prime}
@@ -14,20 +13,9 @@ use Rattle.fpl_scalar.proofs.Noughts.{nought_is}
 use Rattle.fpl_rows.specs.Positions as positions
 use Rattle.fpl_rows.specs.Meaning.{pivot_of}
 use Rattle.fpl_rows.proofs.Packings.{get_or_default}
-use Rattle.fpl_table.specs.Push.{lead_place, lead_below, row_with_lead, is_lead, free_in, solved}
+use Rattle.fpl_table.specs.Push.{row_with_lead, is_lead, free_in, solved}
 use Rattle.fpl_table.specs.Leads.{row_by, AreLeads, AreRanks}
 use Rattle.fpl_table.proofs.Lists.{nat_same, all_push}
-
-lead_below_is : (row : List Num) (n : ℕ) → lead_below row n ≡ unwrap_or (positions.lead_below row n) 1 - 1
-lead_below_is row zero = refl
-lead_below_is row (suc s) = step (is_nought (get_or row s (residue 0))) (lead_below row s) (positions.lead_below row s) s (lead_below_is row s)
-  where
-    step : (b : Bool) (m : ℕ) (o : Option ℕ) (s : ℕ) → m ≡ unwrap_or o 1 - 1 → cond b m s ≡ unwrap_or (cond b o (Some (suc s))) 1 - 1
-    step true m o s h = h
-    step false m o s h = omega arith
-
-pub lead_place_is : (row : List Num) → lead_place row ≡ pivot_of row
-lead_place_is row = lead_below_is row (length row)
 
 -- the leads of one row more, before the others
 module _ (rows : List (List Num)) (n : ℕ) (leads : List ℕ) (k : ℕ) (lt : k < length rows) (count : length leads ≡ n)
@@ -37,12 +25,10 @@ module _ (rows : List (List Num)) (n : ℕ) (leads : List ℕ) (k : ℕ) (lt : k
 
   pub lead_other : (s : ℕ) → s < n → pivot_of (get_or rows k []) ≢ s → row_by rows (get_or leads s 0) ≡ row_with_lead (drop k rows) s
   lead_other s lts not =
-      let place : lead_place (get_or rows k []) ≡ pivot_of (get_or rows k []) = lead_place_is (get_or rows k []) in
       are s lts ∙ rw rows_from (grind (arith, nat_tests))
 
   pub lead_here : (s : ℕ) → pivot_of (get_or rows k []) ≡ s → row_by rows (k + 1) ≡ row_with_lead (drop k rows) s
   lead_here s is =
-      let place : lead_place (get_or rows k []) ≡ pivot_of (get_or rows k []) = lead_place_is (get_or rows k []) in
       rw (add-one, rows_from) (grind (arith, nat_tests))
 
   pub lead_set : (p : ℕ) → p < n → p ≡ pivot_of (get_or rows k []) → (s : ℕ) → s < n → row_by rows (get_or (set leads p (k + 1)) s 0) ≡
@@ -66,7 +52,7 @@ module _ (rows : List (List Num)) (n : ℕ) (leads : List ℕ) (k : ℕ) (lt : k
 -- a place is free where it leads no row
 lead_found : (rows : List (List Num)) (s : ℕ) → row_with_lead rows s ≡ None → is_lead rows s ≡ false
 lead_found [] s e = refl
-lead_found (row ∷ rows) s e = go (nat_eq (lead_place row) s) (lead_found rows s) e
+lead_found (row ∷ rows) s e = go (nat_eq (pivot_of row) s) (lead_found rows s) e
   where
     go : (b : Bool) → (row_with_lead rows s ≡ None → is_lead rows s ≡ false) → cond b (Some row) (row_with_lead rows s) ≡ None →
         cond b true (is_lead rows s) ≡ false
@@ -75,7 +61,7 @@ lead_found (row ∷ rows) s e = go (nat_eq (lead_place row) s) (lead_found rows 
 
 lead_lost : (rows : List (List Num)) (s : ℕ) (row : List Num) → row_with_lead rows s ≡ Some row → is_lead rows s ≡ true
 lead_lost [] s row e = cc
-lead_lost (x ∷ rows) s row e = go (nat_eq (lead_place x) s) (lead_lost rows s row) e
+lead_lost (x ∷ rows) s row e = go (nat_eq (pivot_of x) s) (lead_lost rows s row) e
   where
     go : (b : Bool) → (row_with_lead rows s ≡ Some row → is_lead rows s ≡ true) → cond b (Some x) (row_with_lead rows s) ≡ Some row →
         cond b true (is_lead rows s) ≡ true

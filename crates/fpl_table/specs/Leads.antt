@@ -5,16 +5,15 @@
 --   AreRanks rows n ranks      for each place below n how many places below it lead none
 --   ArePlaces n closed         the leads and ranks of the places below n, and those that lead none
 --   IsSolved T closed          the same, for closed rows over the symbols of the next weight
---   basis_of T x               the basis element of the next weight that stands for a symbol
 --   IsNext T rows free ..      what the next weight adds
 --   trees_of T free            the bracket trees of the symbols at some places
 use Rattle.std.specs.Prelude.{ℕ, zero, suc, ◌≡◌, ◌<◌, ◌≤◌, List, [], length, map, get_or, All, ◌+◌, Option, Some, None}
 use Rattle.fpl_numbers.specs.declared.number.Num.{Num}
 use Rattle.math_algebra.specs.Tree.{Tree}
-use Rattle.math_algebra.specs.Symbols.{no_symbol, symbol_parity}
+use Rattle.math_algebra.specs.Symbols.{no_symbol}
 use Rattle.math_algebra.specs.Table.{Symbol, Basis}
 use Rattle.fpl_rows.specs.Meaning.{AreRows}
-use Rattle.fpl_table.specs.Plain.{PlainTable, symbols_in, table_in, shell_in}
+use Rattle.fpl_table.specs.Plain.{PlainTable, symbols_in}
 use Rattle.fpl_table.specs.Shape.{IsRowUpTo, IsNumbered, basis_trees, symbol_tree_in}
 use Rattle.fpl_table.specs.Push.{row_with_lead, free_in, new_basis, new_images, new_entries}
 use Rattle.fpl_table.specs.declared.symbol.Symbol as code
@@ -37,10 +36,6 @@ pub record ArePlaces {F E S : Type 0} (n : ℕ) (closed : ClosedRows F E S) : Ty
   pub are_leads : AreLeads closed.rows.now n closed.leads.items
   pub are_ranks : AreRanks closed.rows.now n closed.ranks.items
   pub free_is : closed.free.items ≡ free_in closed.rows.now n
-
--- the basis element that stands for a symbol of the next weight
-abbrev pub basis_of : PlainTable → Symbol → Basis
-basis_of T x = record { weight = suc T.weight; parity = symbol_parity (shell_in T.kind T) (table_in T.kind T) x; symbol = x }
 
 abbrev pub trees_of : PlainTable → List ℕ → List (Tree Num)
 trees_of T free = map (λ s. symbol_tree_in (basis_trees T) (get_or (symbols_in T) s no_symbol)) free

@@ -1,36 +1,29 @@
 -- The next weight of a table, from closed rows over its symbols.
 --
---   lead_place row         the greatest place of a row that is not 0, and 0 where there is none
---   is_lead rows s         the place s is the lead of a row
+--   is_lead rows s         the place s is the lead of a row; the lead of a row that is 0 counts as place 0
 --   free_in rows m         the places below m that are no lead, ascending: the symbols of the new basis elements
 --   row_with_lead rows s   the row with lead s
 --   symbol_row T rows s    what the symbol at place s is, over the basis: itself, where it is in the basis, else minus the rest of its row
+--   basis_of T x           the basis element of the next weight that stands for a symbol
 --   push_of T rows         the table with one weight more
 use Rattle.std.specs.Prelude.{ℕ, zero, suc, ◌+◌, List, [], ◌∷◌, ◌++◌, length, get_or, map, Bool, true, false, cond, nat_eq, nat_lt, Option, Some, None}
 use Rattle.fpl_numbers.specs.declared.number.Num.{Num}
 use Rattle.fpl_numbers.specs.declared.number.Kind.{Kind}
-use Rattle.fpl_numbers.specs.Numbers.{is_nought, residue, negative_of}
+use Rattle.fpl_numbers.specs.Numbers.{residue, negative_of}
+use Rattle.fpl_rows.specs.Meaning.{pivot_of}
 use Rattle.math_algebra.specs.Tree.{Generator}
 use Rattle.math_algebra.specs.Table.{Symbol, of_generator, of_pair, Basis}
 use Rattle.math_algebra.specs.Symbols.{place_of, no_symbol, symbol_parity}
 use Rattle.fpl_table.specs.Plain.{PlainTable, plain_basis, first_partner, table_in, shell_in, symbols_in}
 use Rattle.fpl_table.specs.Value.{zero_row}
 
--- the greatest place below n whose number is not 0
-abbrev pub lead_below : List Num → ℕ → ℕ
-lead_below row zero = 0
-lead_below row (suc s) = cond (is_nought (get_or row s (residue 0))) (lead_below row s) s
-
-abbrev pub lead_place : List Num → ℕ
-lead_place row = lead_below row (length row)
-
 abbrev pub row_with_lead : List (List Num) → ℕ → Option (List Num)
 row_with_lead [] s = None
-row_with_lead (row ∷ rows) s = cond (nat_eq (lead_place row) s) (Some row) (row_with_lead rows s)
+row_with_lead (row ∷ rows) s = cond (nat_eq (pivot_of row) s) (Some row) (row_with_lead rows s)
 
 abbrev pub is_lead : List (List Num) → ℕ → Bool
 is_lead [] s = false
-is_lead (row ∷ rows) s = cond (nat_eq (lead_place row) s) true (is_lead rows s)
+is_lead (row ∷ rows) s = cond (nat_eq (pivot_of row) s) true (is_lead rows s)
 
 unfoldable pub free_in : List (List Num) → ℕ → List ℕ
 free_in rows zero = []
@@ -50,10 +43,12 @@ solved kind free s (Some row) = map (λ t. negative_of kind (get_or row t (resid
 abbrev pub symbol_row : PlainTable → List (List Num) → ℕ → List Num
 symbol_row T rows s = zero_row (length T.basis) ++ solved T.kind (free_of T rows) s (row_with_lead rows s)
 
+-- the basis element of the next weight that stands for a symbol
+abbrev pub basis_of : PlainTable → Symbol → Basis
+basis_of T x = record { weight = suc T.weight; parity = symbol_parity (shell_in T.kind T) (table_in T.kind T) x; symbol = x }
+
 abbrev pub new_basis : PlainTable → ℕ → Basis
-new_basis T s =
-    let x = get_or (symbols_in T) s no_symbol in
-    record { weight = suc T.weight; parity = symbol_parity (shell_in T.kind T) (table_in T.kind T) x; symbol = x }
+new_basis T s = basis_of T (get_or (symbols_in T) s no_symbol)
 
 abbrev pub row_of_symbol : PlainTable → List (List Num) → Symbol → List Num
 row_of_symbol T rows x = symbol_row T rows (place_of x (symbols_in T))

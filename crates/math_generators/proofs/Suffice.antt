@@ -10,7 +10,7 @@ use Rattle.math_algebra.specs.Table.{Table, Symbol, of_generator, of_pair, basis
 use Rattle.math_linear.proofs.Vectors.{vplus-vzero, scale-vzero}
 use Rattle.math_linear.proofs.Linear.{linear_combination}
 use Rattle.math_linear.proofs.Places.{by_places}
-use Rattle.math_linear.proofs.Span.{in_span, by_span, spanned_through, spanned_total, span_vzero, span_vplus, span_scale}
+use Rattle.math_linear.proofs.Span.{in_span, by_span, spanned_through, spanned_total, span_vzero, span_vplus, span_scale, span_space}
 use Rattle.math_values.proofs.Facts.{of_short}
 use Rattle.math_values.proofs.Products.{bracket_linear_right, bracket_places, vzero-bracket, vplus-bracket, scale-bracket}
 use Rattle.math_linear.specs.Linear.{IsSpace}
@@ -20,7 +20,7 @@ use Rattle.math_structure.specs.Structure.{IsVectorOf, IsBracketWith, term, InId
 use Rattle.math_structure.specs.Laws.{IsClosedUnder, StaysWithin}
 use Rattle.math_structure.proofs.Centre.{vector_stands, place_vector}
 use Rattle.math_structure.proofs.Series.{terms_fall}
-use Rattle.math_structure.proofs.Rounds.{closed_by_places, places_closed, rows_space, ideal_space}
+use Rattle.math_structure.proofs.Rounds.{closed_by_places, places_closed, ideal_space}
 use Rattle.math_generators.specs.Generated.{if_generator, generator_bracket, IsGenerator, IsGenerated, IsGeneratorBracket, IsGeneratorUnit, InGeneratedIdeal}
 use Rattle.math_generators.specs.Laws.{CentreByGenerators, TermByGenerators, TermByGeneratorRows, ClosedByGenerators, IdealByGenerators}
 use Rattle.math_generators.proofs.Jacobi.{pair_left, jacobi_right, by_generators}
@@ -120,7 +120,7 @@ module _ (K : Field) (P : Presentation K.Carrier) (T : Table K) (law : ObeysLaw 
   -- ideals
   closed_rows : (n : ℕ) (row : ℕ → Vector K) → ((v : Vector K) → IsGeneratorUnit K T n row v → InSpan K n row v) → IsClosedUnder K T n row
   closed_rows n row h =
-      closed_under (InSpan K n row) (rows_space K n row)
+      closed_under (InSpan K n row) (span_space K n row)
       (λ i v l g q. by_span K (IsGeneratorUnit K T n row) (InSpan K n row) (span_vzero K n row) (span_vplus K n row) (span_scale K n row) h _
       (of_rows n row i l g v q))
 

@@ -4,6 +4,7 @@ use mathlib.Core.Path.{sym, refl, ap, ap₂, ◌∙◌, subst}
 use Rattle.math_fields.specs.Field.{Field}
 use Rattle.math_linear.specs.Vector.{Vector, vzero, vplus, scale, place, total}
 use Rattle.math_linear.specs.Span.{Spanned, InSpan, IsRowOf, SpansKind}
+use Rattle.math_linear.specs.Linear.{IsSpace}
 use Rattle.math_linear.specs.Span.Spanned.{span_kind, span_none, span_sum, span_multiple}
 use Rattle.math_linear.proofs.Vectors.{vplus_assoc, vplus-vzero, vzero-vplus, plus-scale, scale_scale, scale-nought, minus-vplus, total_vplus, total_scale, total_same, total_vzero, total_place, by_members}
 
@@ -48,6 +49,9 @@ module _ (K : Field) (n : ℕ) (row : ℕ → Vector K) where
 
   pub span_scale : (c : K.Carrier) (x : Vector K) → InSpan K n row x → InSpan K n row (scale K c x)
   span_scale c x h = ((λ i. K.times c (h.0 i)), ap (scale K c) h.1 ∙ sym (total_scale K n c _) ∙ total_same K n _ _ (λ i. scale_scale K c (h.0 i) (row i)))
+
+  pub span_space : IsSpace K (InSpan K n row)
+  span_space = record { holds_none = span_vzero; holds_sum = span_vplus; holds_multiple = span_scale }
 
   pub span_total : (m : ℕ) (f : ℕ → Vector K) → ((i : ℕ) → i < m → InSpan K n row (f i)) → InSpan K n row (total K m f)
   span_total m f h = by_members K (InSpan K n row) span_vzero span_vplus m f h

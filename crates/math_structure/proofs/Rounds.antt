@@ -13,7 +13,7 @@ use Rattle.math_algebra.specs.Table.{Table, product, bracket}
 use Rattle.math_linear.proofs.Numbers.{nought-times}
 use Rattle.math_linear.proofs.Vectors.{total_none, place_other, scale-nought}
 use Rattle.math_linear.proofs.Places.{by_places}
-use Rattle.math_linear.proofs.Span.{by_span, span_vzero, span_vplus, span_scale, span_of_kind, spanned_more, rows_span}
+use Rattle.math_linear.proofs.Span.{by_span, span_vzero, span_vplus, span_scale, span_space, span_of_kind, spanned_more, rows_span}
 use Rattle.math_values.proofs.Products.{vzero-bracket, vplus-bracket, scale-bracket}
 use Rattle.math_subspaces.specs.Subspaces.Least.{least_map}
 use Rattle.math_subspaces.proofs.Counts.{equal_counts}
@@ -56,9 +56,6 @@ module _ (K : Field) where
       IsRowOf K m start v → InSpan K n row v
   start_in m start n row h v r = subst (InSpan K n row) (sym r.2) (h r.0 r.1)
 
-  pub rows_space : (n : ℕ) (row : ℕ → Vector K) → IsSpace K (InSpan K n row)
-  rows_space n row = record { holds_none = span_vzero K n row; holds_sum = span_vplus K n row; holds_multiple = span_scale K n row }
-
   pub ideal_space : (T : Table K) (S : Vector K → Type 0) → IsSpace K (InIdeal K T S)
   ideal_space T S = least_space K (λ i. bracket K T (place K i)) S
 
@@ -70,8 +67,8 @@ module _ (K : Field) where
 
   pub ideal_is_least : IdealIsLeast K
   ideal_is_least T m start n row holds closed =
-      within K (λ i. bracket K T (place K i)) (IsRowOf K m start) (InSpan K n row) (rows_space n row) (start_in m start n row holds)
-      (λ i v h. places_closed K T (InSpan K n row) (rows_space n row) v (λ i l. closed (place K i) v (place_vector K T i l) h) i)
+      within K (λ i. bracket K T (place K i)) (IsRowOf K m start) (InSpan K n row) (span_space K n row) (start_in m start n row holds)
+      (λ i v h. places_closed K T (InSpan K n row) (span_space K n row) v (λ i l. closed (place K i) v (place_vector K T i l) h) i)
 
   pub closed_by_units : ClosedByUnits K
   closed_by_units T n row stays x v h k =

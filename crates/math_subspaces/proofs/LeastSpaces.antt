@@ -8,7 +8,7 @@ use Rattle.math_linear.specs.Linear.{IsLinear, IsSpace}
 use Rattle.math_linear.specs.Span.{InSpan, IsRowOf}
 use Rattle.math_linear.proofs.Linear.{linear_total}
 use Rattle.math_linear.proofs.Vectors.{total_same}
-use Rattle.math_linear.proofs.Span.{span_vzero, span_vplus, span_scale, span_total}
+use Rattle.math_linear.proofs.Span.{span_scale, span_space, span_total}
 use Rattle.math_subspaces.specs.Subspaces.{Least}
 use Rattle.math_subspaces.specs.Subspaces.Least.{least_kind, least_none, least_sum, least_multiple, least_map}
 use Rattle.math_subspaces.specs.Laws.{LeastIsLeast, LeastBySpan}
@@ -31,9 +31,6 @@ module _ (K : Field) (map : ℕ → Vector K → Vector K) (S : Vector K → Typ
   total_least (suc n) f h = least_sum (total K n f) (f n) (total_least n f (λ i l. h i (omega arith))) (h n (omega arith))
 
   module _ (n : ℕ) (row : ℕ → Vector K) where
-    pub span_space : IsSpace K (InSpan K n row)
-    span_space = record { holds_none = span_vzero K n row; holds_sum = span_vplus K n row; holds_multiple = span_scale K n row }
-
     -- where the functions take the rows into their span, they take the span into it
     pub span_closed : ((i : ℕ) → IsLinear K (map i)) → ((i j : ℕ) → j < n → InSpan K n row (map i (row j))) → (i : ℕ) (v : Vector K) →
         InSpan K n row v → InSpan K n row (map i v)
@@ -55,13 +52,13 @@ module _ (K : Field) where
   pub least_is_least : LeastIsLeast K
   least_is_least map m start = (
     least_space K map (IsRowOf K m start),
-    (λ n row holds closed. within K map (IsRowOf K m start) (InSpan K n row) (span_space K map (IsRowOf K m start) n row)
+    (λ n row holds closed. within K map (IsRowOf K m start) (InSpan K n row) (span_space K n row)
         (start_in K map m start n row holds) closed),
   )
 
   pub least_by_span : LeastBySpan K
   least_by_span map linear m start n row holds inside closed v = (
     in_least K map (IsRowOf K m start) n row inside v,
-    within K map (IsRowOf K m start) (InSpan K n row) (span_space K map (IsRowOf K m start) n row) (start_in K map m start n row holds)
+    within K map (IsRowOf K m start) (InSpan K n row) (span_space K n row) (start_in K map m start n row holds)
         (span_closed K map (IsRowOf K m start) n row linear closed) v,
   )

@@ -8,3 +8,4 @@ pub mod Remainders
 pub mod RowSweeps
 pub mod Concluded
 pub mod Concluding
+pub mod Inverses

@@ -28,7 +28,7 @@ use Rattle.fpl_table.specs.Plain.{PlainTable, symbols_in}
 use Rattle.fpl_rewrite.specs.Origins.{origins_of}
 use Rattle.fpl_rewrite.specs.Rows.{row_of_origin}
 use Rattle.plain_weights.specs.Weight.{begun, put_of, gather, close_weight}
-use Rattle.plain_weights.proofs.InOrder.{scale_stays}
+use Rattle.plain_elimination.proofs.Inverses.{inverse_stays}
 use Rattle.plain_weights.proofs.Recorded.{put_parts, run_parts}
 use Rattle.fpl_check.specs.declared.cites.Cited.{Cited}
 use Rattle.fpl_check.specs.declared.cites.Cited.TheVariants.{Inserts, Closes}
@@ -162,7 +162,7 @@ module _ (T : PlainTable) (p : Presentation) (listed : IsField T.kind) (n : ℕ)
       let k = inverse_of T.kind (get_or x.row (s - 1) (residue 0)) in
       let f = part_fits _ (scale_of T.kind k x.row) r e in
       let t = lead_is x.row (length x.row) s l in
-      let kept = scale_stays T.kind listed n (get_or x.row (s - 1) (residue 0))
+      let kept = inverse_stays T.kind listed (get_or x.row (s - 1) (residue 0))
       (a (s - 1) (residue 0) (let u = t.from_one in let v = t.to_end in omega arith)) t.leads in
       let parts = insert_from h g o source x k f.0 c reads sweeps (ap (λ b. scaled_by T.kind (if b then None else Some k) x.row) kept ∙ f.1.0)
       (ap (λ b. if b then test_zero (AtStep (length g.rest + 1)) f.0 else Ok tt) kept) in

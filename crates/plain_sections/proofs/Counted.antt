@@ -36,7 +36,7 @@ use Rattle.plain_elimination.proofs.Found.{insert_pivots}
 use Rattle.fpl_table.specs.Plain.{PlainTable, symbols_in}
 use Rattle.fpl_rewrite.specs.Origins.{origins_of}
 use Rattle.plain_weights.specs.Weight.{put_of, gather, close_weight}
-use Rattle.plain_weights.proofs.InOrder.{scale_stays}
+use Rattle.plain_elimination.proofs.Inverses.{inverse_stays}
 use Rattle.plain_weights.proofs.Recorded.{put_parts, run_parts}
 use Rattle.fpl_check.proofs.ListedOrigins.{contains_rest}
 use Rattle.plain_sections.specs.Valid.{insert_count}
@@ -190,7 +190,7 @@ module _ (kind : Kind) (listed : IsField kind) (n : ℕ) where
       let a = get_or x.row (s - 1) (residue 0) in
       let f = part_fits _ (scale_of kind (inverse_of kind a) x.row) g e in
       let t = lead_is x.row (length x.row) s l in
-      let stays = scale_stays kind listed n a (is.elements (s - 1) (residue 0) (let u = t.from_one in let v = t.to_end in omega arith)) t.leads in
+      let stays = inverse_stays kind listed a (is.elements (s - 1) (residue 0) (let u = t.from_one in let v = t.to_end in omega arith)) t.leads in
       let one : keeps (Insert o x.terms (inverse_of kind a)) ≡ 1 = ap (λ b. if b then 0 else 1) stays in
       let q : PivotRow = record { lead = s; step = length h.steps + 1; row = f.0 } in
       let longer = length-append h.pivots (q ∷ []) in

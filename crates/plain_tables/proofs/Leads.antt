@@ -1,27 +1,13 @@
 -- The leads of rows are their pivots, and the places without a lead are the free places.
-use Rattle.std.specs.Prelude.{ℕ, zero, suc, ◌≡◌, ◌≢◌, ◌<◌, ◌-◌, List, [], ◌∷◌, ◌++◌, length, get_or, cond, Bool, true, false, Some, None, unwrap_or}
+use Rattle.std.specs.Prelude.{ℕ, zero, suc, ◌≡◌, ◌≢◌, ◌<◌, ◌-◌, List, [], ◌∷◌, ◌++◌, length, get_or, cond, Bool, true, false, Some, None}
 use mathlib.Core.Path.{sym, refl, ap, ◌∙◌}
 use native.Mathlib.Omega.{arith}
 use native.Mathlib.Decide.{ℕ_discrete}
 use Rattle.fpl_numbers.specs.declared.number.Num.{Num}
-use Rattle.fpl_numbers.specs.Numbers.{is_nought, residue}
 use Rattle.math_algebra.specs.NextTable.{is_pivot, free_places}
 use Rattle.math_standard.proofs.NextTables.{pivot_is, no_pivot_is}
-use Rattle.fpl_rows.specs.Positions.{lead_below as lead_position}
 use Rattle.fpl_rows.specs.Meaning.{pivot_of, pivot_in}
-use Rattle.fpl_table.specs.Push.{lead_below, lead_place, row_with_lead, is_lead, free_in}
-
-lead_same : (row : List Num) (n : ℕ) → lead_below row n ≡ unwrap_or (lead_position row n) 1 - 1
-lead_same row zero = omega arith
-lead_same row (suc s) = go (is_nought (get_or row s (residue 0))) (lead_same row s)
-  where
-    go : (b : Bool) → lead_below row s ≡ unwrap_or (lead_position row s) 1 - 1 → cond b (lead_below row s) s ≡
-        unwrap_or (cond b (lead_position row s) (Some (suc s))) 1 - 1
-    go true h = h
-    go false h = omega arith
-
-pub lead_is : (row : List Num) → lead_place row ≡ pivot_of row
-lead_is row = lead_same row (length row)
+use Rattle.fpl_table.specs.Push.{row_with_lead, is_lead, free_in}
 
 some_is : {X : Type 0} {x y : X} → Some x ≡ Some y → x ≡ y
 some_is e = cc
@@ -29,10 +15,10 @@ some_is e = cc
 none_some : {X : Type 0} {x : X} → None ≡ Some x → ⊥
 none_some e = cc
 
-here : (row : List Num) (rows : List (List Num)) (s : ℕ) → lead_place row ≡ s → (is_lead (row ∷ rows) s ≡ true) × (row_with_lead (row ∷ rows) s ≡ Some row)
+here : (row : List Num) (rows : List (List Num)) (s : ℕ) → pivot_of row ≡ s → (is_lead (row ∷ rows) s ≡ true) × (row_with_lead (row ∷ rows) s ≡ Some row)
 here row rows s e = (grind arith, grind arith)
 
-there : (row : List Num) (rows : List (List Num)) (s : ℕ) → lead_place row ≢ s → (is_lead (row ∷ rows) s ≡ is_lead rows s) ×
+there : (row : List Num) (rows : List (List Num)) (s : ℕ) → pivot_of row ≢ s → (is_lead (row ∷ rows) s ≡ is_lead rows s) ×
     (row_with_lead (row ∷ rows) s ≡ row_with_lead rows s)
 there row rows s n = (grind arith, grind arith)
 
@@ -41,41 +27,41 @@ true_false e = grind arith
 
 pub lead_found : (rows : List (List Num)) (s : ℕ) → is_lead rows s ≡ true → (i : ℕ) × (i < length rows) × (pivot_in rows i ≡ s)
 lead_found [] s e = absurd (true_false (sym e))
-lead_found (row ∷ rows) s e = go (ℕ_discrete (lead_place row) s) (λ f. lead_found rows s f)
+lead_found (row ∷ rows) s e = go (ℕ_discrete (pivot_of row) s) (λ f. lead_found rows s f)
   where
-    go : Dec (lead_place row ≡ s) → (is_lead rows s ≡ true → (i : ℕ) × (i < length rows) × (pivot_in rows i ≡ s)) →
+    go : Dec (pivot_of row ≡ s) → (is_lead rows s ≡ true → (i : ℕ) × (i < length rows) × (pivot_in rows i ≡ s)) →
         (i : ℕ) × (i < length (row ∷ rows)) × (pivot_in (row ∷ rows) i ≡ s)
-    go (yes d) h = (0, omega arith, sym (lead_is row) ∙ d)
+    go (yes d) h = (0, omega arith, d)
     go (no d) h = let r = h (sym (there row rows s d).0 ∙ e) in (suc r.0, omega (arith, r.1), r.2)
 
 pub lead_missing : (rows : List (List Num)) (s : ℕ) → is_lead rows s ≡ false → (i : ℕ) → i < length rows → pivot_in rows i ≢ s
 lead_missing [] s e i l d = absurd (omega arith)
-lead_missing (row ∷ rows) s e i l d = go (ℕ_discrete (lead_place row) s) i l d (λ f. lead_missing rows s f)
+lead_missing (row ∷ rows) s e i l d = go (ℕ_discrete (pivot_of row) s) i l d (λ f. lead_missing rows s f)
   where
-    go : Dec (lead_place row ≡ s) → (i : ℕ) → i < length (row ∷ rows) → pivot_in (row ∷ rows) i ≡ s →
+    go : Dec (pivot_of row ≡ s) → (i : ℕ) → i < length (row ∷ rows) → pivot_in (row ∷ rows) i ≡ s →
         (is_lead rows s ≡ false → (i : ℕ) → i < length rows → pivot_in rows i ≢ s) → ⊥
     go (yes f) i l d h = true_false (sym (here row rows s f).0 ∙ e)
-    go (no f) zero l d h = f (lead_is row ∙ d)
+    go (no f) zero l d h = f d
     go (no f) (suc i) l d h = h (sym (there row rows s f).0 ∙ e) i (omega arith) d
 
 pub row_found : (rows : List (List Num)) (s : ℕ) (r : List Num) → row_with_lead rows s ≡ Some r →
     (i : ℕ) × (i < length rows) × (get_or rows i [] ≡ r) × (pivot_in rows i ≡ s)
 row_found [] s r e = absurd (none_some e)
-row_found (row ∷ rows) s r e = go (ℕ_discrete (lead_place row) s) (λ f. row_found rows s r f)
+row_found (row ∷ rows) s r e = go (ℕ_discrete (pivot_of row) s) (λ f. row_found rows s r f)
   where
-    go : Dec (lead_place row ≡ s) → (row_with_lead rows s ≡ Some r → (i : ℕ) × (i < length rows) × (get_or rows i [] ≡ r) × (pivot_in rows i ≡ s)) →
+    go : Dec (pivot_of row ≡ s) → (row_with_lead rows s ≡ Some r → (i : ℕ) × (i < length rows) × (get_or rows i [] ≡ r) × (pivot_in rows i ≡ s)) →
         (i : ℕ) × (i < length (row ∷ rows)) × (get_or (row ∷ rows) i [] ≡ r) × (pivot_in (row ∷ rows) i ≡ s)
-    go (yes d) h = (0, omega arith, some_is (sym (here row rows s d).1 ∙ e), sym (lead_is row) ∙ d)
+    go (yes d) h = (0, omega arith, some_is (sym (here row rows s d).1 ∙ e), d)
     go (no d) h = let q = h (sym (there row rows s d).1 ∙ e) in (suc q.0, omega (arith, q.1), q.2, q.3)
 
 pub row_missing : (rows : List (List Num)) (s : ℕ) → row_with_lead rows s ≡ None → (i : ℕ) → i < length rows → pivot_in rows i ≢ s
 row_missing [] s e i l d = absurd (omega arith)
-row_missing (row ∷ rows) s e i l d = go (ℕ_discrete (lead_place row) s) i l d (λ f. row_missing rows s f)
+row_missing (row ∷ rows) s e i l d = go (ℕ_discrete (pivot_of row) s) i l d (λ f. row_missing rows s f)
   where
-    go : Dec (lead_place row ≡ s) → (i : ℕ) → i < length (row ∷ rows) → pivot_in (row ∷ rows) i ≡ s →
+    go : Dec (pivot_of row ≡ s) → (i : ℕ) → i < length (row ∷ rows) → pivot_in (row ∷ rows) i ≡ s →
         (row_with_lead rows s ≡ None → (i : ℕ) → i < length rows → pivot_in rows i ≢ s) → ⊥
     go (yes f) i l d h = none_some (sym e ∙ (here row rows s f).1)
-    go (no f) zero l d h = f (lead_is row ∙ d)
+    go (no f) zero l d h = f d
     go (no f) (suc i) l d h = h (sym (there row rows s f).1 ∙ e) i (omega arith) d
 
 test_same : (rows : List (List Num)) (s : ℕ) → is_lead rows s ≡ is_pivot (length rows) (pivot_in rows) s

@@ -16,7 +16,6 @@ use Rattle.fpl_numbers.specs.Quotients.{quotient_of, whole}
 use Rattle.math_fields.proofs.Gcd.{gcd_is}
 use Rattle.fpl_numbers.proofs.Integers.{abs_of_positive, positive_is}
 use Rattle.fpl_numbers.proofs.KindReads.{listed_prime}
-use Rattle.fpl_lex.specs.Cut.{most_value}
 use Rattle.fpl_syntax.specs.Grammar.{signed, or_nought, coefficient_of}
 use Rattle.fpl_spelling.specs.Spelling.{is_negative, is_below_nought}
 
@@ -122,8 +121,8 @@ coefficient_back (Prime p) c h e =
     (within (Prime p) false r 1 (residue r) (omega arith) (omega arith) (residue_back p above r few))
 
 -- the numbers that are written fit
-pub parts_small : (kind : Kind) (c : Num) → IsField kind → IsElement kind c → (unsigned_abs c.numerator ≤ most_value) ×
-    (unsigned_abs c.denominator ≤ most_value)
+pub parts_small : (kind : Kind) (c : Num) → IsField kind → IsElement kind c → (unsigned_abs c.numerator ≤ most_number) ×
+    (unsigned_abs c.denominator ≤ most_number)
 parts_small Rational c h e = e.1
 parts_small (Prime p) c h e =
     let small = listed_small p h in

@@ -6,7 +6,8 @@ use native.Mathlib.Nat.{mod-lt, div-add-mod}
 use Rattle.std.proofs.lemmas.Bool.{le-leb, and_parts, and_from}
 use Rattle.std.proofs.lemmas.Fmt.{decimal_by_steps_wide}
 use Rattle.fpl_alphabet.specs.Bytes.{is_digit}
-use Rattle.fpl_lex.specs.Cut.{most_value, number, Stops, IsPiece, value_from, value_of}
+use Rattle.fpl_lex.specs.Cut.{number, Stops, IsPiece, value_from, value_of}
+use Rattle.fpl_numbers.specs.Numbers.{most_number}
 
 abbrev AreDigits : List ℕ → Type 0
 AreDigits [] = ⊥
@@ -50,11 +51,11 @@ one_more n ds l w =
           value_from-append 0 ds (48 + n % 10) ∙ ap (λ v. 10 * v + (48 + n % 10 - 48)) w.value ∙ e;
     }
 
-written : (n : ℕ) → n ≤ most_value → Writes n (decimal n)
+written : (n : ℕ) → n ≤ most_number → Writes n (decimal n)
 written n few = decimal_by_steps_wide Writes one_digit one_more n (omega arith)
 
-pub decimal_piece : (n : ℕ) (after : List ℕ) → n ≤ most_value → Stops is_digit after → IsPiece number (decimal n) after
+pub decimal_piece : (n : ℕ) (after : List ℕ) → n ≤ most_number → Stops is_digit after → IsPiece number (decimal n) after
 decimal_piece n after few stops = digits_piece (decimal n) after (written n few).digits stops
 
-pub decimal_value : (n : ℕ) → n ≤ most_value → value_of (decimal n) ≡ n
+pub decimal_value : (n : ℕ) → n ≤ most_number → value_of (decimal n) ≡ n
 decimal_value n few = (written n few).value

@@ -12,7 +12,8 @@ use Rattle.fpl_lex.specs.declared.token.Token.{Token}
 use Rattle.fpl_lex.specs.declared.token.TokenKind.TheVariants as kinds
 use Rattle.fpl_lex.specs.declared.fault.LexError.{LexError}
 use Rattle.fpl_lex.specs.declared.fault.LexError.TheVariants.{NameTooLong, NumberTooLarge}
-use Rattle.fpl_lex.specs.Cut.{most_value, Form, blank, comment, word, number, mark, other, Piece, IsPiece, IsCut, value_from, value_of, piece_tokens, mark_tokens, token_at, joined, reading_from, Reads}
+use Rattle.fpl_lex.specs.Cut.{Form, blank, comment, word, number, mark, other, Piece, IsPiece, IsCut, value_from, value_of, piece_tokens, mark_tokens, token_at, joined, reading_from, Reads}
+use Rattle.fpl_numbers.specs.Numbers.{most_number}
 use Rattle.fpl_syntax.specs.declared.terminal.Terminal.{Terminal}
 use Rattle.fpl_syntax.specs.declared.terminal.Terminal.TheVariants as terminal
 use Rattle.fpl_syntax.specs.Sight.{word_of}
@@ -46,7 +47,7 @@ value_bound n (b ∷ bs) h =
     subst (λ t. value_from n (b ∷ bs) + 1 ≤ (n + 1) * t) (sym (pow-suc 10 (length bs)))
     (more_digits n _ (b - 48) (10 ^ length bs) (digit_small b s.0) (value_bound (10 * n + (b - 48)) bs s.1))
 
-pub decimal_short : (n : ℕ) (ds : List ℕ) → 0 < length ds → IsTrue (list_all is_digit ds) → n ≤ value_of ds → n ≤ most_value → length (decimal n) ≤ length ds
+pub decimal_short : (n : ℕ) (ds : List ℕ) → 0 < length ds → IsTrue (list_all is_digit ds) → n ≤ value_of ds → n ≤ most_number → length (decimal n) ≤ length ds
 decimal_short n ds some digits below few = length-decimal-le_wide (length ds) n some (let v = value_bound 0 ds digits in omega arith) (omega arith)
 
 -- a lesser number has no more digits
@@ -61,7 +62,7 @@ power_above = decimal_by_steps_wide (λ m ds. m + 1 ≤ 10 ^ length ds) (λ m l.
         let r : m % 10 < 10 = mod-lt m (omega arith) in
         subst (λ k. m + 1 ≤ 10 ^ k) (sym e) (subst (λ t. m + 1 ≤ t) (sym (pow-suc 10 (length ds))) (omega arith))
 
-pub digits_up : (m n : ℕ) → m ≤ n → n ≤ most_value → length (decimal m) ≤ length (decimal n)
+pub digits_up : (m n : ℕ) → m ≤ n → n ≤ most_number → length (decimal m) ≤ length (decimal n)
 digits_up m n l few =
     length-decimal-le_wide (length (decimal n)) m (decimal_is_IsNumeral_wide n (omega arith)).0.0 (let h = power_above n (omega arith) in omega arith)
     (omega arith)
@@ -109,14 +110,14 @@ module _ (text : List ℕ) where
       let w = word_size (word_of text at (at + length bytes)) at (at + length bytes) (length bytes) some (omega arith) in
       subst (Fit (length bytes)) (ok_same e) (omega (arith, w))
 
-  number_fits : (at : ℕ) (bytes : List ℕ) (us : List Token) (t : Bool) → nat_lt most_value (value_of bytes) ≡ t → 1 ≤ length bytes →
+  number_fits : (at : ℕ) (bytes : List ℕ) (us : List Token) (t : Bool) → nat_lt most_number (value_of bytes) ≡ t → 1 ≤ length bytes →
       IsTrue (list_all is_digit bytes)
       → ◌≡◌ {A = Result (List Token) LexError} (if t then Err (NumberTooLarge at) else Ok (token_at at bytes (kinds.Number (value_of bytes)) ∷ []))
       (Ok us) → Fit (length bytes) us
   unfolding terminal_of
   number_fits at bytes us true test some digits e = cc
   number_fits at bytes us false test some digits e =
-      let few = ltb-false most_value (value_of bytes) test in
+      let few = ltb-false most_number (value_of bytes) test in
       let d = decimal_short (value_of bytes) bytes some digits (omega arith) few in
       subst (Fit (length bytes)) (ok_same e) (omega (arith, d))
 
@@ -131,7 +132,7 @@ module _ (text : List ℕ) where
   piece_fits at word [] after us piece e = elim piece [ ]
   piece_fits at word (b ∷ bs) after us piece e = word_fits at (b ∷ bs) us (nat_lt 32 (length (b ∷ bs))) (omega arith) e
   piece_fits at number [] after us piece e = elim piece [ ]
-  piece_fits at number (b ∷ bs) after us piece e = number_fits at (b ∷ bs) us (nat_lt most_value (value_of (b ∷ bs))) refl (omega arith)
+  piece_fits at number (b ∷ bs) after us piece e = number_fits at (b ∷ bs) us (nat_lt most_number (value_of (b ∷ bs))) refl (omega arith)
       (and_from (is_digit b) (list_all is_digit bs) piece.0 piece.1) e
   piece_fits at mark [] after us piece e = elim piece [ ]
   piece_fits at mark (b ∷ []) after us piece e = subst (Fit 1) (ok_same e) (mark_fits at b)

@@ -8,7 +8,8 @@ use Rattle.fpl_lex.specs.declared.token.Token.{Token}
 use Rattle.fpl_lex.specs.declared.token.TokenKind.{TokenKind}
 use Rattle.fpl_lex.specs.declared.token.TokenKind.TheVariants as kinds
 use Rattle.fpl_lex.specs.declared.fault.LexError.TheVariants.{NameTooLong, NumberTooLarge}
-use Rattle.fpl_lex.specs.Cut.{most_value, Form, blank, word, number, mark, Piece, Stops, IsPiece, IsCut, value_of, token_at, piece_tokens, joined, reading_from}
+use Rattle.fpl_lex.specs.Cut.{Form, blank, word, number, mark, Piece, Stops, IsPiece, IsCut, value_of, token_at, piece_tokens, joined, reading_from}
+use Rattle.fpl_numbers.specs.Numbers.{most_number}
 use Rattle.fpl_syntax.specs.declared.terminal.Terminal.{Terminal}
 use Rattle.fpl_syntax.specs.declared.terminal.Terminal.TheVariants as terminal
 use Rattle.fpl_syntax.specs.Sight.{word_of}
@@ -110,12 +111,12 @@ module _ (text : List ℕ) where
       spells_token held held word kinds.Word w after _ terminals (word_is w after is stops) (word_fits (place (w ++ after)) w few)
       (ap (λ b. word_terminal b (place (w ++ after)) (place (w ++ after) + length w)) (bytes_there w after e)) refl depth e s
 
-  number_fits : (at : ℕ) (ds : List ℕ) (n : ℕ) → value_of ds ≡ n → n ≤ most_value → piece_tokens at number ds ≡ Ok (token_at at ds (kinds.Number n) ∷ [])
+  number_fits : (at : ℕ) (ds : List ℕ) (n : ℕ) → value_of ds ≡ n → n ≤ most_number → piece_tokens at number ds ≡ Ok (token_at at ds (kinds.Number n) ∷ [])
   number_fits at ds n is few =
-      ap (λ v. if nat_lt most_value v then Err (NumberTooLarge at) else Ok (token_at at ds (kinds.Number v) ∷ [])) is
-      ∙ ap (λ (b : Bool). if b then Err (NumberTooLarge at) else Ok (token_at at ds (kinds.Number n) ∷ [])) (le-ltb most_value n few)
+      ap (λ v. if nat_lt most_number v then Err (NumberTooLarge at) else Ok (token_at at ds (kinds.Number v) ∷ [])) is
+      ∙ ap (λ (b : Bool). if b then Err (NumberTooLarge at) else Ok (token_at at ds (kinds.Number n) ∷ [])) (le-ltb most_number n few)
 
-  pub spells_number : (held n : ℕ) (after : List ℕ) (terminals : List Terminal) → n ≤ most_value → Stops is_digit after → held ≤ 64 →
+  pub spells_number : (held n : ℕ) (after : List ℕ) (terminals : List Terminal) → n ≤ most_number → Stops is_digit after → held ≤ 64 →
       IsLeft (decimal n ++ after)
       → Spells held after terminals → Spells held (decimal n ++ after) (terminal.Number (record { place = place (decimal n ++ after); value = n }) ∷ terminals)
   spells_number held n after terminals few stops depth e s =

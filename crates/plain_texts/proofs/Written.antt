@@ -8,10 +8,10 @@ use Rattle.std.proofs.lemmas.Bool.{ne_eqb, eqb-true}
 use Rattle.fpl_syntax.specs.Sight.{word_of, number_from}
 use Rattle.std.proofs.lemmas.List.{append-nil}
 use Rattle.fpl_alphabet.specs.Bytes.{is_word_byte, is_letter, is_digit, IsName}
-use Rattle.fpl_lex.specs.Cut.{most_value, Stops}
+use Rattle.fpl_lex.specs.Cut.{Stops}
 use Rattle.fpl_numbers.specs.declared.number.Num.{Num}
 use Rattle.fpl_numbers.specs.declared.number.Kind.{Kind}
-use Rattle.fpl_numbers.specs.Numbers.{IsField, IsElement}
+use Rattle.fpl_numbers.specs.Numbers.{most_number, IsField, IsElement}
 use Rattle.math_algebra.specs.Tree.{Tree, Trees, gen, none, sum_of, multiple, bracket_of, end as last, more, trees}
 use Rattle.fpl_model.specs.declared.expr.Expr.{Expr}
 use Rattle.fpl_model.specs.declared.presentation.Generator.{Generator}
@@ -285,7 +285,7 @@ module _ (text : List ℕ) (kind : Kind) (gs : List Generator) (field : IsField 
     abbrev d : ℕ
     d = unsigned_abs c.denominator
 
-    small : (n ≤ most_value) × (d ≤ most_value)
+    small : (n ≤ most_number) × (d ≤ most_number)
     small = parts_small kind c field element
 
     term_if : (t : Bool) (after : List ℕ) (terminals : List Terminal) → nat_eq d 1 ≡ t → held + deep_factor e ≤ 64 → Stops is_word_byte after

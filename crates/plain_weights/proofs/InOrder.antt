@@ -5,10 +5,9 @@ use mathlib.Core.Path.{refl, sym, ap, ◌∙◌, subst}
 use native.Mathlib.Omega.{arith}
 use Rattle.std.proofs.lemmas.List.{length-append, get_or_append_left, get_or_push}
 use Rattle.math_linear.specs.Vector.{vzero}
-use Rattle.math_linear.proofs.Numbers.{nought-times}
 use Rattle.fpl_numbers.specs.declared.number.Num.{Num}
 use Rattle.fpl_numbers.specs.declared.number.Kind.{Kind}
-use Rattle.fpl_numbers.specs.Numbers.{IsField, IsElement, is_nought, residue, negative_of, inverse_of}
+use Rattle.fpl_numbers.specs.Numbers.{IsField, is_nought, residue, negative_of, inverse_of}
 use Rattle.fpl_numbers.specs.Kinds.{field_of, number_of}
 use Rattle.fpl_numbers.specs.Results.{map_ok}
 use Rattle.fpl_numbers.specs.Reads.{Reads}
@@ -22,6 +21,7 @@ use Rattle.fpl_log.specs.declared.step.Origin.{Origin}
 use Rattle.fpl_log.specs.declared.step.Step.{Step}
 use Rattle.fpl_log.specs.declared.step.Step.TheVariants.{Insert, Close}
 use Rattle.fpl_log.specs.Slim.{is_left_out, new_number, next_number, next_count, numbers_after, IsEarlier, CitesEarlier, AreInOrder}
+use Rattle.plain_elimination.proofs.Inverses.{inverse_stays}
 use Rattle.plain_elimination.specs.Plain.{PivotRow, IsPivotRow, stands_at, Swept, taken_off, sweep_by, sweep_at, sweep_of, Held, Inserted, keep_of, insert_of, close_by, close_to}
 use Rattle.plain_elimination.proofs.Sweeping.{sweep_reads}
 
@@ -118,17 +118,6 @@ module _ (kind : Kind) (listed : IsField kind) (n : ℕ) where
   reads : Reads kind (field_of kind) (number_of kind)
   reads = kind_reads kind listed
 
-  -- the scale of a row that is kept is not 0
-  pub scale_stays : (a : Num) → IsElement kind a → is_nought a ≡ false → is_nought (inverse_of kind a) ≡ false
-  scale_stays a is e = go (is_nought (inverse_of kind a)) refl
-    where
-      go : (b : Bool) → is_nought (inverse_of kind a) ≡ b → b ≡ false
-      go false f = refl
-      go true f =
-          let i = reads.inverse a is e in
-          absurd ((field_of kind).unit≢nought (sym i.1 ∙ ap (λ w. (field_of kind).times w (number_of kind a)) (reads.zero_is (inverse_of kind a) i.0 f)
-          ∙ nought-times (field_of kind) (number_of kind a)))
-
   keep_recorded : (h g : Held) (origin : Origin) (x : Swept) (o : Option ℕ) → AreElements kind x.row → lead_of x.row ≡ o →
       All (λ t. IsEarlier (length (numbered h.steps)) t.step) x.terms → Recorded h.pivots h.steps →
       keep_of kind h origin x o ≡ Ok g → Recorded g.pivots g.steps
@@ -142,7 +131,7 @@ module _ (kind : Kind) (listed : IsField kind) (n : ℕ) where
       let c = inverse_of kind (get_or x.row (s - 1) (residue 0)) in
       let f = part_fits _ (scale_of kind c x.row) g e in
       let t = lead_is x.row (length x.row) s l in
-      let kept = scale_stays (get_or x.row (s - 1) (residue 0)) (a (s - 1) (residue 0) (let u = t.from_one in let v = t.to_end in omega arith)) t.leads in
+      let kept = inverse_stays kind listed (get_or x.row (s - 1) (residue 0)) (a (s - 1) (residue 0) (let u = t.from_one in let v = t.to_end in omega arith)) t.leads in
       subst (λ g. Recorded g.pivots g.steps) (sym f.1.1)
       (record {
         order = order_more [] 0 h.steps (Insert origin x.terms c) r.order terms;

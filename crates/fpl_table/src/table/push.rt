@@ -6,8 +6,8 @@ ghost use Rattle.fpl_model.specs.Mono.{expr_of};
 ghost use Rattle.fpl_table.specs.Plain.{basis_in, symbol_in, symbols_in, table_in, shell_in};
 ghost use Rattle.fpl_table.specs.Shape.{HasShape, IsNumbered, IsOfTable, basis_trees, symbol_tree_in};
 ghost use Rattle.fpl_table.specs.Standard.{count_of};
-ghost use Rattle.fpl_table.specs.Push.{free_of, new_basis, push_of};
-ghost use Rattle.fpl_table.specs.Leads.{IsSolved, IsNext, trees_of, basis_of};
+ghost use Rattle.fpl_table.specs.Push.{basis_of, free_of, new_basis, push_of};
+ghost use Rattle.fpl_table.specs.Leads.{IsSolved, IsNext, trees_of};
 
 use super::leads::ClosedRows;
 use super::{Element, Level, Table};

@@ -5,8 +5,7 @@ use Rattle.math_algebra.specs.Symbols.{no_symbol}
 use Rattle.fpl_table.specs.declared.symbol.Symbol.TheVariants.{Gen}
 use Rattle.fpl_table.specs.Plain.{symbol_in, symbols_in, basis_in}
 use Rattle.fpl_table.specs.Shape.{IsOfTable, IsNumbered, symbol_tree_in, basis_trees}
-use Rattle.fpl_table.specs.Push.{new_basis}
-use Rattle.fpl_table.specs.Leads.{basis_of}
+use Rattle.fpl_table.specs.Push.{basis_of, new_basis}
 use Rattle.fpl_table.proofs.Lists.{all_push}
 use Rattle.fpl_table.proofs.Places.{symbol_of_table}
 use Rattle.fpl_table.proofs.table.Table.new_elements.Goals as goal
