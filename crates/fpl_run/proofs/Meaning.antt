@@ -121,7 +121,13 @@ meant words c v bytes s text is fits from told =
       standard = table_at s.presentation w.stage.table w.stage.table.weight c.limit (standard.whole (shown_through c v s told.0)) standard.table;
       sections = w.stage.sections;
       accepted = standard.accepted;
-      shows = texts_show v s.presentation w.stage.table w.stage.sections text (start_sound c bytes fits s from) standard.table standard.raised told.1;
+      shows = texts_show v s.presentation w.stage.table w.stage.sections text (start_sound c bytes fits s from) (record {
+        standard = standard.table;
+        raised = standard.raised;
+        shape = standard.shape;
+        of_weights = standard.sections;
+        accepted = standard.accepted;
+      }) told.1;
     }
 
 -- a reply with a text

@@ -9,12 +9,12 @@ given : (a b : List ℕ) → ◌≡◌ {A = Result (List ℕ) ViewFault} (Ok a) 
 given a b e = cc
 
 pub texts_show : TextsShow
-texts_show Table p T sections text sound standard raised e = given _ text e
-texts_show Series p T sections text sound standard raised e = given _ text e
+texts_show Table p T sections text sound made e = given _ text e
+texts_show Series p T sections text sound made e = given _ text e
 
 pub texts_fit : TextsFitOverPrimes
-texts_fit Table n p T sections u sound standard raised prime e = cc
-texts_fit Series n p T sections u sound standard raised prime e = cc
+texts_fit Table n p T sections u sound made prime e = cc
+texts_fit Series n p T sections u sound made prime e = cc
 
 pub texts_of_tables : TextsAreOfTables
 texts_of_tables Table of_table p T ss more = refl

@@ -48,6 +48,7 @@ walks_are_standard computes entries limit place stored p at sound most range byt
     record {
       table = held_is_table p w.stage.table t.stands.holds;
       raised = t.stands.built;
+      shape = t.stands.holds.shape;
       within = t.stands.within;
       sections = t.stands.sections;
       accepted = t.stands.accepted;

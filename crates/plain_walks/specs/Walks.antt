@@ -1,9 +1,9 @@
 -- What a walk through the weights of a presentation gives, in the words of the algebra.
 --
 --   walk_over c e p at n place stored   the walk of p through n weights, from the one through weight 0, over what is stored from a place on
---   IsStandardWalk p e n w              its table is the standard table of p through the weight that it came to, whose symbols number at most e; it has one
---                                       section a weight, and each is accepted over the table of the weights below; and it came to n, or stopped at the
---                                       weight before which it stands
+--   IsStandardWalk p e n w              its table is the standard table of p through the weight that it came to, whose symbols number at most e,
+--                                      with a row for each generator and each regular pair; it has one section a weight, and each is accepted over
+--                                      the table of the weights below; and it came to n, or stopped at the weight before which it stands
 --   HasCome p e n w T                   1 <= w <= n; T is the standard table of p through the weights below w; the symbols of weights 1 to v number at most
 --                                       e, for each v up to w
 --   StandsWhole p at place w s          at a place of the stored bytes a section of weight w stands whole, and s is its content
@@ -15,6 +15,7 @@ use Rattle.fpl_log.specs.declared.section.Section.{Section}
 use Rattle.fpl_model.specs.declared.presentation.Presentation.{Presentation}
 use Rattle.fpl_table.specs.Plain.{PlainTable}
 use Rattle.fpl_table.specs.Standard.{IsTableOf, PassesAt, count_through}
+use Rattle.fpl_table.specs.Shape.{HasShape}
 use Rattle.plain_tables.specs.Raised.{IsRaised}
 use Rattle.plain_weights.specs.Section.{OverflowsAt}
 use Rattle.fpl_check.specs.Refusal.{bad, unfit}
@@ -33,6 +34,7 @@ walk_over computes entries p at limit place stored = walk_of computes entries p 
 pub record IsStandardWalk (p : Presentation) (entries limit : ℕ) (w : Walked) : Type 0 where
   pub table : IsTableOf p w.stage.table.weight w.stage.table
   pub raised : IsRaised p w.stage.table
+  pub shape : HasShape w.stage.table
   pub within : (v : ℕ) → v ≤ w.stage.table.weight → count_through w.stage.table v ≤ entries
   pub sections : AreOfWeights w.stage.table.weight w.stage.sections
   pub accepted : AreAccepted p w.stage.table w.stage.sections
