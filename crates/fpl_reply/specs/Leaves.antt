@@ -4,8 +4,8 @@
 --       whole: the text of the reply was appended
 --       part: a put failed, after a prefix of the text of a reply of A
 --       front: memory ran out, and nothing was appended, or one of F
---   IsAnswered A F result ..: the input failed; or the status is that of such a reply, and what it leaves stands in the output; and its line in the error
---     output
+--   IsAnswered A F result ..: the input failed; or the status is that of such a reply, and what it leaves stands in the output; and its
+--     line in the error output
 use Rattle.std.specs.Prelude.{ℕ, ◌≡◌, ◌⊎◌, List}
 use Rattle.std.specs.declared.option.Option.{Option}
 use Rattle.fpl_outside.specs.Outside.{Rose, Takes}

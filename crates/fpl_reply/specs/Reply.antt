@@ -1,6 +1,6 @@
 -- What a run replies.
---   Reply: how it ends, with what its output or its line shows: the text of a view; or why there is none; a run that a fault stops, with what was written
---     before
+--   Reply: how it ends, with what its output or its line shows: the text of a view; or why there is none; a run that a fault stops,
+--     with what was written before
 --   fault_status, view_fault_status: the status of a fault that stops a run, and of one in making the text of its view
 --   status_of: the status of a reply
 --   text_of: the bytes written to the output

@@ -1,8 +1,8 @@
 -- The reply to words and the bytes of an input. At each step exactly one of the cases holds.
 --   text_of_way way s limit stage: the text of a view over the last stage of its walk, or a fault of its own: the text of the table; the checkpoint; or how
 --   many sections passed a check, and how many bytes stand after them
---   written_before way p sections: what a view has written when a fault stops its walk: a checkpoint the head and the sections of the weights below, others
---     nothing
+--   written_before way p sections: what a view has written when a fault stops its walk: a checkpoint the head and the sections of
+--     the weights below, others nothing
 --   AnswersTask t s: a fault stops the walk at a weight; or it comes to its end, and the view has a fault of its own; or a text
 --   AnswersStart c s: the view isn't built yet; or it is, and has the reply of its task
 --   AnswersCommand c bytes: the view reads no input, and isn't built; the bytes are nothing for the command; or they are a start

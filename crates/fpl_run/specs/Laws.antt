@@ -1,8 +1,8 @@
 -- What the replies obey. The words spell the command c, and the bytes of an input are bytes.
 --   OneReply: words and the bytes of an input have at most one reply
 --   OneText: inputs with one presentation, whoever made the checkpoints among them, have one text of a view that is of the table alone
---   WalksAreStandard: the table of a walk is the standard table of the presentation that was read, through the weight that the walk has come to, and its
---     symbols
+--   WalksAreStandard: the table of a walk is the standard table of the presentation that was read, through the weight that the walk has
+--     come to, and its symbols
 --   stay within the entries
 --   PrimesFit: over a prime no reply is that an operation doesn't fit, whatever is stored
 --   StopsMean: what a fault says over the standard table that the walk had come to

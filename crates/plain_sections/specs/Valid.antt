@@ -6,8 +6,8 @@
 --   SlimIsAccepted        an accepted section stays accepted as it is kept, with the same rows
 --   SlimIsFor             and is a section of the weight in numbers of the field, as before
 --   SlimIsSlim            what is kept is kept as it is
---   WholeIsAccepted       the section of a computed weight is accepted with the rows that were computed: the check's operations are among those of the
---     computing
+--   WholeIsAccepted       the section of a computed weight is accepted with the rows that were computed: the check's operations are
+--                         among those of the computing
 --   SectionIsAccepted     and so it is as it is kept, with the rows of the table's next weight
 --   SectionIsFor          it is a section of the weight in numbers of the field
 --   SectionIsSlim         and is kept as it is
