@@ -1,0 +1,5 @@
+pub mod Words
+pub mod Action
+pub mod Envelope
+pub mod Polys
+pub mod Laws
