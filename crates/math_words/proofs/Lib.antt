@@ -1,15 +1,15 @@
-mod Steps
-mod Spaces
-mod Members
+pub mod Steps
+pub mod Spaces
+pub mod Members
 mod Fuel
-mod Linear
+pub mod Linear
 mod Numbers
 mod Parts
 mod Deep
 mod Odd
 mod Action
-mod Letters
+pub mod Letters
 mod Equal
-mod Orders
+pub mod Orders
 pub mod Coefficients
 pub mod Main

@@ -50,7 +50,7 @@ same_other w u d = by_same (same_word w u) refl
     by_same true e = absurd (d (same_words w u e))
     by_same false e = e
 
-less_apart : (w u : Word) → IsLess w u → w ≡ u → ⊥
+pub less_apart : (w u : Word) → IsLess w u → w ≡ u → ⊥
 less_apart _ _ (less_end i w) e = ends i w e
   where
     ends : (i : ℕ) (w : Word) → [] ≡ (i ∷ w) → ⊥
