@@ -1,9 +1,11 @@
 -- Members of lists of rows to be put in.
 use Rattle.std.specs.Prelude.{◌≡◌, ℕ, zero, suc, ◌<◌, ◌⊎◌, List, [], ◌∷◌, ◌++◌, length, map, get_or, Result, Ok, Err}
 use mathlib.Core.Logic.{inl, inr}
-use mathlib.Core.Path.{sym, refl, ap}
+use mathlib.Core.Path.{sym, refl, ap, subst}
 use native.Mathlib.Omega.{arith}
+use native.Mathlib.Decide.{ℕ_discrete}
 use Rattle.math_linear.specs.Vector.{Vector}
+use Rattle.math_linear.specs.Lists.{joined}
 use Rattle.fpl_numbers.specs.declared.number.Num.{Num}
 use Rattle.fpl_numbers.specs.declared.number.Kind.{Kind}
 use Rattle.fpl_numbers.specs.declared.number.Unfit.{Unfit}
@@ -53,6 +55,24 @@ module _ {X : Type 0} where
   among_either [] ys y h = inr h
   among_either (x ∷ xs) ys y (inl e) = inl (inl e)
   among_either (x ∷ xs) ys y (inr h) = elim (among_either xs ys y h) [ inl a ↦ inl (inr a) | inr a ↦ inr a ]
+
+pub among_joined : {X : Type 0} (n : ℕ) (f : ℕ → List X) (y : X) → Among (joined n f) y → (i : ℕ) × (i < n) × Among (f i) y
+unfolding joined
+among_joined zero f y h = absurd h
+among_joined (suc n) f y h =
+    elim (among_either (joined n f) (f n) y h) [
+      | inl a ↦ let r = among_joined n f y a in (r.0, (omega (arith, r.1)), r.2)
+      | inr a ↦ (n, (omega arith), a)
+    ]
+
+pub joined_among : {X : Type 0} (n : ℕ) (f : ℕ → List X) (y : X) (i : ℕ) → i < n → Among (f i) y → Among (joined n f) y
+unfolding joined
+joined_among zero f y i l h = absurd (omega arith)
+joined_among (suc n) f y i l h =
+    elim (ℕ_discrete i n) [
+      | yes e ↦ among_right (joined n f) (f n) y (subst (λ i. Among (f i) y) e h)
+      | no d ↦ among_left (joined n f) (f n) y (joined_among n f y i (omega arith) h)
+    ]
 
 pub among_map : {X Y : Type 0} (f : X → Y) (xs : List X) (d : X) (y : Y) → Among (map f xs) y → (k : ℕ) × (k < length xs) × (f (get_or xs k d) ≡ y)
 among_map f [] d y h = absurd h

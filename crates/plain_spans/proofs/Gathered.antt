@@ -21,8 +21,9 @@ use Rattle.plain_elimination.specs.Plain.{PivotRow, IsPivotRow, Held, Eliminatio
 use Rattle.plain_elimination.specs.Spans.{table_of, InSpanAt}
 use Rattle.plain_elimination.proofs.Spans.{standing, spans_more, close_form}
 use Rattle.plain_elimination.proofs.Found.{insert_means, insert_pivots, close_means}
-use Rattle.plain_spans.specs.Plain.{begin, with_held, put_row, put_rows, closed_of, closed_span}
+use Rattle.plain_spans.specs.Plain.{begin, with_held, put_row, put_rows, closed_of, closed_span, span_of}
 use Rattle.plain_spans.specs.Means.{IsFormed, AreFormed, SpanMeans}
+use Rattle.plain_spans.proofs.Among.{Among, all_fit}
 
 module _ (kind : Kind) (listed : IsField kind) (n : ℕ) where
   abbrev pub K : Field
@@ -121,3 +122,11 @@ span_means k listed n rows closed f is =
     let c = closed_span_is k listed n rows p.0 f p.1.0 in
     subst (λ closed. IsClosedList k n closed × ((v : Vector (field_of k)) → InSpanOf k closed v ↔ Spanned (field_of k) (IsFormed k rows) v))
     (sym p.1.1) (c.closed, c.span)
+
+-- all rows of a span could be formed
+pub span_fits : (k : Kind) (n : ℕ) (rows : List (Result (List Num) Unfit)) (closed : List (List Num)) → span_of k n rows ≡ Ok closed →
+    (r : Result (List Num) Unfit) → Among rows r → (row : List Num) × (r ≡ Ok row)
+span_fits k n rows closed is r h =
+    let p = part_fits rows_of (closed_span k n rows) closed is in
+    let e = first_fits closed_of (put_rows rows (begin k n)) p.0 p.1.0 in
+    all_fit rows (begin k n) e.0 e.1.0 r h

@@ -6,7 +6,7 @@ use mathlib.Core.Path.{sym, refl, ap, ◌∙◌, fun_ext, subst}
 use native.Mathlib.Omega.{arith}
 use native.Mathlib.Decide.{ℕ_discrete, dec_lt}
 use Rattle.math_linear.specs.Vector.{Vector, place}
-use Rattle.math_linear.specs.Lists.{vector_of}
+use Rattle.math_linear.specs.Lists.{joined, vector_of}
 use Rattle.math_linear.specs.Span.{Spanned}
 use Rattle.math_linear.specs.Echelon.{IsRow}
 use Rattle.math_linear.specs.Kernel.{IsSolution, IsFree, free_at as free_in, free_row as row_in}
@@ -26,9 +26,9 @@ use Rattle.fpl_rows.proofs.Noughts.{nought_element}
 use Rattle.fpl_rows.proofs.Readings.{vector_past, at_place}
 use Rattle.plain_elimination.specs.Plain.{PivotRow, IsPivotRow, stands_at}
 use Rattle.plain_elimination.specs.Spans.{table_of}
-use Rattle.plain_spans.specs.Plain.{free_by, free_number, numbers_to, free_row, free_at, free_rows, closed_span, span_of}
+use Rattle.plain_spans.specs.Plain.{begin, put_rows, closed_of, free_by, free_number, numbers_to, free_row, free_at, free_rows, span_of, kernel_by}
 use Rattle.plain_spans.specs.Means.{IsFormed, AreFormed, KernelMeans}
-use Rattle.plain_spans.proofs.Gathered.{closed_span_is, IsClosedSpan, span_means}
+use Rattle.plain_spans.proofs.Gathered.{IsClosedSpan, over, gathered, closes, span_means}
 
 -- a list with one number more
 length_more : (xs : List Num) (y : Num) → length (xs ++ y ∷ []) ≡ suc (length xs)
@@ -138,6 +138,7 @@ module _ (kind : Kind) (listed : IsField kind) (n : ℕ) (pivots : List PivotRow
     are_more (Err u ∷ rs) ss h k = are_more rs ss h k
 
     free_formed : (m : ℕ) → m ≤ n → AreFormed kind n (free_rows kind n pivots m)
+    unfolding joined
     free_formed zero l = tt
     free_formed (suc m) l = are_more (free_rows kind n pivots m) _ (free_formed m (omega arith)) (go (find (stands_at (m + 1)) pivots))
       where
@@ -146,6 +147,7 @@ module _ (kind : Kind) (listed : IsField kind) (n : ℕ) (pivots : List PivotRow
         go (Some p) = tt
 
     free_to : (m : ℕ) (x : Vector (field_of kind)) → IsFormed kind (free_rows kind n pivots m) x → IsFreeOne m x
+    unfolding joined
     free_to zero x h = absurd h
     free_to (suc m) x h = by (free_to m x) (formed_more (free_rows kind n pivots m) _ x h)
       where
@@ -160,6 +162,7 @@ module _ (kind : Kind) (listed : IsField kind) (n : ℕ) (pivots : List PivotRow
         by further (inr k) = last (find (stands_at (m + 1)) pivots) refl k
 
     free_from : (m : ℕ) (x : Vector (field_of kind)) → IsFreeOne m x → IsFormed kind (free_rows kind n pivots m) x
+    unfolding joined
     free_from zero x h = absurd (omega (arith, h.1))
     free_from (suc m) x h = go (free_from m x) (ℕ_discrete h.0 m)
       where
@@ -211,10 +214,20 @@ module _ (kind : Kind) (listed : IsField kind) (n : ℕ) (pivots : List PivotRow
 
 pub kernel_means : (k : Kind) → KernelMeans k
 kernel_means k listed n rows closed f is =
-    let p = first_fits (λ pivots. span_of k n (free_rows k n pivots n)) (closed_span k n rows) closed is in
-    let c = closed_span_is k listed n rows p.0 f p.1.0 in
+    let e = first_fits kernel_by (put_rows rows (begin k n)) closed is in
+    let g = gathered k listed n rows e.0 f e.1.0 in
+    let by : kernel_by (over k listed n g.held) ≡ Ok closed = ap kernel_by (sym g.is) ∙ e.1.1 in
+    let p = first_fits (λ pivots. span_of k n (free_rows k n pivots n)) (closed_of (over k listed n g.held)) closed by in
+    let c = closes k listed n (IsFormed k rows) e.0 p.0 g (ap closed_of g.is ∙ p.1.0) in
     let m = span_means k listed n (free_rows k n p.0 n) closed (free_formed k listed n p.0 c.rows (IsFormed k rows) c n (omega arith)) p.1.1 in
     (m.0, (λ v. let s = solutions k listed n p.0 c.rows (IsFormed k rows) c v in ((λ h. s.0 ((m.1 v).0 h)), (λ h. (m.1 v).1 (s.1 h)))))
+
+-- a list of numbers, as a vector
+pub numbers_vector : (kind : Kind) → IsField kind → (n : ℕ) (at : ℕ → Num) (s : ℕ) → s < n →
+    vector_in kind (numbers_to n at) s ≡ number_of kind (at s)
+numbers_vector kind listed n at s l =
+    at_place kind (field_of kind) (number_of kind) (kind_reads kind listed) (numbers_to n at) s (residue 0) (let k = numbers_length n at in omega arith)
+    ∙ ap (number_of kind) (number_at n at s (residue 0) l)
 
 pub numbers_past : (kind : Kind) (n : ℕ) (at : ℕ → Num) (s : ℕ) → n ≤ s → vector_in kind (numbers_to n at) s ≡ (field_of kind).nought
 numbers_past kind n at s l = vector_past (field_of kind) (number_of kind) (numbers_to n at) s (let k = numbers_length n at in omega arith)
@@ -222,3 +235,23 @@ numbers_past kind n at s l = vector_past (field_of kind) (number_of kind) (numbe
 pub unit_element : (kind : Kind) → IsField kind → (b : Bool) → IsElement kind (cond b (residue 1) (residue 0))
 unit_element kind listed true = one_element kind listed
 unit_element kind listed false = nought_element kind (residue 1) (one_element kind listed)
+
+pub numbers_row : (kind : Kind) (n : ℕ) (at : ℕ → Num) → ((s : ℕ) → s < n → IsElement kind (at s)) → IsRowOf kind n (numbers_to n at)
+numbers_row kind n at h = record {
+  elements = λ s d m. subst (IsElement kind) (sym (number_at n at s d (let k = numbers_length n at in omega arith)))
+      (h s (let k = numbers_length n at in omega arith));
+  length_is = numbers_length n at;
+}
+
+-- 1 at i
+pub unit_value : (kind : Kind) → IsField kind → (i s : ℕ) → number_of kind (cond (nat_eq i s) (residue 1) (residue 0)) ≡ place (field_of kind) i s
+unit_value kind listed i s = go (ℕ_discrete i s)
+  where
+    go : Dec (i ≡ s) → number_of kind (cond (nat_eq i s) (residue 1) (residue 0)) ≡ place (field_of kind) i s
+    go (yes d) =
+        (let t : nat_eq i s ≡ true = grind arith in rw t (one_is kind (field_of kind) (number_of kind) (kind_reads kind listed) listed))
+        ∙ sym (place_same (field_of kind) i) ∙ ap (place (field_of kind) i) d
+    go (no d) =
+        (let t : nat_eq i s ≡ false = grind arith in
+        rw t ((kind_reads kind listed).zero_is (residue 0) (nought_element kind (residue 1) (one_element kind listed)) refl))
+        ∙ sym (place_other (field_of kind) i s d)

@@ -8,9 +8,11 @@
 --   span_of kind n rows      the closed rows of what the rows span
 --   free_number, free_row    the solution of a free position: 1 there, 0 at the other free ones, minus its number at each pivot
 --   free_rows                those of the free positions below n, ascending
+--   kernel_by e              the closed rows of the solutions of the rows of an elimination
 --   kernel_of kind n rows    the closed rows of all vectors over n positions whose product sum with each row is 0
 use Rattle.std.specs.Prelude.{ℕ, zero, suc, ◌+◌, List, [], ◌∷◌, ◌++◌, Option, Some, None, Result, Ok, slice_index_or, nat_eq, if◌then◌else◌}
 use Rattle.std.specs.List.{find}
+use Rattle.math_linear.specs.Lists.{joined}
 use Rattle.fpl_numbers.specs.declared.number.Num.{Num}
 use Rattle.fpl_numbers.specs.declared.number.Kind.{Kind}
 use Rattle.fpl_numbers.specs.declared.number.Unfit.{Unfit}
@@ -60,8 +62,10 @@ free_at kind n pivots f None = Ok (free_row kind n pivots f) ∷ []
 free_at kind n pivots f (Some p) = []
 
 abbrev pub free_rows : Kind → ℕ → List PivotRow → ℕ → List (Result (List Num) Unfit)
-free_rows kind n pivots zero = []
-free_rows kind n pivots (suc f) = free_rows kind n pivots f ++ free_at kind n pivots f (find (stands_at (f + 1)) pivots)
+free_rows kind n pivots m = joined m (λ f. free_at kind n pivots f (find (stands_at (f + 1)) pivots))
+
+abbrev pub kernel_by : Elimination → Result (List (List Num)) Unfit
+kernel_by e = and_then (λ pivots. span_of e.kind e.size (free_rows e.kind e.size pivots e.size)) (closed_of e)
 
 abbrev pub kernel_of : Kind → ℕ → List (Result (List Num) Unfit) → Result (List (List Num)) Unfit
-kernel_of kind n rows = and_then (λ pivots. span_of kind n (free_rows kind n pivots n)) (closed_span kind n rows)
+kernel_of kind n rows = and_then kernel_by (put_rows rows (begin kind n))
