@@ -1,4 +1,6 @@
 mod Supers
-mod Products
+pub mod Products
 mod Commutators
 pub mod Main
+pub mod Places
+pub mod Ranks

@@ -1,0 +1,5 @@
+pub mod Residues
+pub mod Entries
+pub mod BracketNumbers
+pub mod Expressions
+pub mod Respect
