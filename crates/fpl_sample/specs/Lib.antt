@@ -1,0 +1,2 @@
+pub mod TypeA
+pub mod Laws
