@@ -1,4 +1,5 @@
 pub mod Contracts
+pub mod Leaning
 pub mod IndexLemmas
 pub mod LeadIndex
 pub mod Passing

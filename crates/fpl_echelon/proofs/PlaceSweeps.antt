@@ -1,5 +1,5 @@
 -- A row swept by walking it: closed rows whose leads it doesn't meet leave it as it is, so what is left is what all closed rows leave.
-use Rattle.std.specs.Prelude.{◌≡◌, ℕ, zero, suc, ◌-◌, ◌<◌, ◌≤◌, List, [], ◌∷◌, length, get_or, drop, slice_get, Option, Some, None, IfSome, Result, Ok, Bool, true, false, cond, unwrap_or}
+use Rattle.std.specs.Prelude.{◌≡◌, ℕ, zero, suc, ◌-◌, ◌<◌, ◌≤◌, List, [], ◌∷◌, length, get_or, drop, slice_get, Option, Some, None, IfSome, Result, Ok, Err, Bool, true, false, cond, unwrap_or}
 use Rattle.std.specs.List.{find}
 use mathlib.Core.Path.{refl, sym, ap, ◌∙◌, subst}
 use native.Mathlib.Omega.{arith}
@@ -248,6 +248,10 @@ module _ (kind : Kind) (n : ℕ) (rows : List (List Num)) (closed : IsClosedList
         let i = last_is u k in
         sweep_stops kind rows row left u (suc k.at) k.at fault refl k.got (subst (λ c. sweep_rows kind (drop c rows) row ≡ Ok left) i.0 h.done)
         (subst (λ r. IsFault fault r) (sym (taken_off kind u left s k.leads z)) f)
+
+    pub swept_refused : (o : Option (List Num)) (u : Unfit) → o ≡ find (leads_at s) rows → is_nought (get_or left (s - 1) (residue 0)) ≡ false →
+        take_if kind o s left ≡ Err u → sweep_rows kind rows row ≡ Err u
+    swept_refused o u e z f = swept_stops o (Unfits u) e z f
 
 -- the row that is found is one of the rows
 pub found_is : (kind : Kind) (n s : ℕ) (rows : List (List Num)) (o : Option (List Num)) → AreRows kind n rows → o ≡ find (leads_at s) rows →

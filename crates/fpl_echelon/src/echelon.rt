@@ -4,13 +4,14 @@ ghost use Rattle.fpl_numbers.specs.Results.{GivesBy, map_ok};
 ghost use Rattle.fpl_scalar.specs.Vectors.{AreElements};
 ghost use Rattle.plain_elimination.specs.Plain.{inserted_as, insert_of, close_of, rows_of};
 ghost use Rattle.plain_elimination.specs.Spans.{SpansWith, ClosesTo};
+ghost use Rattle.plain_lean.specs.Lean.{insert_lean};
 ghost use Rattle.fpl_echelon.specs.Outcomes.{lead_in, closed_as};
 
 use crate::close::{Closed, close_all};
 use crate::keep::put_in;
 use crate::outcome::Outcome;
 use crate::pivots::Pivots;
-use crate::putting::put_work;
+use crate::putting::{put_lean, put_work};
 use fpl_log::{Origin, StepList};
 use fpl_rows::{Row, Work};
 use fpl_scalar::{Fault, Field};
@@ -113,6 +114,37 @@ impl<F: Field> Echelon<F> {
             origin,
         );
         work.clear();
+        outcome
+    }
+
+    /// As `insert_work`, but that nothing is recorded of a dependent row.
+    pub fn insert_lean<L: Ledger>(
+        &mut self,
+        row: &mut Work<F>,
+        origin: Origin,
+        steps: &mut Steps<L>,
+    ) -> Result<Outcome, Fault>
+        requires size { length row.old.row ≡ self.old.size }
+        requires kind { row.old.kind ≡ self.old.kind }
+        ensures value { GivesBy (λ outcome. inserted_as (lead_in outcome) self.new.held) result (insert_lean self.old row.old.row origin) }
+        ensures kind { self.new.kind ≡ self.old.kind }
+        ensures size { self.new.size ≡ self.old.size }
+        ensures unchanged { OnErr result (self.new ≡ self.old) }
+        ensures emptied { row.new ≡ record { kind = row.old.kind; row = replicate (length row.old.row) (residue 0) } }
+        ensures step { steps.new ≡ steps.old + 1 }
+    {
+        // its clauses say that the numbers are elements
+        let _count = row.len();
+        steps.tick();
+        let outcome = put_lean(
+            self.alloc,
+            &self.field,
+            &mut self.pivots,
+            &mut self.steps,
+            row,
+            origin,
+        );
+        row.clear();
         outcome
     }
 

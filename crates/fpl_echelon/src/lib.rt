@@ -16,4 +16,5 @@ pub use close::Closed;
 pub use echelon::Echelon;
 pub use leads::Leads;
 pub use outcome::Outcome;
-pub use remainder::{sweep, sweep_by};
+pub use remainder::{sweep, sweep_by, sweep_work_by};
+pub use working::gathered;

@@ -1,6 +1,7 @@
 ghost use Rattle.std.specs.Prelude.{◌≡◌, ◌<◌, ◌≤◌, ◌+◌, ◌-◌, ◌^◌, length, All, OnOk, OnErr};
 ghost use Rattle.fpl_numbers.specs.Results.{GivesBy};
 ghost use Rattle.plain_elimination.specs.Plain.{IsPivotRow, insert_of, inserted_as, kept};
+ghost use Rattle.plain_lean.specs.Lean.{insert_lean};
 ghost use Rattle.fpl_echelon.specs.Outcomes.{lead_in};
 
 use crate::outcome::Outcome;
@@ -38,6 +39,40 @@ fn record<F: Field>(
             steps.pop();
             Err(refusal)
         }
+    }
+}
+
+/// As `put_work`, but that the step of a dependent row is not recorded.
+pub fn put_lean<F: Field>(
+    alloc: Global,
+    field: &F,
+    pivots: &mut Pivots<F>,
+    steps: &mut StepList,
+    work: &mut Work<F>,
+    origin: Origin,
+) -> Result<Outcome, Fault>
+    requires kind { work.old.kind ≡ F.kind_of field.now }
+    requires pivots { All (IsPivotRow (F.kind_of field.now) (length work.old.row)) pivots.old }
+    ensures value { GivesBy (λ outcome. inserted_as (lead_in outcome) (record { pivots = pivots.new; steps = steps.new })) result (insert_lean (record { kind = F.kind_of field.now; size = length work.old.row; held = record { pivots = pivots.old; steps = steps.old } }) work.old.row origin) }
+    ensures unchanged { OnErr result ((pivots.new ≡ pivots.old) × (steps.new ≡ steps.old)) }
+    ensures kind { work.new.kind ≡ F.kind_of field.now }
+    ensures length { length work.new.row ≡ length work.old.row }
+{
+    let size = work.len();
+    let mut terms = Terms::new(alloc);
+    match sweep_work(field, pivots, size, work, &mut terms) {
+        Ok(()) => {}
+        Err(fault) => return Err(fault),
+    }
+    match work.lead_within(size) {
+        None => Ok(Outcome::Dependent),
+        Some(lead) => match normalized(alloc, field, work, lead) {
+            Ok(pivot) => {
+                record(pivots, steps, lead, pivot, origin, terms)?;
+                Ok(Outcome::Pivot(lead))
+            }
+            Err(fault) => Err(fault),
+        },
     }
 }
 

@@ -1,6 +1,6 @@
 ghost use Rattle.std.specs.Prelude.{◌≡◌, ◌≤◌, length, IfOk, IfSome};
 ghost use Rattle.std.specs.Option.{option_copied};
-ghost use Rattle.fpl_numbers.specs.Results.{GivesBy};
+ghost use Rattle.fpl_numbers.specs.Results.{Answers, GivesBy};
 ghost use Rattle.fpl_scalar.specs.Vectors.{AreElements};
 ghost use Rattle.fpl_rows.specs.Meaning.{IsRowOf, IsClosedList};
 ghost use Rattle.plain_elimination.specs.Plain.{sweep_rows};
@@ -8,8 +8,8 @@ ghost use Rattle.plain_elimination.specs.Spans.{SweepsTo};
 ghost use Rattle.fpl_echelon.specs.Leads.{IsLeadIndex, take_if};
 
 use crate::Leads;
-use fpl_rows::{Row, Rows};
-use fpl_scalar::{Fault, Field};
+use fpl_rows::{Row, Rows, Work};
+use fpl_scalar::{Fault, Field, Unfit};
 use std::alloc::Global;
 
 /// Takes `other`, if there is one, off as often as the row has position `s`.
@@ -61,6 +61,58 @@ pub fn sweep_by<F: Field>(
                 match take(field, leads.row(rows, s), s, left) {
                     Ok(next) => left = next,
                     Err(fault) => return Err(fault),
+                }
+                most = s - 1;
+            }
+        }
+    }
+}
+
+/// Takes `other`, if there is one, off as often as the row has position `s`.
+fn take_work<F: Field>(
+    field: &F,
+    other: Option<&Row<F>>,
+    s: u32,
+    work: &mut Work<F>,
+) -> Result<(), Unfit>
+    requires kind { work.old.kind ≡ F.kind_of field.now }
+    requires place { (1 ≤ s) × (s ≤ length work.old.row) }
+    requires other { IfSome (option_copied other) (IsRowOf (F.kind_of field.now) (length work.old.row)) }
+    ensures value { Answers (λ _. work.new.row) result (take_if (F.kind_of field.now) (option_copied other.entry) s work.old.row) }
+    ensures kind { work.new.kind ≡ F.kind_of field.now }
+    ensures length { length work.new.row ≡ length work.old.row }
+{
+    match other {
+        None => Ok(()),
+        Some(other) => {
+            let factor = work.at(s);
+            work.axpy(field.neg(factor), other)
+        }
+    }
+}
+
+/// As `sweep_by`, of a row in work.
+pub fn sweep_work_by<F: Field>(
+    field: &F,
+    rows: &Rows<F>,
+    leads: &Leads,
+    work: &mut Work<F>,
+) -> Result<(), Unfit>
+    requires kind { work.old.kind ≡ F.kind_of field.now }
+    requires closed { IsClosedList (F.kind_of field.now) (length work.old.row) rows.now }
+    requires leads { IsLeadIndex rows.now leads.now }
+    ensures value { Answers (λ _. work.new.row) result (sweep_rows (F.kind_of field.now) rows.now work.old.row) }
+    ensures kind { work.new.kind ≡ F.kind_of field.now }
+    ensures length { length work.new.row ≡ length work.old.row }
+{
+    let mut most = work.len();
+    'places: loop {
+        match work.lead_within(most) {
+            None => return Ok(()),
+            Some(s) => {
+                match take_work(field, leads.row(rows, s), s, work) {
+                    Ok(()) => {}
+                    Err(u) => return Err(u),
                 }
                 most = s - 1;
             }
