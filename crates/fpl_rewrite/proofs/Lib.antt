@@ -5,3 +5,6 @@ pub mod Relations
 pub mod Thirds
 pub mod TriplesInOrder
 pub mod SymbolCounts
+pub mod CellTerms
+pub mod Guides
+pub mod Emptied

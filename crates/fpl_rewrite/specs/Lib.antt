@@ -1,4 +1,5 @@
 pub mod Cursor
+pub mod Filling
 pub mod Origins
 pub mod Rows
 pub mod Terms

@@ -1,5 +1,5 @@
 use Rattle.std.proofs.Common.{◌-◌, arith}
-use Rattle.fpl_rewrite.proofs.jacobi.jacobi_row.Goals as goal
+use Rattle.fpl_rewrite.proofs.jacobi.fill_jacobi.Goals as goal
 
 pub add_entry-requires-clause-reached : goal.add_entry-requires-clause-reached
 add_entry-requires-clause-reached g c = (let h = c.is_third_negated-negated.ensures.shape.heavy (c.args.i - 1) (omega arith) in omega arith)
