@@ -4,3 +4,4 @@ pub mod IndexLemmas
 pub mod LeadIndex
 pub mod Passing
 pub mod PlaceSweeps
+pub mod Spanning

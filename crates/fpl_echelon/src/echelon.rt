@@ -1,10 +1,11 @@
-ghost use Rattle.std.specs.Prelude.{◌≡◌, ◌<◌, ◌≤◌, ◌+◌, [], length, replicate, IfOk, OnErr};
+ghost use Rattle.std.specs.Prelude.{◌≡◌, ◌<◌, ◌≤◌, ◌+◌, [], length, replicate, All, IfOk, OnErr};
 ghost use Rattle.fpl_numbers.specs.Numbers.{IsField, residue};
 ghost use Rattle.fpl_numbers.specs.Results.{GivesBy, map_ok};
 ghost use Rattle.fpl_scalar.specs.Vectors.{AreElements};
-ghost use Rattle.plain_elimination.specs.Plain.{inserted_as, insert_of, close_of, rows_of};
+ghost use Rattle.plain_elimination.specs.Plain.{IsPivotRow, inserted_as, insert_of, close_of, rows_of};
 ghost use Rattle.plain_elimination.specs.Spans.{SpansWith, ClosesTo};
 ghost use Rattle.plain_lean.specs.Lean.{insert_lean};
+ghost use Rattle.plain_spans.specs.Plain.{closed_of};
 ghost use Rattle.fpl_echelon.specs.Outcomes.{lead_in, closed_as};
 
 use crate::close::{Closed, close_all};
@@ -166,5 +167,19 @@ impl<F: Field> Echelon<F> {
             steps: self.steps,
             rows,
         })
+    }
+
+    /// The closed rows with their pivots, and no steps.
+    pub fn close_pivots(mut self) -> Result<Pivots<F>, Fault>
+        ensures value { GivesBy (λ pivots. pivots) result (closed_of self) }
+        ensures pivots { IfOk result (λ pivots. All (IsPivotRow self.kind self.size) pivots) }
+    {
+        close_all(
+            self.alloc,
+            &self.field,
+            &self.pivots,
+            self.size,
+            &mut self.steps,
+        )
     }
 }
