@@ -1,0 +1,3 @@
+pub mod Tests
+mod Members
+mod Instances
