@@ -5,4 +5,5 @@ pub mod Completed
 pub mod Counts
 pub mod InOrder
 pub mod Recorded
+pub mod Leaning
 pub mod Computed

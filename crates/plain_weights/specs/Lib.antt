@@ -1,3 +1,4 @@
 pub mod Weight
 pub mod Laws
 pub mod Section
+pub mod Lean
