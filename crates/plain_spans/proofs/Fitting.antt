@@ -35,7 +35,7 @@ if_fits true r s h k = h
 if_fits false r s h k = k
 
 -- rows that can all be formed
-all_append : (rs ss : List (Result (List Num) Unfit)) → AreAllFormed rs → AreAllFormed ss → AreAllFormed (rs ++ ss)
+pub all_append : (rs ss : List (Result (List Num) Unfit)) → AreAllFormed rs → AreAllFormed ss → AreAllFormed (rs ++ ss)
 all_append [] ss h k = k
 all_append (Ok row ∷ rs) ss h k = all_append rs ss h k
 all_append (Err u ∷ rs) ss h k = absurd h
