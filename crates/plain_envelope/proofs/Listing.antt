@@ -10,7 +10,7 @@ use Rattle.math_linear.specs.Lists.{joined}
 use Rattle.math_algebra.specs.Table.{Table, weight_at, parity_at}
 use Rattle.math_algebra.specs.Symbols.{is_odd}
 use Rattle.math_words.specs.Words.{Word, may_stand}
-use Rattle.plain_envelope.specs.Listing.{words_begun, word_lists, words_of, begun, head_count, next_letter, skipped, HasWeights}
+use Rattle.plain_envelope.specs.Listing.{words_begun, word_lists, words_of, begun, head_count, next_letter, skipped, IsWeighted}
 use Rattle.plain_envelope.proofs.Lists.{joined_same, joined_at, joined_length, joined_grows, Located, located, filter_all, filter_none, filter_joined}
 
 module _ (K : Field) (T : Table K) where
@@ -39,7 +39,7 @@ module _ (K : Field) (T : Table K) where
   unfolding words_of word_lists
   no_letters = refl
 
-module _ (K : Field) (T : Table K) (weights : HasWeights T) where
+module _ (K : Field) (T : Table K) (weights : IsWeighted T) where
   pub words_next : (w : ℕ) → words_of T (suc w) ≡ joined (length T.basis) (begun T (suc w))
   unfolding words_of word_lists begun
   words_next w =
@@ -116,7 +116,7 @@ module _ (K : Field) (T : Table K) where
       by_odd true = omega arith
       by_odd false = omega arith
 
-module _ (K : Field) (T : Table K) (weights : HasWeights T) where
+module _ (K : Field) (T : Table K) (weights : IsWeighted T) where
   -- the words before which b_i may stand are the last
   pub standing_are_last : (v i : ℕ) → i < length T.basis → filter (may_stand T i) (words_of T v) ≡ drop (skipped T v i) (words_of T v)
   unfolding head_count may_stand

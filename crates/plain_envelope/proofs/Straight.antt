@@ -13,7 +13,7 @@ use Rattle.math_words.specs.Polys.{poly_value, at_word, IsOrderedPoly, IsBeforeA
 use Rattle.math_words.proofs.Spaces.{IsSpace}
 use Rattle.math_words.proofs.Orders.{same_itself, same_other, less_apart}
 use Rattle.math_words.proofs.Linear.{exchange_sums}
-use Rattle.plain_envelope.specs.Listing.{HasWeights, words_of}
+use Rattle.plain_envelope.specs.Listing.{IsWeighted, words_of}
 use Rattle.plain_envelope.specs.Straight.{words_through, with_term, terms}
 use Rattle.plain_envelope.proofs.Lists.{joined_at, joined_fits, Located, located}
 use Rattle.plain_envelope.proofs.Words.{words_are_listed}
@@ -82,7 +82,7 @@ module _ (K : Field) where
       (spread_word zs f k (omega arith) (λ i j a b. h (suc i) (suc j) (omega arith) (omega arith)))
       ∙ nought-plus K _
 
-module _ (K : Field) (T : Table K) (weights : HasWeights T) where
+module _ (K : Field) (T : Table K) (weights : IsWeighted T) where
   -- the words through a weight: an ordered word is one of them, and they are so and ascend
   pub record Listed (d : ℕ) (u : Word) : Type 0 where
     pub number : ℕ

@@ -10,12 +10,12 @@ use Rattle.math_words.specs.Action.{Form, straight}
 use Rattle.math_words.specs.Polys.{Poly, poly_value, IsPolyThrough}
 use Rattle.math_words.proofs.Letters.{letters_in}
 use Rattle.math_words.proofs.Main.{action_is_straight, one_straight_form}
-use Rattle.plain_envelope.specs.Listing.{HasWeights}
+use Rattle.plain_envelope.specs.Listing.{IsWeighted}
 use Rattle.plain_envelope.specs.Straight.{words_through, straightened, times_word, poly_product}
 use Rattle.plain_envelope.specs.Laws.{StraightenedIsStraight, OneStraightened, ProductOfValues}
 use Rattle.plain_envelope.proofs.Straight.{spread, spread_space, terms_value, at_number, words_ascend, terms_ascend, terms_ordered, word_spread}
 
-module _ (K : Field) (P : Presentation K.Carrier) (T : Table K) (law : ObeysLaw K P T) (weights : HasWeights T) where
+module _ (K : Field) (P : Presentation K.Carrier) (T : Table K) (law : ObeysLaw K P T) (weights : IsWeighted T) where
   word_straight : (d : ℕ) (f : Form K) (w : Word) → IsWord T w → word_weight T w ≤ d →
       straight K T w f ≡ spread K (λ g. straight K T w g) (words_through T d) f
   unfolding word_weight

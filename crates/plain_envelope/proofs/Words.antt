@@ -6,12 +6,12 @@ use Rattle.math_algebra.specs.Table.{Table, weight_at}
 use Rattle.math_words.specs.Words.{Word, word_weight, may_stand, IsOrdered, IsLess}
 use Rattle.math_words.specs.Words.IsOrdered.{ordered_none, ordered_more}
 use Rattle.math_words.specs.Words.IsLess.{less_letter, less_rest}
-use Rattle.plain_envelope.specs.Listing.{HasWeights, words_of, begun, head_count, skipped}
+use Rattle.plain_envelope.specs.Listing.{IsWeighted, words_of, begun, head_count, skipped}
 use Rattle.plain_envelope.specs.Laws.{WordsAreListed}
 use Rattle.plain_envelope.proofs.Listing.{no_letters, Parts, Begins, begins, begun_length, word_begun, head_next, heads_all, heads_grow, stands_from,
     stops_below}
 
-module _ (K : Field) (T : Table K) (weights : HasWeights T) where
+module _ (K : Field) (T : Table K) (weights : IsWeighted T) where
   one_word : (k : ℕ) → k < length (words_of T 0) → k ≡ 0
   one_word k l = let n : k < length {A = Word} ([] ∷ []) = subst (λ us. k < length us) (no_letters K T) l in omega arith
 

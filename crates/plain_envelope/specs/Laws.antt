@@ -15,7 +15,7 @@ use Rattle.math_words.specs.Words.{Word, word_weight, IsOrdered, IsLess}
 use Rattle.math_words.specs.Action.{Form}
 use Rattle.math_words.specs.Envelope.{AreEqual}
 use Rattle.math_words.specs.Polys.{Poly, poly_value, IsPolyThrough, IsStraight}
-use Rattle.plain_envelope.specs.Listing.{HasWeights, words_of, count_through, word_limit}
+use Rattle.plain_envelope.specs.Listing.{IsWeighted, words_of, count_through, word_limit}
 use Rattle.plain_envelope.specs.Straight.{straightened, poly_product}
 
 pub record AreWordsOf {K : Field} (T : Table K) (w : ℕ) (us : List Word) : Type 0 where
@@ -24,7 +24,7 @@ pub record AreWordsOf {K : Field} (T : Table K) (w : ℕ) (us : List Word) : Typ
   pub ascending : (k l : ℕ) → k < l → l < length us → IsLess (get_or us k []) (get_or us l [])
 
 abbrev pub WordsAreListed : Field → Type 0
-WordsAreListed K = (T : Table K) → HasWeights T → (w : ℕ) → AreWordsOf T w (words_of T w)
+WordsAreListed K = (T : Table K) → IsWeighted T → (w : ℕ) → AreWordsOf T w (words_of T w)
 
 pub record IsFirstPast {K : Field} (T : Table K) (n w v m : ℕ) : Type 0 where
   pub some : 1 ≤ v
@@ -39,7 +39,7 @@ LimitIsFirst K =
 
 abbrev pub StraightenedIsStraight : Field → Type 0
 StraightenedIsStraight K =
-    (P : Presentation K.Carrier) (T : Table K) → ObeysLaw K P T → HasWeights T → (d : ℕ) (u : Poly K) → IsPolyThrough K T d u →
+    (P : Presentation K.Carrier) (T : Table K) → ObeysLaw K P T → IsWeighted T → (d : ℕ) (u : Poly K) → IsPolyThrough K T d u →
     IsStraight K T d u (straightened K T d u)
 
 abbrev pub ProductOfValues : Field → Type 0
@@ -48,5 +48,5 @@ ProductOfValues K =
 
 abbrev pub OneStraightened : Field → Type 0
 OneStraightened K =
-    (P : Presentation K.Carrier) (T : Table K) → ObeysLaw K P T → HasWeights T → (d : ℕ) (u v : Poly K) → IsPolyThrough K T d u → IsPolyThrough K T d v →
+    (P : Presentation K.Carrier) (T : Table K) → ObeysLaw K P T → IsWeighted T → (d : ℕ) (u v : Poly K) → IsPolyThrough K T d u → IsPolyThrough K T d v →
     AreEqual K T d (poly_value K u) (poly_value K v) ↔ (straightened K T d u ≡ straightened K T d v)

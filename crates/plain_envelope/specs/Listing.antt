@@ -1,6 +1,6 @@
 -- The ordered words of a weight, in their order, and how many there are. Basis elements count from 0.
 --
---   HasWeights T          each basis element has a weight of at least 1
+--   IsWeighted T          each basis element has a weight of at least 1
 --   words_begun T L w i   the words of weight w that begin with b_i, where L has the words of each lower weight: b_i before each word of the weight that is
 --                         left before which it may stand
 --   word_lists T w        the words of each weight from 0 to w
@@ -19,8 +19,8 @@ use Rattle.math_algebra.specs.Table.{Table, weight_at, parity_at}
 use Rattle.math_algebra.specs.Symbols.{is_odd}
 use Rattle.math_words.specs.Words.{Word, may_stand}
 
-abbrev pub HasWeights : {K : Field} → Table K → Type 0
-HasWeights T = (i : ℕ) → i < length T.basis → 1 ≤ weight_at T i
+abbrev pub IsWeighted : {K : Field} → Table K → Type 0
+IsWeighted T = (i : ℕ) → i < length T.basis → 1 ≤ weight_at T i
 
 abbrev pub words_begun : {K : Field} → Table K → List (List Word) → ℕ → ℕ → List Word
 words_begun T L w i =
