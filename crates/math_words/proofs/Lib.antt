@@ -1,7 +1,7 @@
 pub mod Steps
 pub mod Spaces
 pub mod Members
-mod Fuel
+pub mod Fuel
 pub mod Linear
 mod Numbers
 mod Parts

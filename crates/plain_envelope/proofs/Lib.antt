@@ -4,3 +4,4 @@ pub mod Words
 pub mod Limits
 pub mod Straight
 pub mod Straightened
+pub mod Support

@@ -9,6 +9,7 @@
 --   head_count T w i      how many of weight w begin with an element before b_i
 --   next_letter T i       the least number that may follow i in a word: i where b_i is even, else i + 1
 --   skipped T w i         how many words of weight w stand before those before which b_i may stand
+--   steps T i u           a bound for the steps of the action of b_i on u: none where it may stand before it, else the number of letters
 --   count_through T w     how many words there are of weights 1 to w
 --   word_limit T n w      the least weight of at most w through which the words number more than n, with that number
 use Rattle.std.specs.Prelude.{ℕ, zero, suc, ◌+◌, ◌-◌, ◌<◌, ◌≤◌, List, [], ◌∷◌, ◌++◌, length, map, get_or, Option, Some, None, cond, nat_le, nat_lt}
@@ -47,6 +48,9 @@ next_letter T i = cond (is_odd (parity_at T i)) (i + 1) i
 abbrev pub skipped : {K : Field} → Table K → ℕ → ℕ → ℕ
 skipped T zero i = 0
 skipped T (suc w) i = head_count T (suc w) (next_letter T i)
+
+abbrev pub steps : {K : Field} → Table K → ℕ → Word → ℕ
+steps T i u = cond (may_stand T i u) 0 (length u)
 
 unfoldable pub count_through : {K : Field} → Table K → ℕ → ℕ
 count_through T zero = 0
