@@ -14,6 +14,7 @@ mod origins;
 mod remainder;
 mod steps;
 mod stored;
+mod taking;
 
 pub use check::check_section;
 pub use fault::{CheckFault, Spot, Why};

@@ -1,13 +1,11 @@
 ghost use Rattle.std.specs.Prelude.{◌≡◌, ◌≤◌, ◌-◌, ◌^◌, true, length, IfOk, IfSome, IfNone, Contains};
-ghost use Rattle.fpl_numbers.specs.Results.{GivesBy, and_then};
-ghost use Rattle.fpl_rows.specs.Meaning.{IsClosedList, IsRowOf};
-ghost use Rattle.plain_elimination.specs.Plain.{sweep_rows};
+ghost use Rattle.fpl_rows.specs.Meaning.{IsClosedList};
 ghost use Rattle.fpl_model.specs.Sound.{IsSound};
 ghost use Rattle.fpl_table.specs.Plain.{symbols_in};
 ghost use Rattle.fpl_table.specs.Shape.{Agrees};
 ghost use Rattle.plain_tables.specs.Holds.{Holds};
 ghost use Rattle.fpl_rewrite.specs.Origins.{origins_of};
-ghost use Rattle.fpl_rewrite.specs.Rows.{row_of_origin};
+ghost use Rattle.fpl_rewrite.specs.Filling.{empty_for};
 ghost use Rattle.fpl_check.specs.Refusal.{GivesCheck};
 ghost use Rattle.fpl_echelon.specs.Leads.{IsLeadIndex};
 ghost use Rattle.fpl_check.specs.Premises.{IsSectionFor};
@@ -15,15 +13,15 @@ ghost use Rattle.fpl_check.specs.Closing.{shows, AreTested};
 ghost use Rattle.fpl_check.specs.Check.{test_count, test_origin, test_origins};
 
 use crate::closing::{inserts, shows};
-use crate::remainder::{fault_of, test_zero};
+use crate::remainder::{fault_of, test_work_zero};
 use crate::{CheckFault, Spot, Why};
-use fpl_echelon::{Leads, sweep_by};
+use fpl_echelon::{Leads, sweep_work_by};
 use fpl_log::{Origin, Section, StepList};
 use fpl_model::Presentation;
-use fpl_rewrite::{Origins, origin_row};
-use fpl_rows::{Row, Rows};
-use fpl_scalar::{Fault, Field};
-use fpl_table::{Symbols, Table};
+use fpl_rewrite::{Guide, Origins, fill_row};
+use fpl_rows::{Rows, Work};
+use fpl_scalar::Field;
+use fpl_table::Table;
 use std::alloc::{AllocError, Global};
 
 /// The number of origins of the weight after the table's, where it is below 2^64 - 1.
@@ -72,49 +70,35 @@ pub fn test_count<F: Field>(
     }
 }
 
-/// The row of an origin, swept by closed rows.
-fn swept<F: Field>(
-    alloc: Global,
-    table: &Table<F>,
-    p: &Presentation,
-    symbols: &Symbols,
-    rows: &Rows<F>,
-    leads: &Leads,
-    origin: Origin,
-) -> Result<Row<F>, Fault>
-    requires holds { Holds p.now table.now }
-    requires symbols { symbols.now.symbols ≡ symbols_in table.now }
-    requires listed { Contains (origins_of table.now p.now) origin }
-    requires closed { IsClosedList table.now.kind (length (symbols_in table.now)) rows.now }
-    requires leads { IsLeadIndex rows.now leads.now }
-    ensures value { GivesBy (λ left. left) result (and_then (sweep_rows table.now.kind rows.now) (row_of_origin table.now p.now origin)) }
-    ensures left { IfOk result (λ left. IsRowOf table.now.kind (length (symbols_in table.now)) left) }
-{
-    match origin_row(alloc, table, p, symbols, origin) {
-        Ok(row) => sweep_by(table.field(), rows, leads, row),
-        Err(fault) => Err(fault),
-    }
-}
-
-/// Tests that the row of an origin is in the span of closed rows.
+/// Tests that the row of an origin, formed in an empty row in work, is in the span of closed rows.
 fn test_origin<F: Field>(
     alloc: Global,
     table: &Table<F>,
     p: &Presentation,
-    symbols: &Symbols,
+    guide: &Guide,
     rows: &Rows<F>,
     leads: &Leads,
     origin: Origin,
+    work: &mut Work<F>,
 ) -> Result<(), CheckFault>
     requires holds { Holds p.now table.now }
-    requires symbols { symbols.now.symbols ≡ symbols_in table.now }
+    requires symbols { guide.now.symbols.now.symbols ≡ symbols_in table.now }
     requires listed { Contains (origins_of table.now p.now) origin }
     requires closed { IsClosedList table.now.kind (length (symbols_in table.now)) rows.now }
     requires leads { IsLeadIndex rows.now leads.now }
-    ensures { GivesCheck (λ done. done) result (test_origin table.now p.now rows.now origin) }
+    requires empty { work.old ≡ empty_for table.now }
+    ensures value { GivesCheck (λ done. done) result (test_origin table.now p.now rows.now origin) }
+    ensures emptied { IfOk result (λ done. work.new ≡ work.old) }
 {
-    match swept(alloc, table, p, symbols, rows, leads, origin) {
-        Ok(left) => test_zero(table.field(), Spot::Origin(origin), &left),
+    match fill_row(alloc, table, p, guide, origin, work) {
+        Ok(()) => match sweep_work_by(table.field(), rows, leads, work) {
+            Ok(()) => {
+                let done = test_work_zero(table.field(), Spot::Origin(origin), work);
+                work.clear();
+                done
+            }
+            Err(u) => Err(CheckFault::Unfit(u)),
+        },
         Err(fault) => Err(fault_of(fault)),
     }
 }
@@ -126,30 +110,33 @@ fn test_next<F: Field>(
     alloc: Global,
     table: &Table<F>,
     p: &Presentation,
-    symbols: &Symbols,
+    guide: &Guide,
     section: &Section,
     rows: &Rows<F>,
     leads: &Leads,
     next: Option<usize>,
     origin: Origin,
+    work: &mut Work<F>,
 ) -> Result<Option<usize>, CheckFault>
     requires holds { Holds p.now table.now }
-    requires symbols { symbols.now.symbols ≡ symbols_in table.now }
+    requires symbols { guide.now.symbols.now.symbols ≡ symbols_in table.now }
     requires section { IsSectionFor table.now section.now }
     requires tested { AreTested table.now p.now section.now rows.now }
     requires listed { Contains (origins_of table.now p.now) origin }
     requires closed { IsClosedList table.now.kind (length (symbols_in table.now)) rows.now }
     requires leads { IsLeadIndex rows.now leads.now }
     requires shown { IfSome next (λ k. shows table.now.kind section.now.steps ≡ true) }
+    requires empty { work.old ≡ empty_for table.now }
     ensures value { GivesCheck (λ after. tt) result (test_origin table.now p.now rows.now origin) }
     ensures shown { IfOk result (λ after. IfSome after (λ k. shows table.now.kind section.now.steps ≡ true)) }
+    ensures emptied { IfOk result (λ after. work.new ≡ work.old) }
 {
     if let Some(k) = next {
         if k < section.steps.len() && inserts(&section.steps, k, origin) {
             return Ok(Some(k + 1));
         }
     }
-    match test_origin(alloc, table, p, symbols, rows, leads, origin) {
+    match test_origin(alloc, table, p, guide, rows, leads, origin, work) {
         Ok(()) => Ok(next),
         Err(fault) => Err(fault),
     }
@@ -179,18 +166,20 @@ pub fn test_origins<F: Field>(
     alloc: Global,
     table: &Table<F>,
     p: &Presentation,
-    symbols: &Symbols,
+    guide: &Guide,
     section: &Section,
     rows: &Rows<F>,
+    work: &mut Work<F>,
 ) -> Result<(), CheckFault>
     requires holds { Holds p.now table.now }
-    requires symbols { symbols.now.symbols ≡ symbols_in table.now }
+    requires symbols { guide.now.symbols.now.symbols ≡ symbols_in table.now }
     requires section { IsSectionFor table.now section.now }
     requires tested { AreTested table.now p.now section.now rows.now }
     requires closed { IsClosedList table.now.kind (length (symbols_in table.now)) rows.now }
+    requires empty { work.old ≡ empty_for table.now }
     ensures { GivesCheck (λ done. done) result (test_origins table.now p.now rows.now (origins_of table.now p.now)) }
 {
-    let leads = match Leads::of(alloc, symbols.len(), rows) {
+    let leads = match Leads::of(alloc, guide.symbols.len(), rows) {
         Ok(leads) => leads,
         Err(_) => return Err(CheckFault::NoMemory),
     };
@@ -204,7 +193,7 @@ pub fn test_origins<F: Field>(
             None => return Ok(()),
             Some(origin) => {
                 match test_next(
-                    alloc, table, p, symbols, section, rows, &leads, step, origin,
+                    alloc, table, p, guide, section, rows, &leads, step, origin, work,
                 ) {
                     Ok(after) => step = after,
                     Err(fault) => return Err(fault),

@@ -6,7 +6,7 @@ ghost use Rattle.fpl_check.specs.Steps.{test_zero};
 ghost use Rattle.fpl_check.specs.Faults.{fault_as};
 
 use crate::{CheckFault, Spot, Why};
-use fpl_rows::Row;
+use fpl_rows::{Row, Work};
 use fpl_scalar::{Fault, Field, Num};
 
 /// A fault of computing, as one of a check.
@@ -39,6 +39,24 @@ pub fn test_zero<F: Field>(field: &F, spot: Spot, row: &Row<F>) -> Result<(), Ch
         None => Ok(()),
         Some(symbol) => {
             let number = field.num(row.at(symbol));
+            Err(CheckFault::Bad {
+                spot,
+                why: Why::Remainder { symbol, number },
+            })
+        }
+    }
+}
+
+/// Tests that a row in work is zero.
+pub fn test_work_zero<F: Field>(field: &F, spot: Spot, work: &Work<F>) -> Result<(), CheckFault>
+    requires { work.now.kind ≡ F.kind_of field.now }
+    ensures { GivesCheck (λ done. done) result (test_zero spot work.now.row) }
+{
+    let size = work.len();
+    match work.lead_within(size) {
+        None => Ok(()),
+        Some(symbol) => {
+            let number = field.num(work.at(symbol));
             Err(CheckFault::Bad {
                 spot,
                 why: Why::Remainder { symbol, number },

@@ -12,6 +12,7 @@ origins-preserved g c =
     let rest = to_come T p c.next.new.self in
     let list : os ≡ c.in-Some.origin ∷ rest = c.in-Some.ensures.value in
     record {
+      empty = c.in-Ok-test_next.ensures.emptied ∙ i.empty;
       weight = c.in-Some.ensures.weight ∙ i.weight;
       listed = λ o h. i.listed o (contains_rest os rest c.in-Some.origin o list h);
       shown = c.in-Ok-test_next.ensures.shown;

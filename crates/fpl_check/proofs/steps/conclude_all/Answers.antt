@@ -25,8 +25,9 @@ loop-i-preserved g c =
           let kind = c.args.table.now.kind in
           let n = length (symbols_in c.args.table.now) in
           let more : c.match-get.earlier ≡ c.loop-i.earlier ++ w.in-Ok.row ∷ [] =
-          w.earlier-is ∙ w.in-Ok-push.ensures.ok ∙ ap (λ x. c.loop-i.earlier ++ x ∷ []) w.pack.ensures in
+          w.earlier-is ∙ w.in-Ok-push.ensures.ok in
           record {
+            empty = w.work-is ∙ w.in-Ok.ensures.emptied ∙ c.loop-i.invariant.empty;
             rows = subst (AreRows kind n) (sym more) (all_more (IsRowOf kind n) c.loop-i.earlier w.in-Ok.row c.loop-i.invariant.rows w.in-Ok.ensures.row);
             most = (let l = slice_get_within c.args.steps.now c.loop-i.i w.in-Some.step.now (sym w.in-Some.ensures) in omega (arith, l));
             whole = (let e = ap length more ∙ length-append c.loop-i.earlier (w.in-Ok.row ∷ []) in let l = c.loop-i.invariant.whole in omega (arith, e, l));
