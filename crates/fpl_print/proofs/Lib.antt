@@ -4,4 +4,6 @@ pub mod Counts
 pub mod TextLines
 pub mod Entries
 pub mod OneText
+pub mod Nonzero
 pub mod Walks
+pub mod GapRows

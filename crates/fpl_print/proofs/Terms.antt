@@ -1,21 +1,10 @@
--- One more term of a combination.
+-- Lists of symbols that are filtered.
 use Rattle.std.proofs.Common.{◌≡◌, ℕ, ◌+◌, ◌<◌, List, [], ◌∷◌, ◌++◌, Bool, length, drop, get_or, map, sym, ◌∙◌, append_assoc, add-one, drop-cons}
 use Rattle.std.specs.Prelude.{filter}
 use Rattle.std.proofs.lemmas.List.Elements.{filter-append}
 use Rattle.math_algebra.specs.Table.{Symbol}
 use Rattle.fpl_table.specs.declared.symbol.Symbol as code
 use Rattle.fpl_table.specs.Plain.{symbol_in}
-use Rattle.fpl_numbers.specs.declared.number.Num.{Num}
-use Rattle.fpl_print.specs.Combinations.{none_after, term_or_nothing, terms_text}
-
-pub term_step : (name : ℕ → List ℕ) (all out next : List ℕ) (first then : Bool) (row : List Num) (s : ℕ) (c d : Num) → s < length row →
-    c ≡ get_or row s d → then ≡ none_after first c →
-    next ≡ out ++ term_or_nothing name first s c → all ≡ out ++ terms_text name first s (drop s row) →
-    all ≡ next ++ terms_text name then (s + 1) (drop (s + 1) row)
-term_step name all out next first then row s c d lt is after more so_far =
-    let here : drop s row ≡ c ∷ drop (s + 1) row = rw (is, add-one) (drop-cons row s d lt) in
-    let parts : all ≡ out ++ (term_or_nothing name first s c ++ terms_text name (none_after first c) (s + 1) (drop (s + 1) row)) = rw here at so_far in
-    rw (more, after) (parts ∙ sym (append_assoc out (term_or_nothing name first s c) (terms_text name (none_after first c) (s + 1) (drop (s + 1) row))))
 
 -- one more symbol of a list that is filtered
 pub valued_step : (p : Symbol → Bool) (all out next : List Symbol) (xs : List code.Symbol) (i : ℕ) (x d : code.Symbol) → i < length xs →

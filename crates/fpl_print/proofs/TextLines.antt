@@ -2,6 +2,11 @@
 use Rattle.std.proofs.Common.{◌≡◌, ℕ, suc, ◌+◌, ◌-◌, List, ◌++◌, ap, sym, ◌∙◌, append_assoc, arith}
 use Rattle.fpl_print.specs.TableText.{text_of}
 
+-- what three calls append
+pub three_pieces : (o w x z a b c : List ℕ) → w ≡ o ++ a → x ≡ w ++ b → z ≡ x ++ c → z ≡ o ++ (a ++ b ++ c)
+three_pieces o w x z a b c e f g =
+    g ∙ ap (λ t. t ++ c) (f ∙ ap (λ t. t ++ b) e ∙ append_assoc o a b) ∙ append_assoc o (a ++ b) c
+
 -- one more line of a text
 pub text_step : (start out next : List ℕ) (n : ℕ) (f : ℕ → List ℕ) → out ≡ start ++ text_of n f → next ≡ out ++ f (n + 1 - 1) →
     next ≡ start ++ text_of (n + 1) f

@@ -1,4 +1,7 @@
 pub mod Combinations
+pub mod EqualText
+pub mod GapText
 pub mod Lines
+pub mod LogText
 pub mod SeriesText
 pub mod TableText

@@ -73,7 +73,7 @@ fn push_term<F: Field>(
 }
 
 /// Appends the combination of basis elements that a row is.
-pub(crate) fn push_combination<F: Field>(
+pub fn push_combination<F: Field>(
     out: &mut Vec<u8>,
     field: &F,
     row: &Row<F>,

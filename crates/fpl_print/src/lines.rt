@@ -7,7 +7,7 @@ use fpl_spelling::{push_field, push_number};
 use std::alloc::AllocError;
 
 /// Appends the first line of a text: its word, the field and the weight.
-pub(crate) fn push_head_line(
+pub fn push_head_line(
     out: &mut Vec<u8>,
     word: &[u8],
     field: Kind,
@@ -24,7 +24,7 @@ pub(crate) fn push_head_line(
 }
 
 /// Appends a line of a word and a number.
-pub(crate) fn push_count(out: &mut Vec<u8>, word: &[u8], count: usize) -> Result<(), AllocError>
+pub fn push_count(out: &mut Vec<u8>, word: &[u8], count: usize) -> Result<(), AllocError>
     ensures { OnOk result (out.new.items ≡ out.old.items ++ count_line word.now count) }
 {
     out.extend_from_slice(word)?;

@@ -175,7 +175,10 @@ fn push_valued<F: Field>(
 }
 
 // The brackets that aren't 0.
-fn brackets_of<F: Field>(alloc: Global, table: &Table<F>) -> Result<Vec<Symbol>, AllocError>
+pub(crate) fn brackets_of<F: Field>(
+    alloc: Global,
+    table: &Table<F>,
+) -> Result<Vec<Symbol>, AllocError>
     ensures value { IfOk result (λ valued. map symbol_in valued.items ≡ brackets_of table.now) }
     ensures entries { IfOk result (λ valued. All (IsEntry table.now) valued.items) }
 {

@@ -6,8 +6,7 @@ use Rattle.fpl_numbers.specs.Numbers.{IsElement, residue}
 use Rattle.fpl_rows.proofs.Firsts.{next_is_at}
 use Rattle.fpl_print.specs.Combinations.{terms_text, combination_text}
 use Rattle.fpl_print.specs.TableText.{basis_name}
-use Rattle.fpl_print.proofs.Terms.{term_step}
-use Rattle.fpl_print.proofs.Walks.{to_next, to_end}
+use Rattle.fpl_print.proofs.Walks.{to_next, to_end, term_step}
 use Rattle.fpl_print.proofs.combinations.push_combination.Goals as goal
 
 pub at-requires : goal.at-requires
