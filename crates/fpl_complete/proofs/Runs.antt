@@ -12,13 +12,14 @@ use Rattle.plain_elimination.specs.Plain.{Elimination, Held, sweep_rows}
 use Rattle.fpl_model.specs.declared.presentation.Presentation.{Presentation}
 use Rattle.fpl_table.specs.Plain.{PlainTable}
 use Rattle.fpl_rewrite.specs.Rows.{row_of_origin}
-use Rattle.plain_weights.specs.Weight.{put_of, gather, again}
+use Rattle.plain_weights.specs.Weight.{again}
+use Rattle.plain_weights.specs.Lean.{put_lean, gather_lean}
 
 module _ (T : PlainTable) (p : Presentation) where
-  pub gather_next : (os rest : List Origin) (o : Origin) (e f : Elimination) (all : Result Elimination Unfit) → os ≡ o ∷ rest → put_of T p o e ≡ Ok f →
-      gather T p os e ≡ all → gather T p rest f ≡ all
+  pub gather_next : (os rest : List Origin) (o : Origin) (e f : Elimination) (all : Result Elimination Unfit) → os ≡ o ∷ rest → put_lean T p o e ≡ Ok f →
+      gather_lean T p os e ≡ all → gather_lean T p rest f ≡ all
   gather_next os rest o e f all list put run =
-      sym (subst (λ w. and_then (λ f. gather T p rest f) w ≡ gather T p rest f) (sym put) refl) ∙ subst (λ os. gather T p os e ≡ all) list run
+      sym (subst (λ w. and_then (λ f. gather_lean T p rest f) w ≡ gather_lean T p rest f) (sym put) refl) ∙ subst (λ os. gather_lean T p os e ≡ all) list run
 
   -- the row of an origin formed again, and swept
   abbrev swept_again : List (List Num) → Origin → Held → Result Held Unfit

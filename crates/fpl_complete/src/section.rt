@@ -1,6 +1,5 @@
-ghost use Rattle.std.specs.Prelude.{◌≡◌, ◌≤◌, ◌-◌, [], length, All, IfOk, Some};
+ghost use Rattle.std.specs.Prelude.{◌≡◌, All, IfOk, Some};
 ghost use Rattle.fpl_scalar.specs.Vectors.{AreElements};
-ghost use Rattle.fpl_log.specs.Slim.{AllNameEarlier, slim_steps};
 ghost use Rattle.plain_weights.specs.Section.{coefficients_from, closed_list};
 
 use fpl_log::{ClosedList, ClosedRow, Coefficient, Section, StepList};
@@ -42,33 +41,23 @@ fn list_of<F: Field>(alloc: Global, field: &F, rows: &Rows<F>) -> Result<ClosedL
     Ok(list)
 }
 
-/// The slimmed section of a weight: of its steps, one Insert step for each origin and one Close
-/// step for each closed row.
+/// The section of a weight: of `origins` origins these steps were recorded, and made these rows.
 pub fn section_of<F: Field>(
     alloc: Global,
     field: &F,
     weight: u32,
+    origins: u64,
     steps: StepList,
     rows: &Rows<F>,
 ) -> Result<Section, AllocError>
-    requires names { AllNameEarlier 0 steps }
-    requires elements { All (AreElements (F.kind_of field.now)) rows.now }
-    requires closes { length rows.now ≤ length steps }
-    ensures { IfOk result (λ s. s ≡ record {
-      weight = weight;
-      origins = Some (length steps - length rows.now);
-      steps = slim_steps [] 0 steps;
-      closed =
-          closed_list rows.now;
-    }) }
+    requires { All (AreElements (F.kind_of field.now)) rows.now }
+    ensures { IfOk result (λ s. s ≡ record { weight = weight; origins = Some origins; steps = steps; closed = closed_list rows.now }) }
 {
-    let origins = (steps.len() - rows.len()) as u64;
     let closed = list_of(alloc, field, rows)?;
-    let whole = Section {
+    Ok(Section {
         weight,
-        origins: None,
+        origins: Some(origins),
         steps,
         closed,
-    };
-    whole.slim(alloc, origins)
+    })
 }

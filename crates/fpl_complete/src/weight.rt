@@ -1,4 +1,4 @@
-ghost use Rattle.std.specs.Prelude.{◌≡◌, ◌≤◌, ◌<◌, ◌+◌, length, Ok, IfOk, OnOk, Contains};
+ghost use Rattle.std.specs.Prelude.{◌≡◌, ◌≤◌, ◌<◌, ◌+◌, length, Ok, IfOk, IfErr, OnOk, Contains};
 ghost use Rattle.fpl_numbers.specs.Results.{Gives, GivesBy, map_ok, and_then};
 ghost use Rattle.fpl_rows.specs.Meaning.{IsClosedList};
 ghost use Rattle.plain_elimination.specs.Plain.{Held, rows_of, sweep_rows};
@@ -8,46 +8,65 @@ ghost use Rattle.fpl_echelon.specs.Leads.{IsLeadIndex};
 ghost use Rattle.fpl_table.specs.Plain.{symbols_in};
 ghost use Rattle.plain_tables.specs.Holds.{Holds};
 ghost use Rattle.fpl_rewrite.specs.Origins.{origins_of};
-ghost use Rattle.plain_weights.specs.Weight.{begun, put_of, gather, again, close_weight};
+ghost use Rattle.plain_weights.specs.Weight.{begun, again, close_weight};
+ghost use Rattle.fpl_rewrite.specs.Filling.{empty_for};
+ghost use Rattle.plain_weights.specs.Lean.{put_lean, gather_lean, close_lean};
 ghost use Rattle.plain_weights.specs.Section.{section_of};
 ghost use Rattle.fpl_complete.specs.State.{weighed_as};
 
 use crate::section::section_of;
 use crate::weighed::Weighed;
-use fpl_echelon::{Closed, Echelon, Leads, sweep_by};
+use fpl_echelon::{Closed, Echelon, Leads, sweep_work_by};
 use fpl_log::Origin;
 use fpl_model::Presentation;
-use fpl_rewrite::{Origins, origin_row};
-use fpl_rows::Rows;
+use fpl_rewrite::{Guide, Origins, fill_row};
+use fpl_rows::{Rows, Work};
 use fpl_scalar::{Fault, Field, Kind};
 use fpl_steps::Steps;
 use fpl_table::{Symbols, Table};
 use std::alloc::Global;
 use std::sync::ledger::Ledger;
 
-/// Forms the row of an origin, and inserts it.
+/// The rows of origins in echelon form, and how many origins there are.
+#[derive(Drop)]
+struct Gathered<F: Field> {
+    echelon: Echelon<F>,
+    origins: u64,
+}
+
+/// The closed rows of a weight, the steps that made them, and how many origins there are.
+#[derive(Drop)]
+struct ClosedWeight<F: Field> {
+    closed: Closed<F>,
+    origins: u64,
+}
+
+/// Forms the row of an origin in an empty row in work, and inserts it.
 fn put<F: Field, L: Ledger>(
     alloc: Global,
     table: &Table<F>,
     p: &Presentation,
-    symbols: &Symbols,
+    guide: &Guide,
     origin: Origin,
+    work: &mut Work<F>,
     echelon: &mut Echelon<F>,
     steps: &mut Steps<L>,
 ) -> Result<(), Fault>
     requires holds { Holds p.now table.now }
-    requires symbols { symbols.now.symbols ≡ symbols_in table.now }
+    requires symbols { guide.now.symbols.now.symbols ≡ symbols_in table.now }
     requires listed { Contains (origins_of table.now p.now) origin }
+    requires empty { work.old ≡ empty_for table.now }
     requires kind { echelon.old.kind ≡ table.now.kind }
     requires size { echelon.old.size ≡ length (symbols_in table.now) }
-    ensures value { Gives result echelon.new (put_of table.now p.now origin echelon.old) }
+    ensures value { Gives result echelon.new (put_lean table.now p.now origin echelon.old) }
     ensures kind { echelon.new.kind ≡ echelon.old.kind }
     ensures size { echelon.new.size ≡ echelon.old.size }
+    ensures emptied { OnOk result (work.new ≡ work.old) }
     ensures step { OnOk result (steps.new ≡ steps.old + 1) }
     ensures most { (steps.old ≤ steps.new) × (steps.new ≤ steps.old + 1) }
 {
-    match origin_row(alloc, table, p, symbols, origin) {
-        Ok(row) => match echelon.insert(row, origin, steps) {
+    match fill_row(alloc, table, p, guide, origin, work) {
+        Ok(()) => match echelon.insert_lean(work, origin, steps) {
             Ok(_) => Ok(()),
             Err(fault) => Err(fault),
         },
@@ -55,59 +74,96 @@ fn put<F: Field, L: Ledger>(
     }
 }
 
-/// Gathers the rows of all origins of the weight after the table's.
+/// An empty row in work over the symbols of the weight after the table's.
+fn empty_work<F: Field>(
+    alloc: Global,
+    table: &Table<F>,
+    symbols: &Symbols,
+) -> Result<Work<F>, Fault>
+    requires symbols { symbols.now.symbols ≡ symbols_in table.now }
+    ensures value { IfOk result (λ w. w ≡ empty_for table.now) }
+    ensures fault { IfErr result (λ fault. fault ≡ Fault.NoMemory) }
+{
+    match Work::new(alloc, *table.field(), symbols.len()) {
+        Ok(work) => Ok(work),
+        Err(_) => Err(Fault::NoMemory),
+    }
+}
+
+/// Gathers the rows of all origins of the weight after the table's. To list 2^64 origins takes
+/// more memory than there is.
 fn gather<F: Field, L: Ledger>(
     alloc: Global,
     table: &Table<F>,
     p: &Presentation,
-    symbols: &Symbols,
+    guide: &Guide,
     steps: &mut Steps<L>,
-) -> Result<Echelon<F>, Fault>
+) -> Result<Gathered<F>, Fault>
     requires holds { Holds p.now table.now }
-    requires symbols { symbols.now.symbols ≡ symbols_in table.now }
-    ensures value { GivesBy (λ e. e) result (gather table.now p.now (origins_of table.now p.now) (begun table.now)) }
-    ensures kind { IfOk result (λ e. e.kind ≡ table.now.kind) }
-    ensures size { IfOk result (λ e. e.size ≡ length (symbols_in table.now)) }
+    requires symbols { guide.now.symbols.now.symbols ≡ symbols_in table.now }
+    ensures value { GivesBy (λ g. g.echelon) result (gather_lean table.now p.now (origins_of table.now p.now) (begun table.now)) }
+    ensures kind { IfOk result (λ g. g.echelon.kind ≡ table.now.kind) }
+    ensures size { IfOk result (λ g. g.echelon.size ≡ length (symbols_in table.now)) }
+    ensures origins { IfOk result (λ g. g.origins ≡ length (origins_of table.now p.now)) }
     ensures step { OnOk result (steps.new ≡ steps.old + length (origins_of table.now p.now)) }
     ensures most { (steps.old ≤ steps.new) × (steps.new ≤ steps.old + length (origins_of table.now p.now)) }
 {
-    let mut echelon = match Echelon::start(alloc, *table.field(), symbols.len()) {
+    let mut work = empty_work(alloc, table, guide.symbols)?;
+    let mut echelon = match Echelon::start(alloc, *table.field(), guide.symbols.len()) {
         Ok(echelon) => echelon,
         Err(_) => return Err(Fault::NoMemory),
     };
-    let mut origins = Origins::start(table, p, table.weight() + 1);
-    'origins: loop {
-        match origins.next(table, p) {
-            None => return Ok(echelon),
-            Some(origin) => match put(alloc, table, p, symbols, origin, &mut echelon, steps) {
-                Ok(()) => {}
-                Err(fault) => return Err(fault),
-            },
+    let mut at = Origins::start(table, p, table.weight() + 1);
+    for origins in 0..u64::MAX {
+        match at.next(table, p) {
+            None => return Ok(Gathered { echelon, origins }),
+            Some(origin) => {
+                match put(
+                    alloc,
+                    table,
+                    p,
+                    guide,
+                    origin,
+                    &mut work,
+                    &mut echelon,
+                    steps,
+                ) {
+                    Ok(()) => {}
+                    Err(fault) => return Err(fault),
+                }
+            }
         }
     }
+    Err(Fault::NoMemory)
 }
 
-/// Forms the row of an origin again, and sweeps it by closed rows.
+/// Forms the row of an origin again in an empty row in work, and sweeps it by closed rows.
 fn sweep_one<F: Field>(
     alloc: Global,
     table: &Table<F>,
     p: &Presentation,
-    symbols: &Symbols,
+    guide: &Guide,
     rows: &Rows<F>,
     leads: &Leads,
     origin: Origin,
+    work: &mut Work<F>,
 ) -> Result<(), Fault>
     requires holds { Holds p.now table.now }
-    requires symbols { symbols.now.symbols ≡ symbols_in table.now }
+    requires symbols { guide.now.symbols.now.symbols ≡ symbols_in table.now }
     requires listed { Contains (origins_of table.now p.now) origin }
     requires closed { IsClosedList table.now.kind (length (symbols_in table.now)) rows.now }
     requires leads { IsLeadIndex rows.now leads.now }
+    requires empty { work.old ≡ empty_for table.now }
     ensures value { (h : Held) → Gives result h (and_then (λ row. and_then (λ left. Ok h) (sweep_rows table.now.kind rows.now row)) (row_of_origin table.now p.now origin)) }
+    ensures emptied { OnOk result (work.new ≡ work.old) }
 {
-    match origin_row(alloc, table, p, symbols, origin) {
-        Ok(row) => match sweep_by(table.field(), rows, leads, row) {
-            Ok(_) => Ok(()),
-            Err(fault) => Err(fault),
+    match fill_row(alloc, table, p, guide, origin, work) {
+        Ok(()) => match sweep_work_by(table.field(), rows, leads, work) {
+            Ok(()) => {
+                work.clear();
+                Ok(())
+            }
+            Err(u) => Err(Fault::Unfit(u)),
         },
         Err(fault) => Err(fault),
     }
@@ -118,41 +174,45 @@ fn sweep_again<F: Field>(
     alloc: Global,
     table: &Table<F>,
     p: &Presentation,
-    symbols: &Symbols,
+    guide: &Guide,
     rows: &Rows<F>,
 ) -> Result<(), Fault>
     requires holds { Holds p.now table.now }
-    requires symbols { symbols.now.symbols ≡ symbols_in table.now }
+    requires symbols { guide.now.symbols.now.symbols ≡ symbols_in table.now }
     requires closed { IsClosedList table.now.kind (length (symbols_in table.now)) rows.now }
     ensures value { (h : Held) → Gives result h (again table.now p.now rows.now (origins_of table.now p.now) h) }
 {
-    let leads = match Leads::of(alloc, symbols.len(), rows) {
+    let leads = match Leads::of(alloc, guide.symbols.len(), rows) {
         Ok(leads) => leads,
         Err(_) => return Err(Fault::NoMemory),
     };
+    let mut work = empty_work(alloc, table, guide.symbols)?;
     let mut origins = Origins::start(table, p, table.weight() + 1);
     'origins: loop {
         match origins.next(table, p) {
             None => return Ok(()),
-            Some(origin) => match sweep_one(alloc, table, p, symbols, rows, &leads, origin) {
-                Ok(()) => {}
-                Err(fault) => return Err(fault),
-            },
+            Some(origin) => {
+                match sweep_one(alloc, table, p, guide, rows, &leads, origin, &mut work) {
+                    Ok(()) => {}
+                    Err(fault) => return Err(fault),
+                }
+            }
         }
     }
 }
 
-/// Closes the weight after the table's.
+/// Closes the weight after the table's, and records no step of a dependent origin.
 fn close_weight<F: Field, L: Ledger>(
     alloc: Global,
     table: &Table<F>,
     p: &Presentation,
     steps: &mut Steps<L>,
-) -> Result<Closed<F>, Fault>
+) -> Result<ClosedWeight<F>, Fault>
     requires holds { Holds p.now table.now }
     requires few { length (symbols_in table.now) ≤ 2000000 }
-    ensures value { GivesBy (λ c. closed_as c.rows c.steps) result (map_ok (λ h. closed_as (rows_of h.pivots) h.steps) (close_weight table.now p.now)) }
-    ensures closed { IfOk result (λ c. IsClosedList table.now.kind (length (symbols_in table.now)) c.rows) }
+    ensures value { GivesBy (λ c. closed_as c.closed.rows c.closed.steps) result (map_ok (λ h. closed_as (rows_of h.pivots) h.steps) (close_lean table.now p.now)) }
+    ensures closed { IfOk result (λ c. IsClosedList table.now.kind (length (symbols_in table.now)) c.closed.rows) }
+    ensures origins { IfOk result (λ c. c.origins ≡ length (origins_of table.now p.now)) }
     ensures step { OnOk result (steps.new ≡ steps.old + length (origins_of table.now p.now)) }
     ensures most { (steps.old ≤ steps.new) × (steps.new ≤ steps.old + length (origins_of table.now p.now)) }
 {
@@ -160,8 +220,12 @@ fn close_weight<F: Field, L: Ledger>(
         Ok(symbols) => symbols,
         Err(_) => return Err(Fault::NoMemory),
     };
-    let echelon = match gather(alloc, table, p, &symbols, steps) {
-        Ok(echelon) => echelon,
+    let guide = match Guide::of(alloc, table, &symbols) {
+        Ok(guide) => guide,
+        Err(_) => return Err(Fault::NoMemory),
+    };
+    let Gathered { echelon, origins } = match gather(alloc, table, p, &guide, steps) {
+        Ok(gathered) => gathered,
         Err(fault) => return Err(fault),
     };
     let closed = match echelon.close() {
@@ -169,9 +233,9 @@ fn close_weight<F: Field, L: Ledger>(
         Err(fault) => return Err(fault),
     };
     match table.field().kind() {
-        Kind::Prime(_) => Ok(closed),
-        Kind::Rational => match sweep_again(alloc, table, p, &symbols, &closed.rows) {
-            Ok(()) => Ok(closed),
+        Kind::Prime(_) => Ok(ClosedWeight { closed, origins }),
+        Kind::Rational => match sweep_again(alloc, table, p, &guide, &closed.rows) {
+            Ok(()) => Ok(ClosedWeight { closed, origins }),
             Err(fault) => Err(fault),
         },
     }
@@ -193,7 +257,7 @@ pub fn complete_weight<F: Field, L: Ledger>(
     ensures step { OnOk result (steps.new ≡ steps.old + length (origins_of table.now p.now)) }
     ensures most { (steps.old ≤ steps.new) × (steps.new ≤ steps.old + length (origins_of table.now p.now)) }
 {
-    let closed = match close_weight(alloc, table, p, steps) {
+    let ClosedWeight { closed, origins } = match close_weight(alloc, table, p, steps) {
         Ok(closed) => closed,
         Err(fault) => return Err(fault),
     };
@@ -201,7 +265,8 @@ pub fn complete_weight<F: Field, L: Ledger>(
         steps: recorded,
         rows,
     } = closed;
-    match section_of(alloc, table.field(), table.weight() + 1, recorded, &rows) {
+    let weight = table.weight() + 1;
+    match section_of(alloc, table.field(), weight, origins, recorded, &rows) {
         Ok(section) => Ok(Weighed { rows, section }),
         Err(_) => Err(Fault::NoMemory),
     }

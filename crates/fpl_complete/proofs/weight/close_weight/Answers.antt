@@ -11,15 +11,15 @@ symbols-requires-clause-few g c = few_at c.args.table.now _ (omega (arith, c.wei
 pub returns-in-Prime-clause-value : goal.returns-in-Prime-clause-value
 returns-in-Prime-clause-value g c =
     let kind : c.args.table.now.kind ≡ Prime c.in-Prime.field-0 = cc in
-    weighed_once c.args.table.now c.args.p.now c.in-Ok-gather.echelon c.in-Ok-close.closed.rows c.in-Ok-close.closed.steps
+    weighed_once c.args.table.now c.args.p.now c.requires.holds c.in-Ok-gather.gathered.echelon c.in-Ok-close.closed.rows c.in-Ok-close.closed.steps
     (subst Always (sym kind) (prime_always c.in-Prime.field-0)) c.in-Ok-gather.ensures.value c.in-Ok-close.ensures.value
 
 pub returns-in-Ok-sweep_again-clause-value : goal.returns-in-Ok-sweep_again-clause-value
 returns-in-Ok-sweep_again-clause-value g c =
-    weighed c.args.table.now c.args.p.now c.in-Ok-gather.echelon c.in-Ok-close.closed.rows c.in-Ok-close.closed.steps
+    weighed c.args.table.now c.args.p.now c.in-Ok-gather.gathered.echelon c.in-Ok-close.closed.rows c.in-Ok-close.closed.steps
     c.in-Ok-gather.ensures.value c.in-Ok-close.ensures.value c.in-Ok-sweep_again.ensures.value
 
 pub returns-clause-value : goal.returns-clause-value
 returns-clause-value g c =
-    again_fault c.args.table.now c.args.p.now c.in-Ok-gather.echelon c.in-Ok-close.closed.rows c.in-Ok-close.closed.steps c.in-Err-sweep_again.fault
+    again_fault c.args.table.now c.args.p.now c.in-Ok-gather.gathered.echelon c.in-Ok-close.closed.rows c.in-Ok-close.closed.steps c.in-Err-sweep_again.fault
     c.in-Ok-gather.ensures.value c.in-Ok-close.ensures.value c.in-Err-sweep_again.ensures.value

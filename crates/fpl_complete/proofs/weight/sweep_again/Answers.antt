@@ -15,6 +15,7 @@ origins-preserved g c =
     let rest = to_come T p c.next.new.self in
     let list : os ≡ c.in-Some.origin ∷ rest = c.in-Some.ensures.value in
     record {
+      empty = c.in-Ok-sweep_one.ensures.emptied ∙ i.empty;
       weight = c.in-Some.ensures.weight ∙ i.weight;
       listed = λ o h. i.listed o (contains_rest os rest c.in-Some.origin o list h);
       done = λ h. again_next T p c.args.rows.now os rest c.in-Some.origin h (again T p c.args.rows.now (origins_of T p) h) list
