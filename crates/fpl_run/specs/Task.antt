@@ -16,6 +16,9 @@ use Rattle.fpl_run.specs.declared.task.Task.{Task}
 abbrev pub way_of : View → Option Way
 way_of view.Table = Some (Show shown.Table)
 way_of view.Series = Some (Show shown.Series)
+way_of view.Gap = Some (Show shown.Gap)
+way_of view.Log = Some (Show shown.Log)
+way_of view.Equal = Some (Show shown.Equal)
 way_of view.Checkpoint = Some Write
 way_of view.Check = Some Check
 way_of _ = None

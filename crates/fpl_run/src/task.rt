@@ -31,6 +31,9 @@ pub(crate) fn way_of(view: View) -> Option<Way>
     match view {
         View::Table => Some(Way::Show(Shown::Table)),
         View::Series => Some(Way::Show(Shown::Series)),
+        View::Gap => Some(Way::Show(Shown::Gap)),
+        View::Log => Some(Way::Show(Shown::Log)),
+        View::Equal => Some(Way::Show(Shown::Equal)),
         View::Checkpoint => Some(Way::Write),
         View::Check => Some(Way::Check),
         _ => None,

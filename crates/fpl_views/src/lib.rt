@@ -1,7 +1,10 @@
 //! The views of a table: what each shows, and its text. Each view has a file of its own.
 #![tactic(auto)]
 
+mod equal;
+mod gap;
 mod laws;
+mod log;
 mod series;
 mod shown;
 mod table;

@@ -5,6 +5,9 @@ ghost use Rattle.fpl_model.specs.Sound.{IsSound};
 ghost use Rattle.fpl_table.specs.Standard.{IsTableOf};
 ghost use Rattle.fpl_views.specs.Views.{text_of_view, IsCounted};
 
+use crate::equal::show_equal;
+use crate::gap::show_gap;
+use crate::log::show_log;
 use crate::series::show_series;
 use crate::table::show_table;
 use fpl_log::Sections;
@@ -23,6 +26,12 @@ pub enum Shown {
     Table,
     /// How many even and how many odd basis elements each weight has.
     Series,
+    /// The table as a record of GAP.
+    Gap,
+    /// The steps and closed rows of each weight.
+    Log,
+    /// Whether the two sides of each query are equal.
+    Equal,
 }
 
 /// Why a view has no text.
@@ -54,5 +63,8 @@ pub fn show<F: Field, L: Ledger>(
     match shown {
         Shown::Table => show_table(alloc, p, table),
         Shown::Series => show_series(alloc, p, table),
+        Shown::Gap => show_gap(alloc, p, table),
+        Shown::Log => show_log(alloc, p, table, sections),
+        Shown::Equal => show_equal(alloc, p, table),
     }
 }
