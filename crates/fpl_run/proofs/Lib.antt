@@ -4,6 +4,7 @@ pub mod Walks
 pub mod Ends
 pub mod Streams
 pub mod Streaming
+pub mod Pacing
 pub mod Replies
 pub mod OneReply
 pub mod Costs

@@ -3,7 +3,6 @@ use Rattle.std.proofs.Common.{◌≡◌, ℕ, ◌<◌, ◌≤◌, ◌+◌, ◌^�
 use Rattle.std.specs.Prelude.{IfSome}
 use Rattle.std.specs.Int.{w32, to_be_bytes}
 use Rattle.std.specs.declared.option.Option.{Option}
-use Rattle.std.specs.declared.result.Result.{Result}
 use Rattle.fpl_model.specs.declared.presentation.Presentation.{Presentation}
 use Rattle.fpl_model.specs.Sound.{IsSound}
 use Rattle.fpl_reader.proofs.Soundness.{presentation_sound}
@@ -16,10 +15,9 @@ use Rattle.fpl_checkpoint.proofs.OneHead.{head_taken}
 use Rattle.fpl_table.specs.Plain.{PlainTable}
 use Rattle.fpl_table.specs.Standard.{IsTableOf}
 use Rattle.fpl_outside.specs.Outside.{Takes}
-use Rattle.fpl_walk.specs.Walk.{Stored, Stage, Fault, too_many, bad_bytes, bad_section, overflow, ended, failed, walk_of}
+use Rattle.fpl_walk.specs.Walk.{Fault, too_many, bad_bytes, bad_section, overflow, failed}
 use Rattle.plain_walks.specs.Walks.{IsStandardWalk}
 use Rattle.plain_walks.proofs.Walking.{walks_are_standard}
-use Rattle.fpl_reply.specs.declared.status.Status.{Status}
 use Rattle.fpl_reply.specs.declared.status.Status.TheVariants.{Done}
 use Rattle.fpl_reply.specs.declared.view_fault.ViewFault.{ViewFault}
 use Rattle.fpl_reply.specs.declared.view_fault.ViewFault.TheVariants as view
@@ -28,7 +26,6 @@ use Rattle.fpl_reply.specs.Leaves.{Leaves}
 use Rattle.fpl_reply.specs.Leaves.Leaves.{whole, part, front}
 use Rattle.fpl_reply.proofs.Leaving.{status_shown}
 use Rattle.fpl_views.specs.declared.shown.Shown.{Shown}
-use Rattle.fpl_views.specs.Views.{text_of_view}
 use Rattle.fpl_views.proofs.Texts.{texts_show}
 use Rattle.fpl_run.specs.declared.words.Command.{Command}
 use Rattle.fpl_run.specs.declared.task.Way.{Way}

@@ -15,7 +15,7 @@ use Rattle.fpl_run.specs.declared.task.Way.{Way}
 use Rattle.fpl_run.specs.declared.task.Task.{Task}
 use Rattle.fpl_run.specs.Words.{IsCommand}
 use Rattle.fpl_run.specs.Task.{way_of, task_for}
-use Rattle.fpl_run.specs.Start.{Start, of_text, of_head, walk_for, HasCome}
+use Rattle.fpl_run.specs.Start.{Start, of_text, of_head, walk_for}
 use Rattle.fpl_run.specs.Read.{IsStart, IsNoStart}
 use Rattle.fpl_run.specs.Read.IsStart.{from_text, from_head}
 use Rattle.fpl_run.specs.Read.IsNoStart.{input_too_long, text_too_long, no_presentation, no_head}

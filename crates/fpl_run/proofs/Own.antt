@@ -1,28 +1,24 @@
 -- A checkpoint of a presentation's own has the reply of the presentation, and passes a check.
-use Rattle.std.proofs.Common.{◌≡◌, ℕ, zero, suc, ◌≤◌, ◌⊎◌, inl, inr, List, ◌∷◌, take, Bool, true, false, Ok, Err, None, Some, refl, sym, ap, ◌∙◌, subst, arith}
+use Rattle.std.proofs.Common.{◌≡◌, ℕ, zero, suc, ◌≤◌, ◌⊎◌, inl, inr, List, ◌∷◌, take, Bool, true, false, Ok, None, Some, refl, sym, ap, ◌∙◌, subst, arith}
 use mathlib.Core.Path.{ap₂}
 use Rattle.std.specs.declared.option.Option.{Option}
-use Rattle.std.specs.declared.result.Result.{Result}
 use Rattle.fpl_log.specs.declared.section.Section.{Section}
 use Rattle.fpl_model.specs.declared.presentation.Presentation.{Presentation}
 use Rattle.fpl_table.specs.Plain.{PlainTable}
 use Rattle.fpl_checkpoint.specs.declared.head.Head.{Head}
 use Rattle.fpl_checkpoint.specs.Scans.{HasHead}
 use Rattle.fpl_checkpoint.proofs.OneHead.{not_bad}
-use Rattle.fpl_walk.specs.Walk.{Stage, Stop, Fault, ended, failed, too_many, bad_bytes, bad_section, overflow, begun, walk_of}
+use Rattle.fpl_walk.specs.Walk.{Stage, Fault, failed, too_many, bad_bytes, bad_section, overflow, begun, walk_of}
 use Rattle.plain_streams.specs.Streams.{IsStreamOf, nothing}
 use Rattle.plain_streams.specs.Laws.{GiveSame, PassesWith, walk_from}
 use Rattle.plain_streams.proofs.Heads.{have_heads, heads_are_of, own_streams_give, own_streams_pass}
-use Rattle.fpl_reply.specs.declared.status.Status.{Status}
 use Rattle.fpl_reply.specs.declared.status.Status.TheVariants.{Done, Limit}
-use Rattle.fpl_reply.specs.declared.view_fault.ViewFault.{ViewFault}
 use Rattle.fpl_reply.specs.Reply.{Reply, stopped, fault_status, status_of}
 use Rattle.fpl_views.specs.Views.{text_of_view}
 use Rattle.fpl_run.specs.declared.words.Command.{Command}
 use Rattle.fpl_run.specs.declared.task.Way.{Way}
 use Rattle.fpl_run.specs.declared.task.Way.TheVariants.{Show, Write, Check}
 use Rattle.fpl_run.specs.declared.task.Task.{Task}
-use Rattle.fpl_run.specs.Words.{IsCommand}
 use Rattle.fpl_run.specs.Task.{way_of, task_for, does_compute}
 use Rattle.fpl_run.specs.Start.{Start, of_text, of_head, walk_for, HasCome}
 use Rattle.fpl_run.specs.Read.{IsStart, IsNoStart, IsMarked}

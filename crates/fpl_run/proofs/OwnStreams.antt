@@ -1,5 +1,5 @@
 -- What the view checkpoint writes for a text is a checkpoint of its presentation.
-use Rattle.std.proofs.Common.{◌≡◌, ℕ, ◌^◌, ◌<◌, ◌≤◌, inl, inr, List, length, take, Ok, Some, refl, sym, ap, ◌∙◌, subst, arith}
+use Rattle.std.proofs.Common.{◌≡◌, ℕ, ◌^◌, ◌<◌, inl, inr, List, length, take, Ok, Some, refl, sym, ap, ◌∙◌, subst, arith}
 use Rattle.std.specs.declared.option.Option.{Option}
 use Rattle.std.specs.declared.result.Result.{Result}
 use Rattle.fpl_log.specs.declared.section.Section.{Section}
@@ -9,9 +9,7 @@ use Rattle.fpl_reader.specs.Reading.{HasPresentation}
 use Rattle.fpl_reader.proofs.Soundness.{presentation_sound}
 use Rattle.fpl_canonical.specs.Canonical.{canonical_of}
 use Rattle.plain_texts.proofs.Texts.{canonical_short}
-use Rattle.fpl_checkpoint.specs.Heads.{head_bytes_of}
 use Rattle.fpl_bytes.specs.declared.version.Version.TheVariants.{Two}
-use Rattle.fpl_walk.specs.Walk.{Stage}
 use Rattle.plain_streams.specs.Streams.{stream_of, IsStreamOf}
 use Rattle.plain_streams.proofs.Written.{runs_write_streams}
 use Rattle.fpl_reply.specs.declared.view_fault.ViewFault.{ViewFault}
@@ -22,7 +20,7 @@ use Rattle.fpl_run.specs.declared.task.Way.TheVariants.{Write, Check}
 use Rattle.fpl_run.specs.Task.{way_of, task_for}
 use Rattle.fpl_run.specs.Stream.{stream_text}
 use Rattle.fpl_run.specs.Start.{of_text, walk_for}
-use Rattle.fpl_run.specs.Read.{IsCheckpoint, most_text}
+use Rattle.fpl_run.specs.Read.{IsCheckpoint}
 use Rattle.fpl_run.specs.Read.IsStart.{from_text}
 use Rattle.fpl_run.specs.Answer.{AnswersTask}
 use Rattle.fpl_run.specs.Answer.AnswersTask.{stopped_at, fails_in_view, shown}

@@ -7,7 +7,6 @@ use Rattle.std.proofs.lemmas.List.{append-nil}
 use Rattle.fpl_outside.specs.Outside.{Gives, Takes}
 use Rattle.fpl_outside.specs.Whole.{PassedMax}
 use Rattle.fpl_walk.specs.Walk.{Fault, too_many, bad_bytes, bad_section, overflow}
-use Rattle.fpl_reply.specs.declared.status.Status.{Status}
 use Rattle.fpl_reply.specs.declared.status.Status.TheVariants.{Usage, ReadFault}
 use Rattle.fpl_reply.specs.Reply.{Reply, read_fault, fault_status, status_of, text_of, with_text, line_of}
 use Rattle.fpl_reply.specs.Leaves.{Says, Leaves, IsAnswered}

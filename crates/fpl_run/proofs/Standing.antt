@@ -1,16 +1,13 @@
 -- What the replies obey over the standard table.
-use Rattle.std.proofs.Common.{◌≡◌, ℕ, ◌≤◌, ◌-◌, ◌⊎◌, inl, inr, List, Bool, true, Ok, Err, None, Some, refl, sym, ap, ◌∙◌, subst}
+use Rattle.std.proofs.Common.{◌≡◌, ℕ, ◌≤◌, List, true, Ok, None, Some, refl, sym, ap, ◌∙◌, subst}
 use Rattle.std.specs.Prelude.{IfSome}
 use Rattle.std.specs.declared.option.Option.{Option}
 use Rattle.std.specs.declared.result.Result.{Result}
-use Rattle.fpl_numbers.specs.declared.number.Kind.{Kind}
-use Rattle.fpl_numbers.specs.declared.number.Kind.TheVariants.{Prime}
 use Rattle.fpl_log.specs.declared.section.Section.{Section}
 use Rattle.fpl_table.specs.Plain.{PlainTable}
 use Rattle.fpl_model.specs.declared.presentation.Presentation.{Presentation}
-use Rattle.fpl_walk.specs.Walk.{Stored, Stage, Stop, Fault, too_many, overflow, failed, begun, walk_of}
+use Rattle.fpl_walk.specs.Walk.{Fault, too_many, overflow, failed, begun, walk_of}
 use Rattle.plain_walks.specs.Walks.{StopMeans}
-use Rattle.plain_walks.specs.Laws as plain
 use Rattle.plain_walks.proofs.Walking.{stops_mean}
 use Rattle.plain_walks.proofs.StopsThere as there
 use Rattle.fpl_reply.specs.declared.view_fault.ViewFault.{ViewFault}
@@ -18,14 +15,12 @@ use Rattle.fpl_reply.specs.Reply.{Reply, done, stopped, not_built}
 use Rattle.fpl_views.specs.declared.shown.Shown.{Shown}
 use Rattle.fpl_views.specs.Views.{text_of_view}
 use Rattle.fpl_views.proofs.Texts.{texts_of_tables}
-use Rattle.fpl_run.specs.declared.words.Command.{Command}
 use Rattle.fpl_run.specs.declared.task.Way.{Way}
 use Rattle.fpl_run.specs.declared.task.Way.TheVariants.{Show}
 use Rattle.fpl_run.specs.declared.task.Task.{Task}
-use Rattle.fpl_run.specs.Words.{IsCommand}
 use Rattle.fpl_run.specs.Task.{way_of, task_for, does_compute}
 use Rattle.fpl_run.specs.Start.{Start, walk_for}
-use Rattle.fpl_run.specs.Answer.{AnswersTask, text_of_way, written_before}
+use Rattle.fpl_run.specs.Answer.{AnswersTask, written_before}
 use Rattle.fpl_run.specs.Answer.AnswersTask.{stopped_at, fails_in_view, shown}
 use Rattle.fpl_run.specs.Laws.{OneText, WalksAreStandard, PrimesFit, StopsMean, LimitComes, FaultsCome}
 use Rattle.fpl_run.proofs.Names.{command_in_range}

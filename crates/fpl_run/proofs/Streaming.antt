@@ -1,5 +1,5 @@
 -- The end of a walk whose sections are written.
-use Rattle.std.proofs.Common.{◌≡◌, ℕ, ◌++◌, ◌∷◌, inl, inr, List, [], length, take, Err, None, Some, refl, sym, ap, subst, ◌∙◌, append_assoc}
+use Rattle.std.proofs.Common.{◌≡◌, ℕ, ◌⊎◌, ◌++◌, ◌∷◌, inl, inr, List, [], length, take, None, Some, refl, sym, ap, subst, ◌∙◌, append_assoc}
 use Rattle.std.specs.declared.option.Option.{Option}
 use Rattle.fpl_log.specs.declared.section.Section.{Section}
 use Rattle.fpl_model.specs.declared.presentation.Presentation.{Presentation}
@@ -8,10 +8,8 @@ use Rattle.fpl_section_bytes.specs.Spelling.{section_bytes_of}
 use Rattle.fpl_checkpoint.specs.Heads.{VERSION, head_bytes_of}
 use Rattle.fpl_outside.specs.Outside.{Takes}
 use Rattle.fpl_outside.specs.Whole.{WrotePrefix}
-use Rattle.fpl_walk.specs.declared.stop.Stop as code
-use Rattle.fpl_walk.specs.declared.stop.Stop.TheVariants as told
-use Rattle.fpl_walk.specs.Stops.{PlainRun, stored_in, IsStop}
-use Rattle.fpl_walk.specs.Walk.{Stored, Stage, Fault, Stop, ended, failed, Walked, walk_of, stopped as ends}
+use Rattle.fpl_walk.specs.Stops.{PlainRun, stored_in}
+use Rattle.fpl_walk.specs.Walk.{Stage, Fault, Stop, ended, failed, Walked, walk_of}
 use Rattle.fpl_reply.specs.declared.put.Cut.{Cut}
 use Rattle.fpl_reply.specs.declared.put.Cut.TheVariants as cut
 use Rattle.fpl_reply.specs.Reply.{Reply, done, stopped, no_memory, write_fault, text_of, IsPut}
@@ -27,14 +25,13 @@ use Rattle.fpl_run.specs.Start.{Start, walk_for}
 use Rattle.fpl_run.specs.Stream.{stream_text}
 use Rattle.fpl_run.specs.Answer.{AnswersTask, IsFront, text_of_way, written_before}
 use Rattle.fpl_run.specs.Answer.AnswersTask.{stopped_at, shown}
-use Rattle.fpl_run.specs.Begin.{start_from, HasBegun, HasStopped}
+use Rattle.fpl_run.specs.Begin.{start_from, HasBegun, HasEnded, HasFailed}
 use Rattle.fpl_run.proofs.Streams.{stream_put, front_of, head_part, part_within, section_part}
-use Rattle.fpl_run.proofs.Walks.{never_ends}
-use Rattle.fpl_run.proofs.Ends.{memory_or, walk_begun}
+use Rattle.fpl_run.proofs.Ends.{walk_begun, ended_stage, ended_stop}
 
 -- the checkpoint of a walk that has come to the limit, or that a fault stopped
 pub data IsStreamed (p : Presentation) (w : Walked) : Reply → Type 0 where
-  to_the_limit : w.stop ≡ None → IsStreamed p w (done (stream_text p w.stage.sections))
+  to_the_limit : (w.stop ≡ None) ⊎ (w.stop ≡ Some ended) → IsStreamed p w (done (stream_text p w.stage.sections))
   to_a_fault : (fault : Fault) → w.stop ≡ Some (failed fault) → IsStreamed p w (stopped (stream_text p w.stage.sections) fault)
 
 abbrev pub IsCutShort : Presentation → Walked → List ℕ → Type 0
@@ -44,13 +41,8 @@ IsCutShort p w text = (count : ℕ) × (text ≡ stream_text p (take count w.sta
 abbrev pub LeavesStream : Presentation → Walked → Option (List ℕ) → Option (List ℕ) → Reply → Type 0
 LeavesStream p w a b r = Leaves (IsStreamed p w) (IsCutShort p w) a b r
 
--- a checkpoint computes what isn't stored
-pub goes_on : (way : Way) → way ≡ Write → (e : ℕ) (p : Presentation) (at : Stored) (n : ℕ) (stage : Stage) →
-    (walk_of (does_compute way) e p at n stage).stop ≡ Some ended → ⊥
-goes_on way is e p at n stage h = never_ends e p at n stage (subst (λ (x : Way). (walk_of (does_compute x) e p at n stage).stop ≡ Some ended) is h)
-
--- a walk that stops, and not at the end of what is stored
-module _ (p : Presentation) (w : Walked) (going : w.stop ≡ Some ended → ⊥) (a b : Option (List ℕ)) where
+-- what stands after a walk
+module _ (p : Presentation) (w : Walked) (a b : Option (List ℕ)) where
   abbrev all : List Section
   all = w.stage.sections
 
@@ -61,8 +53,8 @@ module _ (p : Presentation) (w : Walked) (going : w.stop ≡ Some ended → ⊥)
     put : IsPut reply
 
   made_at : (o : Option Stop) → w.stop ≡ o → IsMade
-  made_at None e = record { reply = done (stream_text p all); streamed = to_the_limit e; text = refl; put = tt }
-  made_at (Some ended) e = absurd (going e)
+  made_at None e = record { reply = done (stream_text p all); streamed = to_the_limit (inl e); text = refl; put = tt }
+  made_at (Some ended) e = record { reply = done (stream_text p all); streamed = to_the_limit (inr e); text = refl; put = tt }
   made_at (Some (failed f)) e = record { reply = stopped (stream_text p all) f; streamed = to_a_fault f e; text = refl; put = stream_put p all }
 
   made : IsMade
@@ -80,45 +72,33 @@ module _ (p : Presentation) (w : Walked) (going : w.stop ≡ Some ended → ⊥)
   head_cut cut.NoMemory h = front (inl h)
   head_cut cut.WriteFault h = part_streamed [] all refl (head_part p a b h)
 
-  pub stop_streamed : (stop : code.Stop) (stage : Stage) (r : Reply) (rest : List Section) → all ≡ stage.sections ++ rest →
-      Takes a b (stream_text p stage.sections) → HasStopped stop stage w →
-      (stop ≡ told.NoMemory → r ≡ no_memory) → ((f : Fault) → IsStop {X = Stage} stop (Err (failed f)) → (stop ≡ told.NoMemory → ⊥) →
-      r ≡ stopped [] f) → LeavesStream p w a b r
-  stop_streamed stop stage r rest e t h memory known = elim (memory_or stop) [
-    | inl n ↦ subst (λ x. LeavesStream p w a b x) (sym (memory n)) (front_streamed stage.sections rest e t)
-    | inr full ↦ go full h
-  ]
-    where
-      at : (stop ≡ told.NoMemory → ⊥) → (x : Stop) → w ≡ ends stage (Some x) → IsStop {X = Stage} stop (Err x) → LeavesStream p w a b r
-      at full ended same k = absurd (going (ap (λ (v : Walked). v.stop) same))
-      at full (failed f) same k =
-          let here : stream_text p stage.sections ≡ stream_text p all = ap (λ (v : Walked). stream_text p v.stage.sections) (sym same) in
-          subst (λ x. LeavesStream p w a b x) (sym (known f k full)) (whole (stopped [] f) (stream_text p all)
-          (to_a_fault f (ap (λ (v : Walked). v.stop) same)) (subst (λ x. Takes a b x) here t))
+  all_taken : (stage : Stage) → w.stage ≡ stage → Takes a b (stream_text p stage.sections) → Takes a b (stream_text p all)
+  all_taken stage e t = subst (λ x. Takes a b x) (ap (λ (x : Stage). stream_text p x.sections) (sym e)) t
 
-      go : (stop ≡ told.NoMemory → ⊥) → HasStopped stop stage w → LeavesStream p w a b r
-      go full (inl n) = absurd (full n)
-      go full (inr k) = at full k.0 k.1 k.2
+  pub failed_streamed : (stage : Stage) (r : Reply) (rest : List Section) → all ≡ stage.sections ++ rest →
+      Takes a b (stream_text p stage.sections) → HasFailed stage w r → LeavesStream p w a b r
+  failed_streamed stage r rest e t (inl n) = subst (λ x. LeavesStream p w a b x) (sym n) (front_streamed stage.sections rest e t)
+  failed_streamed stage r rest e t (inr k) =
+      subst (λ x. LeavesStream p w a b x) (sym k.2) (whole (stopped [] k.0) (stream_text p all)
+      (to_a_fault k.0 (ap (λ (v : Walked). v.stop) k.1)) (all_taken stage (ap (λ (v : Walked). v.stage) k.1) t))
 
-  pub limit_streamed : (stage : Stage) → w ≡ ends stage None → Takes a b (stream_text p stage.sections) → LeavesStream p w a b (done [])
-  limit_streamed stage same t =
-      let here : stream_text p stage.sections ≡ stream_text p all = ap (λ (v : Walked). stream_text p v.stage.sections) (sym same) in
-      whole (done []) (stream_text p all) (to_the_limit (ap (λ (v : Walked). v.stop) same)) (subst (λ x. Takes a b x) here t)
+  pub limit_streamed : (stage : Stage) → HasEnded stage w → Takes a b (stream_text p stage.sections) → LeavesStream p w a b (done [])
+  limit_streamed stage h t =
+      whole (done []) (stream_text p all) (to_the_limit (ended_stop stage w h)) (all_taken stage (ended_stage stage w h) t)
 
 -- memory ran out, or a put failed, at a section after others
-pub section_cut : (p : Presentation) (w : Walked) (going : w.stop ≡ Some ended → ⊥) (a b c : Option (List ℕ)) (ss : List Section) (s : Section)
+pub section_cut : (p : Presentation) (w : Walked) (a b c : Option (List ℕ)) (ss : List Section) (s : Section)
     (rest : List Section) → w.stage.sections ≡ (ss ++ s ∷ []) ++ rest →
     Takes a b (stream_text p ss) → (x : Cut) → IsCut (section_bytes_of Two p.field s) b c x → LeavesStream p w a c (cut_reply x)
-section_cut p w going a b c ss s rest e t cut.NoMemory h =
-    front_streamed p w going a c ss (s ∷ rest) (e ∙ append_assoc ss (s ∷ []) rest) (subst (λ o. Takes a o (stream_text p ss)) (sym h) t)
-section_cut p w going a b c ss s rest e t cut.WriteFault h = part_streamed p w going a c (ss ++ s ∷ []) rest e (section_part p a b c ss s t h)
+section_cut p w a b c ss s rest e t cut.NoMemory h =
+    front_streamed p w a c ss (s ∷ rest) (e ∙ append_assoc ss (s ∷ []) rest) (subst (λ o. Takes a o (stream_text p ss)) (sym h) t)
+section_cut p w a b c ss s rest e t cut.WriteFault h = part_streamed p w a c (ss ++ s ∷ []) rest e (section_part p a b c ss s t h)
 
 -- the replies and fronts of a walk are those of its task
 module _ (t : Task) (s : Start) (w : Walked) (way : t.way ≡ Write) (same : w ≡ walk_for t s) where
   pub streamed_task : (r : Reply) → IsStreamed s.presentation w r → AnswersTask t s r
   streamed_task _ (to_the_limit e) =
-      let come : (walk_for t s).stop ≡ None = ap (λ (v : Walked). v.stop) (sym same) ∙ e in
-      shown (inl come) (stream_text s.presentation w.stage.sections)
+      shown (subst (λ (v : Walked). (v.stop ≡ None) ⊎ (v.stop ≡ Some ended)) same e) (stream_text s.presentation w.stage.sections)
       (ap (λ (x : Way). text_of_way x s t.limit (walk_for t s).stage) way ∙ ap (λ (v : Walked). text_of_way Write s t.limit v.stage) (sym same))
   streamed_task _ (to_a_fault f e) =
       let stop : (walk_for t s).stop ≡ Some (failed f) = ap (λ (v : Walked). v.stop) (sym same) ∙ e in

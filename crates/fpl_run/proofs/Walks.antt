@@ -1,5 +1,6 @@
 -- Walks through weights: each step raises the table by one, and only a check comes to the end of what is stored.
-use Rattle.std.proofs.Common.{◌≡◌, ℕ, zero, suc, ◌+◌, ◌-◌, ◌<◌, ◌≤◌, ◌⊎◌, inl, inr, List, [], ◌∷◌, ◌++◌, append_assoc, Bool, true, false, Ok, Err, None, Some, refl, sym, ap, ◌∙◌, arith}
+use Rattle.std.proofs.Common.{◌≡◌, ℕ, zero, suc, ◌+◌, ◌-◌, ◌<◌, ◌≤◌, inl, inr, List, [], ◌∷◌, ◌++◌, append_assoc, Bool, true, false, Ok, Err, None, Some, refl, sym, ap, ◌∙◌, subst, arith}
+use mathlib.Core.Path.{ap₂}
 use Rattle.std.specs.Prelude.{nat_lt, if◌then◌else◌}
 use Rattle.std.specs.declared.result.Result.{Result}
 use Rattle.fpl_numbers.specs.declared.number.Num.{Num}
@@ -20,12 +21,10 @@ use Rattle.fpl_section_bytes.specs.declared.frame.Frame.{Frame}
 use Rattle.fpl_section_bytes.specs.declared.frame.Frame.TheVariants.{Whole, Tail}
 use Rattle.fpl_section_bytes.specs.Frames.{frame_of}
 use Rattle.fpl_section_bytes.specs.Reading.{payload_at}
-use Rattle.fpl_walk.specs.declared.stop.Stop as code
-use Rattle.fpl_walk.specs.declared.stop.Stop.TheVariants as told
-use Rattle.fpl_complete.specs.State.{unfit_of}
-use Rattle.fpl_walk.specs.Stops.{PlainRun, stored_in, IsStop}
-use Rattle.fpl_run.specs.Begin.{HasStopped}
-use Rattle.fpl_walk.specs.Walk.{Stored, Stage, too_many, bad_bytes, bad_section, overflow, Stop, ended, failed, Walked, next_weight, adopted, formed, computed_as, computed, framed, weighed, step_of, stopped, walk_on, walk_of, step_cost, cost_on, cost_of}
+use Rattle.fpl_walk.specs.Stops.{PlainRun, stored_in}
+use Rattle.fpl_reply.specs.Reply.{Reply}
+use Rattle.fpl_run.specs.Begin.{Adds, Fails, HasEnded, HasFailed}
+use Rattle.fpl_walk.specs.Walk.{Stored, Stage, too_many, Stop, ended, failed, Walked, next_weight, adopted, formed, computed_as, computed, framed, weighed, step_of, stopped, walk_on, walk_of, step_cost, cost_on, cost_of}
 
 -- a step raises the table by one weight, and adds its section
 abbrev Grows : Stage → Result Stage Stop → Type 0
@@ -172,37 +171,45 @@ module _ (c : Bool) (e : ℕ) (p : Presentation) (at : Stored) (limit : ℕ) whe
   pub walk_over : (stage : Stage) → limit ≤ stage.table.weight → walk_of c e p at (limit - stage.table.weight) stage ≡ stopped stage None
   walk_over stage l = let none : limit - stage.table.weight ≡ 0 = omega arith in ap (λ n. walk_of c e p at n stage) none
 
--- what a stop tells
-pub stop_known : (stop : code.Stop) (r : Result Stage Stop) → IsStop stop r → (stop ≡ told.NoMemory) ⊎
-    ((s : Stop) × (r ≡ Err s) × IsStop {X = Stage} stop (Err s))
-stop_known (told.TooMany w n) r h = inr (failed (too_many w n), h, refl)
-stop_known (told.BadBytes b) r h = inr (failed (bad_bytes b), h, refl)
-stop_known (told.BadSection w spot why) r h = inr (failed (bad_section w spot why), h, refl)
-stop_known (told.Overflow w op a b) r h = inr (failed (overflow w (unfit_of op a b)), h, refl)
-stop_known told.Ended r h = inr (ended, h, refl)
-stop_known told.NoMemory r h = inl refl
-
 stored_at : ℕ → List ℕ → Stored
 stored_at v bytes = record { version = v; bytes = bytes }
 
--- the same step, told by what a run has become
-pub stored_as : (r s : PlainRun) (bytes : List ℕ) → r.version ≡ s.version → stored_in r bytes ≡ stored_in s bytes
+stored_as : (r s : PlainRun) (bytes : List ℕ) → r.version ≡ s.version → stored_in r bytes ≡ stored_in s bytes
 unfolding stored_at
 stored_as r s bytes e = ap (λ v. stored_at v bytes) e
 
-pub step_as : (c d : Bool) (e : ℕ) (p q : Presentation) (at bt : Stored) (stage : Stage) → d ≡ c → q ≡ p → bt ≡ at →
-    step_of c e p at stage ≡ step_of d e q bt stage
-step_as c d e p q at bt stage x y z = rw (x, y, z) refl
+-- a step of what a run has become, told by what it was
+module _ (c : Bool) (e : ℕ) (start run : PlainRun) (bytes : List ℕ) (kept : run.presentation ≡ start.presentation) (same : run.version ≡ start.version) where
+  pub step_there : step_of c e start.presentation (stored_in start bytes) run.stage ≡ step_of c e run.presentation (stored_in run bytes) run.stage
+  step_there = ap₂ (λ q b. step_of c e q b run.stage) (sym kept) (sym (stored_as run start bytes same))
 
-pub cost_as : (c d : Bool) (e : ℕ) (p q : Presentation) (at bt : Stored) (stage : Stage) → d ≡ c → q ≡ p → bt ≡ at →
-    step_cost c e p at stage ≡ step_cost d e q bt stage
-cost_as c d e p q at bt stage x y z = rw (x, y, z) refl
+  pub cost_there : step_cost c e start.presentation (stored_in start bytes) run.stage ≡ step_cost c e run.presentation (stored_in run bytes) run.stage
+  cost_there = ap₂ (λ q b. step_cost c e q b run.stage) (sym kept) (sym (stored_as run start bytes same))
 
-pub stopped_at : (c : Bool) (e : ℕ) (p : Presentation) (at : Stored) (limit : ℕ) (stage left : Stage) (stop : code.Stop) (whole : Walked) →
-    left ≡ stage → whole ≡ walk_of c e p at (limit - stage.table.weight) stage →
-    stage.table.weight < limit → IsStop stop (step_of c e p at stage) → HasStopped stop left whole
-stopped_at c e p at limit stage left stop whole same is low h = go (stop_known stop (step_of c e p at stage) h)
-  where
-    go : (stop ≡ told.NoMemory) ⊎ ((s : Stop) × (step_of c e p at stage ≡ Err s) × IsStop {X = Stage} stop (Err s)) → HasStopped stop left whole
-    go (inl m) = inl m
-    go (inr k) = inr (k.0, is ∙ walk_stops c e p at limit stage k.0 low k.1 ∙ ap (λ (x : Stage). stopped x (Some k.0)) (sym same), k.2)
+  pub added_there : (b : Bool) (next : Stage) → b ≡ true → Adds b (step_of c e run.presentation (stored_in run bytes) run.stage) run.stage next →
+      step_of c e start.presentation (stored_in start bytes) run.stage ≡ Ok next
+  added_there b next is h =
+      step_there ∙ subst (λ x. Adds x (step_of c e run.presentation (stored_in run bytes) run.stage) run.stage next) is h
+
+  pub ended_there : (b : Bool) (next : Stage) → b ≡ false → Adds b (step_of c e run.presentation (stored_in run bytes) run.stage) run.stage next →
+      (step_of c e start.presentation (stored_in start bytes) run.stage ≡ Err ended) × (next ≡ run.stage)
+  ended_there b next is h =
+      let k = subst (λ x. Adds x (step_of c e run.presentation (stored_in run bytes) run.stage) run.stage next) is h in
+      (step_there ∙ k.0, k.1)
+
+  pub failed_there : (r : Reply) → Fails (step_of c e run.presentation (stored_in run bytes) run.stage) r →
+      Fails (step_of c e start.presentation (stored_in start bytes) run.stage) r
+  failed_there r h = subst (λ x. Fails x r) (sym step_there) h
+
+-- a walk whose next step comes to an end, or to a fault
+module _ (c : Bool) (e : ℕ) (p : Presentation) (at : Stored) (limit : ℕ) (stage left : Stage) (whole : Walked) (same : left ≡ stage)
+    (is : whole ≡ walk_of c e p at (limit - stage.table.weight) stage) (low : stage.table.weight < limit) where
+  stops_here : (s : Stop) → step_of c e p at stage ≡ Err s → whole ≡ stopped left (Some s)
+  stops_here s h = is ∙ walk_stops c e p at limit stage s low h ∙ ap (λ (x : Stage). stopped x (Some s)) (sym same)
+
+  pub ended_here : step_of c e p at stage ≡ Err ended → HasEnded left whole
+  ended_here h = inr (stops_here ended h)
+
+  pub failed_here : (r : Reply) → Fails (step_of c e p at stage) r → HasFailed left whole r
+  failed_here r (inl m) = inl m
+  failed_here r (inr k) = inr (k.0, stops_here (failed k.0) k.1, k.2)

@@ -1,11 +1,11 @@
 -- A run is complete: where the symbols stay within the entries and every operation fits, the reply is a text.
-use Rattle.std.proofs.Common.{◌≡◌, ℕ, ◌≤◌, ◌⊎◌, inl, inr, List, length, Bool, true, false, Ok, Err, None, Some, refl, sym, ap, ◌∙◌, subst, arith}
+use Rattle.std.proofs.Common.{◌≡◌, ℕ, ◌≤◌, inl, inr, List, Bool, true, false, Err, None, Some, refl, sym, ap, ◌∙◌, subst, arith}
 use Rattle.std.specs.declared.option.Option.{Option}
 use Rattle.fpl_model.specs.Sound.{IsSound}
 use Rattle.fpl_reader.specs.Reading.{HasPresentation}
 use Rattle.fpl_reader.proofs.Soundness.{presentation_sound}
 use Rattle.fpl_table.specs.Standard.{IsTableOf}
-use Rattle.fpl_walk.specs.Walk.{Walked, failed, begun, walk_of}
+use Rattle.fpl_walk.specs.Walk.{Walked, begun, walk_of}
 use Rattle.plain_walks.specs.Walks.{IsStandardWalk}
 use Rattle.plain_walks.proofs.Walking.{walks_are_standard}
 use Rattle.plain_walks.proofs.StopsThere.{fits_go_on}
@@ -19,7 +19,7 @@ use Rattle.fpl_run.specs.declared.task.Way.TheVariants.{Show, Write, Check}
 use Rattle.fpl_run.specs.declared.task.Task.{Task}
 use Rattle.fpl_run.specs.Task.{way_of, task_for, does_compute}
 use Rattle.fpl_run.specs.Start.{Start, of_text, walk_for}
-use Rattle.fpl_run.specs.Read.{IsCheckpoint, most_text}
+use Rattle.fpl_run.specs.Read.{IsCheckpoint}
 use Rattle.fpl_run.specs.Read.IsStart.{from_text}
 use Rattle.fpl_run.specs.Answer.{AnswersTask, AnswersCommand, text_of_way}
 use Rattle.fpl_run.specs.Answer.AnswersTask.{stopped_at, fails_in_view, shown}

@@ -9,7 +9,7 @@
 --   Answers words bytes: the words spell no command; or one
 --   IsFront t s text: of a checkpoint the head and the sections of the weights from 1 to some weight, as the walk has them
 --   FrontsStart, FrontsCommand, Fronts: the same, told by a command, its input, and the words
-use Rattle.std.specs.Prelude.{ℕ, ◌≡◌, ◌-◌, List, [], length, take, Option, Some, None, Result, Ok, Err}
+use Rattle.std.specs.Prelude.{ℕ, ◌≡◌, ◌-◌, List, [], length, take, Some, None, Result, Ok, Err}
 use Rattle.fpl_log.specs.declared.section.Section.{Section}
 use Rattle.fpl_model.specs.declared.presentation.Presentation.{Presentation}
 use Rattle.fpl_walk.specs.Walk.{Stage, Fault, failed}

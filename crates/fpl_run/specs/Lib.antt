@@ -6,5 +6,6 @@ pub mod CheckText
 pub mod Stream
 pub mod Answer
 pub mod Begin
+pub mod Pace
 pub mod Run
 pub mod Laws

@@ -5,9 +5,9 @@
 --   IsWritten view: sections are written along the way
 --   MayPut view status: something may stand in the output of a view that has ended with this status: its text after Done, a part of it after a failing put; of
 --   a checkpoint also what was written before a fault stopped the run or memory ran out
---   CostsAtMost c bytes old new: a number rose by at most the number of origins of the weights that a run computes, where its view is counted; it stayed where
---   the view isn't built, or the bytes are no start
-use Rattle.std.specs.Prelude.{◌≡◌, ℕ, ◌+◌, ◌≤◌, ◌⊎◌, List, Some}
+--   Spends c bytes out_old out_new old new: a number rose by at most the number of origins of the weights that a run computes, where its view is counted;
+--   it stayed where the view isn't built, or the bytes are no start; and a checkpoint's sections are written as its weights are done
+use Rattle.std.specs.Prelude.{◌≡◌, ℕ, ◌+◌, ◌≤◌, ◌⊎◌, List, Option, Some}
 use Rattle.fpl_log.specs.declared.section.Section.{Section}
 use Rattle.fpl_table.specs.Plain.{PlainTable}
 use Rattle.fpl_table.specs.Standard.{IsTableOf}
@@ -24,6 +24,7 @@ use Rattle.fpl_run.specs.Words.{IsCommand, IsNoCommand}
 use Rattle.fpl_run.specs.Task.{way_of, task_for, IsCounted}
 use Rattle.fpl_run.specs.Start.{Start, cost_for}
 use Rattle.fpl_run.specs.Read.{IsUnread, IsStart}
+use Rattle.fpl_run.specs.Pace.{IsPaced}
 
 abbrev pub ReadsNothing : List (List ℕ) → Type 0
 ReadsNothing words = IsNoCommand words ⊎ ((c : Command) × IsCommand words c × IsUnread c.view)
@@ -52,7 +53,8 @@ MayPut view ReadFault = ⊥
 MayPut view WriteFault = Unit {0}
 MayPut view NotBuilt = ⊥
 
-pub record CostsAtMost (c : Command) (bytes : List ℕ) (old new : ℕ) : Type 0 where
+pub record Spends (c : Command) (bytes : List ℕ) (out_old out_new : Option (List ℕ)) (old new : ℕ) : Type 0 where
   pub rises : old ≤ new
   pub most : (way : Way) (s : Start) → way_of c.view ≡ Some way → IsCounted way → IsStart c bytes s → new ≤ old + cost_for (task_for c way) s
   pub stays : ((way : Way) (s : Start) → way_of c.view ≡ Some way → IsStart c bytes s → ⊥) → new ≡ old
+  pub paced : (s : Start) → IsWritten c.view → IsStart c bytes s → IsPaced (task_for c Write) s out_old out_new old new

@@ -5,12 +5,14 @@ ghost use Rattle.std.specs.Prelude.{◌≡◌, ◌<◌};
 
 mod check_text;
 mod laws;
+mod made;
 mod read;
 mod spelling;
 mod start;
 mod stream;
 mod task;
 mod top;
+mod walk;
 mod words;
 mod written;
 

@@ -8,9 +8,9 @@ ghost use Rattle.fpl_reply.specs.Outcome.{reply_of};
 ghost use Rattle.fpl_reply.specs.Leaves.{Leaves};
 ghost use Rattle.fpl_run.specs.Words.{IsInRange};
 ghost use Rattle.fpl_run.specs.Task.{way_of};
-ghost use Rattle.fpl_run.specs.Read.{IsUnread, IsMarked, IsCheckpoint};
+ghost use Rattle.fpl_run.specs.Read.{IsUnread, IsMarked, IsCheckpoint, most_bytes};
 ghost use Rattle.fpl_run.specs.Answer.{AnswersCommand, FrontsCommand};
-ghost use Rattle.fpl_run.specs.Run.{MayPut, CostsAtMost};
+ghost use Rattle.fpl_run.specs.Run.{MayPut, Spends};
 
 use crate::start::{Begin, answer_start};
 use crate::words::{Command, View};
@@ -54,11 +54,11 @@ fn answer_text<O: Sink, L: Ledger>(
 ) -> Outcome
     requires range { IsInRange c.limit c.entries }
     requires read { IsUnread c.view → ⊥ }
-    requires short { length bytes.now ≤ MOST_BYTES }
+    requires short { length bytes.now ≤ most_bytes }
     requires plain { IsCheckpoint c bytes.now → ⊥ }
     ensures reply { Leaves (AnswersCommand c bytes.now) (FrontsCommand c bytes.now) (O.taken out.old) (O.taken out.new) (reply_of result) }
     ensures fault { status_of (reply_of result) ≡ Status.WriteFault → Rose (O.faults out.old) (O.faults out.new) }
-    ensures cost { CostsAtMost c bytes.now steps.old steps.new }
+    ensures cost { Spends c bytes.now (O.taken out.old) (O.taken out.new) steps.old steps.new }
     ensures idle { way_of c.view ≡ None → steps.new ≡ steps.old }
 {
     if bytes.len() > MOST_TEXT {
@@ -94,11 +94,11 @@ fn answer_checkpoint<O: Sink, L: Ledger>(
 ) -> Outcome
     requires range { IsInRange c.limit c.entries }
     requires read { IsUnread c.view → ⊥ }
-    requires short { length bytes.now ≤ MOST_BYTES }
+    requires short { length bytes.now ≤ most_bytes }
     requires checkpoint { IsCheckpoint c bytes.now }
     ensures reply { Leaves (AnswersCommand c bytes.now) (FrontsCommand c bytes.now) (O.taken out.old) (O.taken out.new) (reply_of result) }
     ensures fault { status_of (reply_of result) ≡ Status.WriteFault → Rose (O.faults out.old) (O.faults out.new) }
-    ensures cost { CostsAtMost c bytes.now steps.old steps.new }
+    ensures cost { Spends c bytes.now (O.taken out.old) (O.taken out.new) steps.old steps.new }
     ensures idle { way_of c.view ≡ None → steps.new ≡ steps.old }
 {
     match scan_head(alloc, bytes) {
@@ -125,11 +125,11 @@ fn answer_bytes<O: Sink, L: Ledger>(
 ) -> Outcome
     requires range { IsInRange c.limit c.entries }
     requires read { IsUnread c.view → ⊥ }
-    requires short { length bytes.now ≤ MOST_BYTES }
+    requires short { length bytes.now ≤ most_bytes }
     ensures bytes { IsBytes bytes.now }
     ensures reply { Leaves (AnswersCommand c bytes.now) (FrontsCommand c bytes.now) (O.taken out.old) (O.taken out.new) (reply_of result) }
     ensures fault { status_of (reply_of result) ≡ Status.WriteFault → Rose (O.faults out.old) (O.faults out.new) }
-    ensures cost { CostsAtMost c bytes.now steps.old steps.new }
+    ensures cost { Spends c bytes.now (O.taken out.old) (O.taken out.new) steps.old steps.new }
     ensures idle { way_of c.view ≡ None → steps.new ≡ steps.old }
 {
     if is_checkpoint(c, bytes) {
@@ -151,7 +151,7 @@ pub(crate) fn answer_command<I: Source, O: Sink, L: Ledger>(
     ensures reply { IfSome (I.left input.old) (λ bytes. (reply_of result ≡ read_fault) ⊎ Leaves (AnswersCommand c bytes) (FrontsCommand c bytes)
         (O.taken out.old) (O.taken out.new) (reply_of result)) }
     ensures fault { status_of (reply_of result) ≡ Status.WriteFault → Rose (O.faults out.old) (O.faults out.new) }
-    ensures cost { IfSome (I.left input.old) (λ bytes. CostsAtMost c bytes steps.old steps.new) }
+    ensures cost { IfSome (I.left input.old) (λ bytes. Spends c bytes (O.taken out.old) (O.taken out.new) steps.old steps.new) }
     ensures nothing { (MayPut c.view (status_of (reply_of result)) → ⊥) → O.taken out.new ≡ O.taken out.old }
     ensures bytes { status_of (reply_of result) ≡ Status.Done → IfSome (I.left input.old) IsBytes }
     ensures unread { IsUnread c.view → input.new ≡ input.old }

@@ -10,9 +10,10 @@ ghost use Rattle.fpl_run.specs.Words.{IsInRange};
 ghost use Rattle.fpl_run.specs.Start.{cost_for};
 ghost use Rattle.fpl_run.specs.Answer.{AnswersTask, IsFront};
 ghost use Rattle.fpl_run.specs.Begin.{start_from, HasBegun};
+ghost use Rattle.fpl_run.specs.Pace.{IsPaced};
 
-use crate::start::ending;
-use crate::task::{Task, Way, does_compute};
+use crate::task::{Task, Way};
+use crate::walk::add_weight;
 use crate::written::{put_head, put_last_section};
 use fpl_outside::Sink;
 use fpl_reply::{Outcome, Status};
@@ -42,13 +43,16 @@ pub(crate) fn stream<F: Field, O: Sink, L: Ledger>(
     ensures fault { status_of (reply_of result) ≡ Status.WriteFault → Rose (O.faults out.old) (O.faults out.new) }
     ensures rises { steps.old ≤ steps.new }
     ensures cost { steps.new ≤ steps.old + cost_for task (start_from run.old bytes.now) }
+    ensures paced { IsPaced task (start_from run.old bytes.now) (O.taken out.old) (O.taken out.new) steps.old steps.new }
 {
     if let Err(cut) = put_head(alloc, run.state().presentation(), out) {
         return cut.outcome();
     }
     'weights: while run.weight() < task.limit {
-        if let Err(stop) = run.advance(bytes, does_compute(task.way), task.entries, steps) {
-            return ending(stop);
+        match add_weight(run, bytes, task, steps) {
+            Ok(true) => {}
+            Ok(false) => return Outcome::Done,
+            Err(outcome) => return outcome,
         }
         if let Err(cut) = put_last_section(alloc, run, out) {
             return cut.outcome();

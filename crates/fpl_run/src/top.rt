@@ -12,7 +12,7 @@ ghost use Rattle.fpl_run.specs.declared.task.Way.TheVariants.{Show};
 ghost use Rattle.fpl_run.specs.Words.{spelled, IsCommand, IsNoCommand};
 ghost use Rattle.fpl_run.specs.Task.{way_of};
 ghost use Rattle.fpl_run.specs.Answer.{Answers, Fronts};
-ghost use Rattle.fpl_run.specs.Run.{ReadsNothing, Means, MayPut, CostsAtMost};
+ghost use Rattle.fpl_run.specs.Run.{ReadsNothing, Means, MayPut, Spends};
 
 use crate::read::answer_command;
 use crate::spelling::command;
@@ -37,7 +37,7 @@ fn answer_words<I: Source, O: Sink, L: Ledger>(
     ensures unread { ReadsNothing (spelled words.now.items) → input.new ≡ input.old }
     ensures bytes { status_of (reply_of result) ≡ Status.Done → IfSome (I.left input.old) IsBytes }
     ensures idle { ((c : Command) → IsCommand (spelled words.now.items) c → way_of c.view ≡ None) → steps.new ≡ steps.old }
-    ensures cost { IfSome (I.left input.old) (λ bytes. (c : Command) → IsCommand (spelled words.now.items) c → CostsAtMost c bytes steps.old steps.new) }
+    ensures cost { IfSome (I.left input.old) (λ bytes. (c : Command) → IsCommand (spelled words.now.items) c → Spends c bytes (O.taken out.old) (O.taken out.new) steps.old steps.new) }
     ensures read { status_of (reply_of result) ≡ Status.ReadFault → Rose (I.faults input.old) (I.faults input.new) × (ReadsNothing (spelled words.now.items) → ⊥) }
     ensures write { status_of (reply_of result) ≡ Status.WriteFault → Rose (O.faults out.old) (O.faults out.new) }
     ensures end { status_of (reply_of result) ≡ Status.Done → IsAtEnd (I.left input.new) }
@@ -82,7 +82,7 @@ pub fn run<I: Source, O: Sink, E: Sink, L: Ledger>(
     ensures unread { ReadsNothing (spelled words.now.items) → input.new ≡ input.old }
 
     // What a command costs, whatever the answer.
-    ensures cost { IfSome (I.left input.old) (λ bytes. (c : Command) → IsCommand (spelled words.now.items) c → CostsAtMost c bytes steps.old steps.new) }
+    ensures cost { IfSome (I.left input.old) (λ bytes. (c : Command) → IsCommand (spelled words.now.items) c → Spends c bytes (O.taken out.old) (O.taken out.new) steps.old steps.new) }
     ensures idle { ((c : Command) → IsCommand (spelled words.now.items) c → way_of c.view ≡ None) → steps.new ≡ steps.old }
 {
     let outcome = answer_words(alloc, words, input, out, steps);

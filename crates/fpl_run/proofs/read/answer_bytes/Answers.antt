@@ -1,5 +1,4 @@
 use Rattle.std.proofs.Common.{rules, arith}
-use Rattle.fpl_run.specs.Read.{IsCheckpoint}
 use Rattle.fpl_run.proofs.read.answer_bytes.Goals as goal
 
 pub answer_checkpoint-requires-clause-checkpoint : goal.answer_checkpoint-requires-clause-checkpoint

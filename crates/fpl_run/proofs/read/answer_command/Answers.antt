@@ -1,4 +1,4 @@
-use Rattle.std.proofs.Common.{[], inl, inr, refl, rules}
+use Rattle.std.proofs.Common.{inl, inr, refl, rules}
 use Rattle.fpl_reply.specs.Leaves.Leaves.{front}
 use Rattle.fpl_reply.proofs.Leaving.{leaves_quiet}
 use Rattle.fpl_run.specs.Read.{IsUnread}

@@ -1,4 +1,4 @@
-use Rattle.std.proofs.Common.{[], ◌≤◌, length, inl, refl, arith}
+use Rattle.std.proofs.Common.{◌≤◌, length, inl, refl, arith}
 use Rattle.plain_texts.proofs.Texts.{canonical_short}
 use Rattle.fpl_run.specs.Start.{of_text}
 use Rattle.fpl_run.specs.Read.{most_text}
@@ -34,9 +34,9 @@ returns-in-Err-Refused-clause-reply g c =
 pub returns-in-Ok-clause-cost : goal.returns-in-Ok-clause-cost
 returns-in-Ok-clause-cost g c =
     let short : length c.args.bytes.now ≤ most_text = omega arith in
-    costs_start c.args.c c.args.bytes.now (of_text c.in-Ok.presentation) c.args.steps.now c.answer_start.new.steps
+    costs_start c.args.c c.args.bytes.now (of_text c.in-Ok.presentation) _ _ c.args.steps.now c.answer_start.new.steps
     (from_text short c.requires.plain c.in-Ok.presentation c.in-Ok.ensures.read)
-    c.answer_start.ensures.rises c.answer_start.ensures.idle c.answer_start.ensures.cost
+    c.answer_start.ensures.rises c.answer_start.ensures.idle c.answer_start.ensures.cost c.answer_start.ensures.paced
 
 pub returns-in-Err-NoMemory-clause-reply : goal.returns-in-Err-NoMemory-clause-reply
 returns-in-Err-NoMemory-clause-reply g c = front (inl refl)

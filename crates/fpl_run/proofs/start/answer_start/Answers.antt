@@ -4,32 +4,44 @@ use Rattle.fpl_run.specs.Begin.{start_in}
 use Rattle.fpl_run.specs.Answer.AnswersStart.{not_built_yet}
 use Rattle.fpl_run.proofs.Ends.{begun_start}
 use Rattle.fpl_run.proofs.Replies.{start_through}
-use Rattle.fpl_run.proofs.Costs.{costs_task}
+use Rattle.fpl_run.proofs.Costs.{costs_task, paced_task}
 use Rattle.fpl_run.proofs.start.answer_start.Goals as goal
 
 pub returns-in_default-clause-reply : goal.returns-in_default-clause-reply
 returns-in_default-clause-reply g c = leaves_quiet _ _ _ _ _ refl refl refl (not_built_yet (sym c.in_default.ensures))
 
-pub returns-in-Rational-clause-reply : goal.returns-in-Rational-clause-reply
-returns-in-Rational-clause-reply g c =
+pub returns-in-Some-residues-clause-reply : goal.returns-in-Some-residues-clause-reply
+returns-in-Some-residues-clause-reply g c =
     let s = start_in c.args.begin c.args.bytes.now in
     start_through c.args.c s c.in-Some.way (sym c.in-Some.ensures) _ _ _ (c.run_through.ensures.reply s
     (begun_start c.args.begin c.args.bytes.now c.begin_run.result c.begin_run.ensures))
 
-pub returns-in-Rational-clause-cost : goal.returns-in-Rational-clause-cost
-returns-in-Rational-clause-cost g c =
+pub returns-in-Some-residues-clause-cost : goal.returns-in-Some-residues-clause-cost
+returns-in-Some-residues-clause-cost g c =
     let s = start_in c.args.begin c.args.bytes.now in
     costs_task c.args.c s c.in-Some.way (sym c.in-Some.ensures) _ _ (c.run_through.ensures.cost s
     (begun_start c.args.begin c.args.bytes.now c.begin_run.result c.begin_run.ensures))
 
-pub returns-in-Some-of-clause-reply : goal.returns-in-Some-of-clause-reply
-returns-in-Some-of-clause-reply g c =
+pub returns-in-Some-residues-clause-paced : goal.returns-in-Some-residues-clause-paced
+returns-in-Some-residues-clause-paced g c =
     let s = start_in c.args.begin c.args.bytes.now in
-    start_through c.args.c s c.in-Some.way (sym c.in-Some.ensures) _ _ _
-    (c.run_through-in-Some-of.ensures.reply s (begun_start c.args.begin c.args.bytes.now c.begin_run-in-Some-of.result c.begin_run-in-Some-of.ensures))
+    paced_task c.args.c s c.in-Some.way (sym c.in-Some.ensures) _ _ _ _ (c.run_through.ensures.paced s
+    (begun_start c.args.begin c.args.bytes.now c.begin_run.result c.begin_run.ensures))
 
-pub returns-in-Some-of-clause-cost : goal.returns-in-Some-of-clause-cost
-returns-in-Some-of-clause-cost g c =
+pub returns-in-None-clause-reply : goal.returns-in-None-clause-reply
+returns-in-None-clause-reply g c =
     let s = start_in c.args.begin c.args.bytes.now in
-    costs_task c.args.c s c.in-Some.way (sym c.in-Some.ensures) _ _
-    (c.run_through-in-Some-of.ensures.cost s (begun_start c.args.begin c.args.bytes.now c.begin_run-in-Some-of.result c.begin_run-in-Some-of.ensures))
+    start_through c.args.c s c.in-Some.way (sym c.in-Some.ensures) _ _ _ (c.run_through-in-None.ensures.reply s
+    (begun_start c.args.begin c.args.bytes.now c.begin_run-in-None.result c.begin_run-in-None.ensures))
+
+pub returns-in-None-clause-cost : goal.returns-in-None-clause-cost
+returns-in-None-clause-cost g c =
+    let s = start_in c.args.begin c.args.bytes.now in
+    costs_task c.args.c s c.in-Some.way (sym c.in-Some.ensures) _ _ (c.run_through-in-None.ensures.cost s
+    (begun_start c.args.begin c.args.bytes.now c.begin_run-in-None.result c.begin_run-in-None.ensures))
+
+pub returns-in-None-clause-paced : goal.returns-in-None-clause-paced
+returns-in-None-clause-paced g c =
+    let s = start_in c.args.begin c.args.bytes.now in
+    paced_task c.args.c s c.in-Some.way (sym c.in-Some.ensures) _ _ _ _ (c.run_through-in-None.ensures.paced s
+    (begun_start c.args.begin c.args.bytes.now c.begin_run-in-None.result c.begin_run-in-None.ensures))

@@ -1,8 +1,7 @@
-use Rattle.std.proofs.Common.{[], inr, refl}
+use Rattle.std.proofs.Common.{inr, refl}
 use Rattle.fpl_reply.proofs.Leaving.{leaves_quiet}
 use Rattle.fpl_run.specs.Answer.Answers.{no_command}
 use Rattle.fpl_run.proofs.Replies.{always, command_reply}
-use Rattle.fpl_run.proofs.Costs.{costs_command}
 use Rattle.fpl_run.proofs.top.answer_words.Goals as goal
 
 pub returns-in-Some-clause-usage : goal.returns-in-Some-clause-usage

@@ -4,7 +4,7 @@ use Rattle.fpl_reply.specs.Outcome.{reply_of}
 use Rattle.fpl_run.specs.Answer.{AnswersTask}
 use Rattle.fpl_run.specs.Begin.{Stops}
 use Rattle.fpl_run.proofs.Ends.{at_ok, at_err, whole_leaves, stops_leave}
-use Rattle.fpl_run.proofs.start.put_made.Goals as goal
+use Rattle.fpl_run.proofs.made.put_made.Goals as goal
 
 pub returns-in-Ok-clause-reply : goal.returns-in-Ok-clause-reply
 returns-in-Ok-clause-reply g c = λ task s text stop.

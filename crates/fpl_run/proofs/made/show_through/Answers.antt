@@ -1,13 +1,15 @@
-use Rattle.std.proofs.Common.{◌≡◌, ◌⊎◌, Ok, Err}
+use Rattle.std.proofs.Common.{◌≡◌, ◌⊎◌, Ok, Err, ap}
 use Rattle.std.proofs.lemmas.Result.{IfOk-weaker}
 use Rattle.fpl_reply.specs.declared.view_fault.ViewFault.{ViewFault}
 use Rattle.fpl_reply.specs.Reply.{done, failed_in_view, no_memory}
 use Rattle.fpl_reply.specs.Outcome.{reply_of}
 use Rattle.fpl_views.specs.Views.{text_of_view}
-use Rattle.fpl_run.specs.Answer.{AnswersTask}
+use Rattle.fpl_run.specs.declared.task.Way.{Way}
+use Rattle.fpl_run.specs.Start.{walk_for}
+use Rattle.fpl_run.specs.Answer.{AnswersTask, written_before}
 use Rattle.fpl_run.specs.Begin.{start_from, Stops}
-use Rattle.fpl_run.proofs.Ends.{err_weaker, show_text, show_fault, show_stopped, stops_begun}
-use Rattle.fpl_run.proofs.start.show_through.Goals as goal
+use Rattle.fpl_run.proofs.Ends.{err_weaker, show_text, show_fault, failed_begun}
+use Rattle.fpl_run.proofs.made.show_through.Goals as goal
 
 pub returns-in-Ok-clause-text : goal.returns-in-Ok-clause-text
 returns-in-Ok-clause-text g c =
@@ -15,8 +17,8 @@ returns-in-Ok-clause-text g c =
     let new = c.walk.new.run in
     IfOk-weaker c.shown_text.result (λ text. text_of_view c.args.shown new.presentation new.stage.table new.stage.sections ≡ Ok text.items)
     (λ text. AnswersTask c.args.task (start_from run c.args.bytes.now) (done text.items))
-    (λ text e. show_text c.args.task run c.args.bytes.now c.requires.begun new c.in-Ok.ensures.presentation c.args.shown c.requires.way
-    c.in-Ok.ensures.whole text.items e) c.shown_text.ensures.text
+    (λ text e. show_text c.args.task run c.args.bytes.now c.requires.begun new c.in-Ok.ensures.presentation c.in-Ok.ensures.comes c.args.shown c.requires.way text.items e)
+    c.shown_text.ensures.text
 
 pub returns-in-Ok-clause-stop : goal.returns-in-Ok-clause-stop
 returns-in-Ok-clause-stop g c =
@@ -26,12 +28,12 @@ returns-in-Ok-clause-stop g c =
     (λ outcome. (reply_of outcome ≡ no_memory) ⊎ ((fault : ViewFault) × (reply_of outcome ≡ failed_in_view fault) ×
     (text_of_view c.args.shown new.presentation new.stage.table new.stage.sections ≡ Err fault)))
     (λ outcome. Stops c.args.task (start_from run c.args.bytes.now) (reply_of outcome))
-    (λ outcome h. show_fault c.args.task run c.args.bytes.now c.requires.begun new c.in-Ok.ensures.presentation c.args.shown c.requires.way
-    c.in-Ok.ensures.whole (reply_of outcome) h) c.shown_text.ensures.fault
+    (λ outcome h. show_fault c.args.task run c.args.bytes.now c.requires.begun new c.in-Ok.ensures.presentation c.in-Ok.ensures.comes c.args.shown
+    c.requires.way (reply_of outcome) h) c.shown_text.ensures.fault
 
 pub returns-in-Err-clause-stop : goal.returns-in-Err-clause-stop
 returns-in-Err-clause-stop g c =
     let run = c.args.run.now in
-    let stage = c.walk.new.run.stage in
-    show_stopped c.args.task (start_from run c.args.bytes.now) c.in-Err.stop stage _ c.ending.ensures.memory c.ending.ensures.reply c.args.shown c.requires.way
-    (stops_begun c.args.task run c.args.bytes.now c.requires.begun c.in-Err.stop stage c.in-Err.ensures.stop)
+    failed_begun c.args.task run c.args.bytes.now c.requires.begun c.walk.new.run.stage _
+    (ap (λ (x : Way). written_before x run.presentation (walk_for c.args.task (start_from run c.args.bytes.now)).stage.sections) c.requires.way)
+    c.in-Err.ensures.fails

@@ -2,7 +2,7 @@ use Rattle.std.proofs.Common.{◌≡◌, ◌≤◌, ◌+◌, ◌-◌}
 use Rattle.fpl_walk.specs.Walk.{walk_of, cost_of}
 use Rattle.fpl_walk.specs.Stops.{stored_in}
 use Rattle.fpl_run.specs.Task.{does_compute}
-use Rattle.fpl_run.proofs.start.walk.Given as goal
+use Rattle.fpl_run.proofs.walk.walk.Given as goal
 
 abbrev pub invariant-weights : goal.invariant-weights
 invariant-weights g l = record {
