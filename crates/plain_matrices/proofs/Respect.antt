@@ -158,7 +158,7 @@ module _ (k : Kind) (q m n : ℕ) (kind : k ≡ Prime q) (listed : IsListed q) w
 
 -- what is derivable holds for the numbers
 module _ (p : Presentation) (q m n : ℕ) (images : List (List ℕ)) (of : AreMatricesOf p q m n images) where
-  image_graded : (g : ℕ) → g < length (presentation_in p).generators →
+  pub image_graded : (g : ℕ) → g < length (presentation_in p).generators →
       HasBlock (field_of p.field) m (generator (presentation_in p) g).parity (image_in p.field n images g)
   image_graded g l =
       let k : g < length p.generators = omega (arith, length-map p.generators generator_in) in
