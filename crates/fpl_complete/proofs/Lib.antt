@@ -6,3 +6,4 @@ pub mod WritableSections
 pub mod Raising
 mod Onward
 mod Coefficients
+mod CellCoefficients

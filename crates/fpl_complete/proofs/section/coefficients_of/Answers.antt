@@ -1,33 +1,23 @@
-use Rattle.std.proofs.Common.{◌+◌, ◌-◌, ◌∷◌, ◌++◌, [], ◌∙◌, List, ap, sym, subst, drop, arith}
-use Rattle.fpl_numbers.specs.declared.number.Num.{Num}
-use Rattle.fpl_numbers.specs.declared.number.Kind.{Kind}
-use Rattle.fpl_numbers.specs.Numbers.{IsElement, residue}
+use Rattle.std.proofs.Common.{◌≡◌, List, length, map, IfOk, sym, subst, arith}
+use Rattle.fpl_scalar.specs.Vectors.{AreElements}
+use Rattle.fpl_rows.proofs.Packings.{packed_elements, packing_map}
 use Rattle.fpl_log.specs.declared.closed.Coefficient.{Coefficient}
-use Rattle.plain_weights.specs.Section.{coefficient, coefficients_from}
-use Rattle.fpl_complete.proofs.Coefficients.{next_step, kept_more, kept_all}
+use Rattle.fpl_complete.proofs.CellCoefficients.{cells_kept}
 use Rattle.fpl_complete.proofs.section.coefficients_of.Goals as goal
 
-pub at-requires : goal.at-requires
-at-requires g c = let s = next_step c.args.row.now c.loop-symbol.after c.in-Some.symbol c.in-Some.ensures in (s.from_one, s.to_end)
+pub coefficients_at-requires-clause-below : goal.coefficients_at-requires-clause-below
+coefficients_at-requires-clause-below g c = λ k l.
+    let p = c.in-Some.ensures.packing.within k l in let r = c.len-count.ensures.range in omega (arith, p, r)
 
-pub num-number-requires : goal.num-number-requires
-num-number-requires g c =
-    let s = next_step c.args.row.now c.loop-symbol.after c.in-Some.symbol c.in-Some.ensures in
-    let a = s.from_one in
-    let b = s.to_end in
-    let kind : Kind = g.F.Field.kind_of c.args.field.now in
-    subst (λ (n : Num). IsElement kind n) (sym c.at.ensures) (c.requires (c.in-Some.symbol - 1) (residue 0) (omega arith))
+pub coefficients_at-requires-clause-elements : goal.coefficients_at-requires-clause-elements
+coefficients_at-requires-clause-elements g c =
+    packed_elements (g.F.Field.kind_of c.args.field.now) (length c.args.row.now) c.in-Some.places.now (map g.F.Field.number c.in-Some.numbers.now)
+    (packing_map g.F.Field.number (length c.args.row.now) c.in-Some.places.now c.in-Some.numbers.now c.in-Some.ensures.packing)
+    (subst (AreElements (g.F.Field.kind_of c.args.field.now)) (sym c.in-Some.ensures.value) c.requires)
 
-pub loop-symbol-preserved : goal.loop-symbol-preserved
-loop-symbol-preserved g c =
-    let s = next_step c.args.row.now c.loop-symbol.after c.in-Some.symbol c.in-Some.ensures in
-    let more = kept_more c.args.row.now c.loop-symbol.after c.in-Some.symbol c.loop-symbol.kept c.in-Some.ensures c.loop-symbol.invariant.kept in
-    let same = c.in_ok-push.ensures.ok ∙ ap (λ (n : Num). c.loop-symbol.kept ++ (coefficient c.in-Some.symbol n) ∷ []) (c.num-number.ensures ∙ c.at.ensures) in
-    record {
-      within = s.to_end;
-      kept = more ∙ ap (λ (l : List Coefficient). l ++ coefficients_from (c.in-Some.symbol + 1)
-          (drop c.in-Some.symbol c.args.row.now)) (sym same);
-    }
-
-pub returns : goal.returns
-returns g c = sym (kept_all c.args.row.now c.loop-symbol.after c.loop-symbol.kept c.in_default.ensures c.loop-symbol.invariant.kept)
+pub returns-in-Some : goal.returns-in-Some
+returns-in-Some g c =
+    subst (λ (l : List Coefficient). IfOk c.coefficients_at.result (λ kept. kept ≡ l))
+    (cells_kept c.args.row.now c.in-Some.places.now (map g.F.Field.number c.in-Some.numbers.now)
+    (packing_map g.F.Field.number (length c.args.row.now) c.in-Some.places.now c.in-Some.numbers.now c.in-Some.ensures.packing) c.in-Some.ensures.value)
+    c.coefficients_at.ensures

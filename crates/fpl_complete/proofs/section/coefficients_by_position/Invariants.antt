@@ -1,6 +1,6 @@
 use Rattle.std.proofs.Common.{◌≡◌, ◌≤◌, ◌+◌, ◌-◌, ◌++◌, length, drop}
 use Rattle.plain_weights.specs.Section.{coefficients_from}
-use Rattle.fpl_complete.proofs.section.coefficients_of.Given as goal
+use Rattle.fpl_complete.proofs.section.coefficients_by_position.Given as goal
 
 abbrev pub invariant-loop-symbol : goal.invariant-loop-symbol
 invariant-loop-symbol g l = record {
