@@ -1,0 +1,8 @@
+mod Digits
+mod Runs
+mod Steps
+mod Assigned
+mod Sizes
+mod Sound
+mod Faults
+mod Entries
