@@ -4,4 +4,5 @@ pub mod GapText
 pub mod Lines
 pub mod LogText
 pub mod SeriesText
+pub mod SampleText
 pub mod TableText

@@ -13,9 +13,9 @@ use std::alloc::{AllocError, Global};
 
 /// How many basis elements are even, and how many odd.
 #[derive(Clone, Copy)]
-struct Counts {
-    evens: u32,
-    odds: u32,
+pub(crate) struct Counts {
+    pub evens: u32,
+    pub odds: u32,
 }
 
 // The counts of the basis elements from place `from` up to place `to`, which count from 0.
@@ -34,7 +34,8 @@ fn counts_between<F: Field>(table: &Table<F>, from: u32, to: u32) -> Counts
     counts
 }
 
-fn counts_of<F: Field>(table: &Table<F>, w: u32) -> Counts
+/// The counts of the basis elements of a weight, which is at least 1.
+pub(crate) fn counts_of<F: Field>(table: &Table<F>, w: u32) -> Counts
     requires { (1 ≤ w) × (w ≤ table.now.weight) }
     ensures evens { result.evens ≡ even_count table.now w }
     ensures odds { result.odds ≡ odd_count table.now w }

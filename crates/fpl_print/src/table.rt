@@ -174,7 +174,7 @@ fn push_valued<F: Field>(
     Ok(())
 }
 
-// The brackets that aren't 0.
+/// The brackets that aren't 0.
 pub(crate) fn brackets_of<F: Field>(
     alloc: Global,
     table: &Table<F>,

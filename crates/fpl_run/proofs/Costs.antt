@@ -1,6 +1,5 @@
 -- What a run costs.
-use Rattle.std.proofs.Common.{◌≡◌, ℕ, ◌≤◌, ◌+◌, ◌⊎◌, inl, inr, List, None, Some, refl, sym, subst}
-use Rattle.std.specs.Prelude.{IfSome}
+use Rattle.std.proofs.Common.{◌≡◌, ℕ, ◌≤◌, ◌+◌, ◌⊎◌, inl, inr, List, None, Some, refl, sym, subst, arith}
 use Rattle.std.specs.declared.option.Option.{Option}
 use Rattle.fpl_run.specs.declared.words.Command.{Command}
 use Rattle.fpl_run.specs.declared.task.Way.{Way}
@@ -8,10 +7,19 @@ use Rattle.fpl_run.specs.declared.task.Way.TheVariants.{Write}
 use Rattle.fpl_run.specs.Words.{IsCommand}
 use Rattle.fpl_run.specs.Task.{way_of, task_for, IsCounted}
 use Rattle.fpl_run.specs.Start.{Start, cost_for}
-use Rattle.fpl_run.specs.Read.{IsStart}
+use Rattle.fpl_run.specs.Read.{IsUnread, IsStart}
 use Rattle.fpl_run.specs.Pace.{IsPaced}
-use Rattle.fpl_run.specs.Run.{Spends}
+use Rattle.fpl_run.specs.Run.{ReadsNothing, IfTold, Spends}
 use Rattle.fpl_run.proofs.OneReply.{starts_one, ways_one}
+use Rattle.fpl_run.proofs.Replies.{told_more, silent_view}
+
+pub costs_nothing : (c : Command) (bytes : List ℕ) (a b : Option (List ℕ)) (old new : ℕ) → new ≡ old → Spends c bytes a b old new
+costs_nothing c bytes a b old new e = record {
+  rises = omega (arith, e);
+  most = λ way s is counted from. omega (arith, e);
+  stays = λ none. e;
+  paced = λ s made from. inl e;
+}
 
 -- where the view isn't built, nothing is spent
 some_way : (o : Option Way) → (o ≡ None) ⊎ ((way : Way) × (o ≡ Some way))
@@ -46,8 +54,9 @@ paced_task c s made is a b old new paced also =
     let same : made ≡ Write = ways_one (way_of c.view) made Write is also in
     subst (λ (x : Way). IsPaced (task_for c x) s a b old new) same (paced same)
 
-pub costs_command : (words : List (List ℕ)) (c : Command) → ((d : Command) → IsCommand words d → d ≡ c) →
-    (left a b : Option (List ℕ)) (old new : ℕ) → IfSome left (λ bytes. Spends c bytes a b old new) →
-    IfSome left (λ bytes. (d : Command) → IsCommand words d → Spends d bytes a b old new)
-costs_command words c one None a b old new h = tt
-costs_command words c one (Some bytes) a b old new h = λ d is. subst (λ (x : Command). Spends x bytes a b old new) (sym (one d is)) h
+pub costs_command : (words : List (List ℕ)) (c : Command) → IsCommand words c → ((d : Command) → IsCommand words d → d ≡ c) →
+    (left a b : Option (List ℕ)) (old new : ℕ) → IfTold (IsUnread c.view) left (λ bytes. Spends c bytes a b old new) →
+    IfTold (ReadsNothing words) left (λ bytes. (d : Command) → IsCommand words d → Spends d bytes a b old new)
+costs_command words c is one left a b old new h =
+    told_more left (λ bytes. Spends c bytes a b old new) (λ bytes. (d : Command) → IsCommand words d → Spends d bytes a b old new)
+    (silent_view words c is one) (λ bytes k d also. subst (λ (x : Command). Spends x bytes a b old new) (sym (one d also)) k) h

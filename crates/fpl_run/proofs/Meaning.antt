@@ -7,6 +7,7 @@ use Rattle.fpl_model.specs.declared.presentation.Presentation.{Presentation}
 use Rattle.fpl_model.specs.Sound.{IsSound}
 use Rattle.fpl_reader.proofs.Soundness.{presentation_sound}
 use Rattle.fpl_canonical.specs.Canonical.{canonical_of}
+use Rattle.fpl_sample.proofs.Sound.{type_a_is_sound}
 use Rattle.fpl_bytes.specs.Codes.{IsBytes}
 use Rattle.fpl_checkpoint.specs.declared.head.Head.{Head}
 use Rattle.fpl_checkpoint.specs.Heads.{head_bytes_of}
@@ -31,15 +32,15 @@ use Rattle.fpl_run.specs.declared.words.Command.{Command}
 use Rattle.fpl_run.specs.declared.task.Way.{Way}
 use Rattle.fpl_run.specs.declared.task.Way.TheVariants.{Show}
 use Rattle.fpl_run.specs.declared.task.Task.{Task}
-use Rattle.fpl_run.specs.Words.{IsCommand}
+use Rattle.fpl_run.specs.Words.{IsCommand, most_limit}
 use Rattle.fpl_run.specs.Task.{way_of, task_for, does_compute}
 use Rattle.fpl_run.specs.Start.{Start, begun_for, walk_for, HasCome}
-use Rattle.fpl_run.specs.Read.{IsStart, most_bytes}
-use Rattle.fpl_run.specs.Read.IsStart.{from_text, from_head}
+use Rattle.fpl_run.specs.Read.{IsUnread, IsStart, most_bytes}
+use Rattle.fpl_run.specs.Read.IsStart.{from_text, from_head, built_in}
 use Rattle.fpl_run.specs.Answer.{AnswersTask, Answers, Fronts, text_of_way}
 use Rattle.fpl_run.specs.Answer.AnswersTask.{stopped_at, fails_in_view, shown}
-use Rattle.fpl_run.specs.Run.{Means}
-use Rattle.fpl_run.proofs.Names.{command_in_range}
+use Rattle.fpl_run.specs.Run.{ReadsNothing, IfTold, Means}
+use Rattle.fpl_run.proofs.Names.{command_in_range, one_command}
 use Rattle.fpl_run.proofs.OneReply.{of_words, task_reply, started}
 use Rattle.fpl_run.proofs.Walks.{never_ends}
 
@@ -60,20 +61,22 @@ head_sound bytes h short fits has =
     presentation_sound has.text h.presentation (omega (arith, small, same)) has.reading
 
 -- a start has a sound presentation, and bytes are stored for it
-module _ (c : Command) (bytes : List ℕ) (fits : IsBytes bytes) where
-  pub start_sound : (s : Start) → IsStart c bytes s → IsSound s.presentation
-  start_sound _ (from_text l a p h) = presentation_sound bytes p (omega (arith, l)) h
-  start_sound _ (from_head l a h k) = head_sound bytes h l fits k
+module _ (c : Command) (bytes : List ℕ) (fits : (IsUnread c.view → ⊥) → IsBytes bytes) where
+  pub start_sound : c.limit ≤ most_limit c.view → (s : Start) → IsStart c bytes s → IsSound s.presentation
+  start_sound low _ (from_text u l a p h) = presentation_sound bytes p (omega (arith, l)) h
+  start_sound low _ (from_head u l a h k) = head_sound bytes h l (fits u) k
+  start_sound low _ (built_in u) = type_a_is_sound c.limit (subst (λ v. c.limit ≤ most_limit v) u low)
 
   pub start_bytes : (s : Start) → IsStart c bytes s → IsBytes s.stored.bytes
-  start_bytes _ (from_text l a p h) = no_bytes
-  start_bytes _ (from_head l a h k) = fits
+  start_bytes _ (from_text u l a p h) = no_bytes
+  start_bytes _ (from_head u l a h k) = fits u
+  start_bytes _ (built_in u) = no_bytes
 
-pub walk_standard : (words : List (List ℕ)) (c : Command) (way : Way) (bytes : List ℕ) (s : Start) → IsCommand words c → IsBytes bytes → IsStart c bytes s →
+pub walk_standard : (words : List (List ℕ)) (c : Command) (way : Way) (bytes : List ℕ) (s : Start) → IsCommand words c → ((IsUnread c.view → ⊥) → IsBytes bytes) → IsStart c bytes s →
     IsStandardWalk s.presentation c.entries c.limit (walk_for (task_for c way) s)
 walk_standard words c way bytes s is fits from =
     let range = command_in_range words c is in
-    walks_are_standard (does_compute way) c.entries c.limit s.place s.has s.presentation s.stored (start_sound c bytes fits s from) range.1 range.0
+    walks_are_standard (does_compute way) c.entries c.limit s.place s.has s.presentation s.stored (start_sound c bytes fits is.most s from) range.1 range.0
     (start_bytes c bytes fits s from)
 
 -- what a reply says of its walk
@@ -106,8 +109,8 @@ shown_through c v s (inr e) = absurd (never_ends c.entries s.presentation s.stor
 table_at : (p : Presentation) (T : PlainTable) (d e : ℕ) → d ≡ e → IsTableOf p d T → IsTableOf p e T
 table_at p T d e same h = subst (λ n. IsTableOf p n T) same h
 
-meant : (words : List (List ℕ)) (c : Command) (v : Shown) (bytes : List ℕ) (s : Start) (text : List ℕ) → IsCommand words c → IsBytes bytes → IsStart c bytes s →
-    Tells (task_for c (Show v)) s (done text) → Means c bytes v text
+meant : (words : List (List ℕ)) (c : Command) (v : Shown) (bytes : List ℕ) (s : Start) (text : List ℕ) → IsCommand words c →
+    ((IsUnread c.view → ⊥) → IsBytes bytes) → IsStart c bytes s → Tells (task_for c (Show v)) s (done text) → Means c bytes v text
 meant words c v bytes s text is fits from told =
     let w = walk_for (task_for c (Show v)) s in
     let standard : IsStandardWalk s.presentation c.entries c.limit w = walk_standard words c (Show v) bytes s is fits from in
@@ -118,7 +121,7 @@ meant words c v bytes s text is fits from told =
       standard = table_at s.presentation w.stage.table w.stage.table.weight c.limit (standard.whole (shown_through c v s told.0)) standard.table;
       sections = w.stage.sections;
       accepted = standard.accepted;
-      shows = texts_show v s.presentation w.stage.table w.stage.sections text (start_sound c bytes fits s from) (record {
+      shows = texts_show v s.presentation w.stage.table w.stage.sections text (start_sound c bytes fits is.most s from) (record {
         standard = standard.table;
         raised = standard.raised;
         shape = standard.shape;
@@ -154,24 +157,37 @@ Meaning words oo on bytes =
     (c : Command) (v : Shown) → IsCommand words c → way_of c.view ≡ Some (Show v) → (text : List ℕ) × Takes oo on text × Means c bytes v text
 
 start_of_answer : (words : List (List ℕ)) (c : Command) (v : Shown) (bytes text : List ℕ) → IsCommand words c → way_of c.view ≡ Some (Show v) →
-    IsBytes bytes → Answers words bytes (done text) →
+    ((IsUnread c.view → ⊥) → IsBytes bytes) → Answers words bytes (done text) →
     Means c bytes v text
 start_of_answer words c v bytes text is made fits a = found (started c bytes (done text) tt (of_words words bytes c is (done text) a))
   where
     found : (s : Start) × IsStart c bytes s → Means c bytes v text
     found s = meant words c v bytes s.0 text is fits s.1 (reply_tells words c (Show v) bytes s.0 (done text) is made s.1 a)
 
-done_means : (words : List (List ℕ)) (oo on : Option (List ℕ)) (bytes : List ℕ) (r : Reply) → IsBytes bytes →
+-- words of a view that reads
+not_silent : (words : List (List ℕ)) (c : Command) → IsCommand words c → (IsUnread c.view → ⊥) → ReadsNothing words → ⊥
+not_silent words c is reads (inl none) = none c is
+not_silent words c is reads (inr d) = reads (subst (λ (x : Command). IsUnread x.view) (one_command words d.0 c d.1 is) d.2)
+
+done_means : (words : List (List ℕ)) (oo on : Option (List ℕ)) (bytes : List ℕ) (r : Reply) → ((ReadsNothing words → ⊥) → IsBytes bytes) →
     Leaves (Answers words bytes) (Fronts words bytes) oo on r → status_of r ≡ Done → Meaning words oo on bytes
 done_means words oo on bytes _ fits (whole r text a t) e = λ c v is made.
     let x = with_text text r in
     let same : x ≡ done (text_of x) = done_text x (status_shown text r ∙ e) in
-    (text_of x, t, start_of_answer words c v bytes (text_of x) is made fits (subst (Answers words bytes) same a))
+    (text_of x, t, start_of_answer words c v bytes (text_of x) is made (λ reads. fits (not_silent words c is reads)) (subst (Answers words bytes) same a))
 done_means words oo on bytes _ fits (part r a put t) e = cc
 done_means words oo on bytes _ fits (front h) e = cc
 
-pub means : (words : List (List ℕ)) (left oo on : Option (List ℕ)) (r : Reply) → (status_of r ≡ Done → IfSome left IsBytes) →
-    IfSome left (λ bytes. (r ≡ read_fault) ⊎ Leaves (Answers words bytes) (Fronts words bytes) oo on r) → status_of r ≡ Done → IfSome left (Meaning words oo on)
-means words None oo on r fits h e = tt
-means words (Some bytes) oo on r fits (inl k) e = let no : read_fault ≡ done (text_of r) = sym k ∙ done_text r e in cc
-means words (Some bytes) oo on r fits (inr h) e = done_means words oo on bytes r (fits e) h e
+reply_means : (words : List (List ℕ)) (oo on : Option (List ℕ)) (bytes : List ℕ) (r : Reply) → status_of r ≡ Done →
+    ((ReadsNothing words → ⊥) → IsBytes bytes) →
+    (r ≡ read_fault) ⊎ Leaves (Answers words bytes) (Fronts words bytes) oo on r → Meaning words oo on bytes
+reply_means words oo on bytes r e fits (inl k) = let no : read_fault ≡ done (text_of r) = sym k ∙ done_text r e in cc
+reply_means words oo on bytes r e fits (inr h) = done_means words oo on bytes r fits h e
+
+pub means : (words : List (List ℕ)) (left oo on : Option (List ℕ)) (r : Reply) →
+    (status_of r ≡ Done → (ReadsNothing words → ⊥) → IfSome left IsBytes) →
+    IfTold (ReadsNothing words) left (λ bytes. (r ≡ read_fault) ⊎ Leaves (Answers words bytes) (Fronts words bytes) oo on r) →
+    status_of r ≡ Done → IfTold (ReadsNothing words) left (Meaning words oo on)
+means words None oo on r fits h e = (tt, λ silent. reply_means words oo on [] r e (λ reads. no_bytes) (h.1 silent))
+means words (Some bytes) oo on r fits h e =
+    (reply_means words oo on bytes r e (fits e) h.0, λ silent. reply_means words oo on [] r e (λ reads. no_bytes) (h.1 silent))

@@ -16,13 +16,13 @@ use Rattle.fpl_run.specs.declared.task.Task.{Task}
 use Rattle.fpl_run.specs.Words.{IsCommand}
 use Rattle.fpl_run.specs.Task.{way_of, task_for}
 use Rattle.fpl_run.specs.Start.{Start, of_text, of_head, walk_for}
-use Rattle.fpl_run.specs.Read.{IsStart, IsNoStart}
-use Rattle.fpl_run.specs.Read.IsStart.{from_text, from_head}
+use Rattle.fpl_run.specs.Read.{IsUnread, IsStart, IsNoStart}
+use Rattle.fpl_run.specs.Read.IsStart.{from_text, from_head, built_in}
 use Rattle.fpl_run.specs.Read.IsNoStart.{input_too_long, text_too_long, no_presentation, no_head}
 use Rattle.fpl_run.specs.Answer.{AnswersTask, AnswersStart, AnswersCommand, Answers, text_of_way, written_before}
 use Rattle.fpl_run.specs.Answer.AnswersTask.{stopped_at, fails_in_view, shown}
 use Rattle.fpl_run.specs.Answer.AnswersStart.{not_built_yet, built}
-use Rattle.fpl_run.specs.Answer.AnswersCommand.{unread, no_start, start}
+use Rattle.fpl_run.specs.Answer.AnswersCommand.{no_start, start}
 use Rattle.fpl_run.specs.Answer.Answers.{no_command, command}
 use Rattle.fpl_run.specs.Laws.{OneReply}
 use Rattle.fpl_run.proofs.Names.{one_command}
@@ -86,20 +86,26 @@ module _ (c : Command) where
 
   module _ (bytes : List ℕ) where
     pub starts_one : (s t : Start) → IsStart c bytes s → IsStart c bytes t → s ≡ t
-    starts_one _ _ (from_text l a p h) (from_text m b q k) = ap of_text (one_presentation bytes p q h k)
-    starts_one _ _ (from_text l a p h) (from_head m b g k) = absurd (a b)
-    starts_one _ _ (from_head l a g h) (from_text m b p k) = absurd (b a)
-    starts_one _ _ (from_head l a g h) (from_head m b f k) = ap (of_head bytes) (one_head bytes g f h k)
+    starts_one _ _ (from_text u l a p h) (from_text v m b q k) = ap of_text (one_presentation bytes p q h k)
+    starts_one _ _ (from_text u l a p h) (from_head v m b g k) = absurd (a b)
+    starts_one _ _ (from_text u l a p h) (built_in v) = absurd (u v)
+    starts_one _ _ (from_head u l a g h) (from_text v m b p k) = absurd (b a)
+    starts_one _ _ (from_head u l a g h) (from_head v m b f k) = ap (of_head bytes) (one_head bytes g f h k)
+    starts_one _ _ (from_head u l a g h) (built_in v) = absurd (u v)
+    starts_one _ _ (built_in u) (from_text v m b p k) = absurd (v u)
+    starts_one _ _ (built_in u) (from_head v m b f k) = absurd (v u)
+    starts_one _ _ (built_in u) (built_in v) = refl
 
-    pub start_or_none : (s : Start) (r : Reply) → IsStart c bytes s → IsNoStart c bytes r → ⊥
-    start_or_none _ _ (from_text l a p h) (input_too_long m) = omega (arith, l, m)
-    start_or_none _ _ (from_text l a p h) (text_too_long k b m) = omega (arith, l, m)
-    start_or_none _ _ (from_text l a p h) (no_presentation m b place reason k) = not_both bytes p place reason h k
-    start_or_none _ _ (from_text l a p h) (no_head m b f k) = a b
-    start_or_none _ _ (from_head l a g h) (input_too_long m) = omega (arith, l, m)
-    start_or_none _ _ (from_head l a g h) (text_too_long k b m) = b a
-    start_or_none _ _ (from_head l a g h) (no_presentation m b place reason k) = b a
-    start_or_none _ _ (from_head l a g h) (no_head m b f k) = not_bad bytes g f h k
+    pub start_or_none : (IsUnread c.view → ⊥) → (s : Start) (r : Reply) → IsStart c bytes s → IsNoStart c bytes r → ⊥
+    start_or_none reads _ _ (from_text u l a p h) (input_too_long m) = omega (arith, l, m)
+    start_or_none reads _ _ (from_text u l a p h) (text_too_long k b m) = omega (arith, l, m)
+    start_or_none reads _ _ (from_text u l a p h) (no_presentation m b place reason k) = not_both bytes p place reason h k
+    start_or_none reads _ _ (from_text u l a p h) (no_head m b f k) = a b
+    start_or_none reads _ _ (from_head u l a g h) (input_too_long m) = omega (arith, l, m)
+    start_or_none reads _ _ (from_head u l a g h) (text_too_long k b m) = b a
+    start_or_none reads _ _ (from_head u l a g h) (no_presentation m b place reason k) = b a
+    start_or_none reads _ _ (from_head u l a g h) (no_head m b f k) = not_bad bytes g f h k
+    start_or_none reads _ _ (built_in u) none = reads u
 
     none_one : (q r : Reply) → IsNoStart c bytes q → IsNoStart c bytes r → q ≡ r
     none_one _ _ (input_too_long l) (input_too_long m) = refl
@@ -121,22 +127,17 @@ module _ (c : Command) where
     none_one _ _ (no_head l a b h) (no_head m n f k) = ap (λ (x : BadBytes). stopped [] (bad_bytes x)) (one_refusal_of_head bytes b f h k)
 
     command_one : (q r : Reply) → AnswersCommand c bytes q → AnswersCommand c bytes r → q ≡ r
-    command_one _ _ (unread a) (unread b) = refl
-    command_one _ _ (unread a) (no_start b r k) = absurd (b a)
-    command_one _ _ (unread a) (start b t is r k) = absurd (b a)
-    command_one _ _ (no_start a q h) (unread b) = absurd (a b)
     command_one _ _ (no_start a q h) (no_start b r k) = none_one q r h k
-    command_one _ _ (no_start a q h) (start b t is r k) = absurd (start_or_none t q is h)
-    command_one _ _ (start a s is q h) (unread b) = absurd (a b)
-    command_one _ _ (start a s is q h) (no_start b r k) = absurd (start_or_none s r is k)
-    command_one _ _ (start a s is q h) (start b t also r k) = start_one t q r (subst (λ (x : Start). AnswersStart c x q) (starts_one s t is also) h) k
+    command_one _ _ (no_start a q h) (start t is r k) = absurd (start_or_none a t q is h)
+    command_one _ _ (start s is q h) (no_start b r k) = absurd (start_or_none b s r is k)
+    command_one _ _ (start s is q h) (start t also r k) = start_one t q r (subst (λ (x : Start). AnswersStart c x q) (starts_one s t is also) h) k
 
     -- the reply to a start, where the view is built
     pub task_reply : (way : Way) → way_of c.view ≡ Some way → (s : Start) → IsStart c bytes s → (r : Reply) → AnswersCommand c bytes r →
         AnswersTask (task_for c way) s r
-    task_reply way made s is _ (unread u) = absurd (not_way (way_of c.view) way (ap way_of u) made)
-    task_reply way made s is _ (no_start u r h) = absurd (start_or_none s r is h)
-    task_reply way made s is _ (start u t also r h) = built_task way made s r (subst (λ (x : Start). AnswersStart c x r) (starts_one t s also is) h)
+    task_reply way made s is _ (no_start u r h) = absurd (start_or_none u s r is h)
+    task_reply way made s is _ (start t also r h) =
+        built_task way made s r (subst (λ (x : Start). AnswersStart c x r) (starts_one t s also is) h)
 
 -- a reply of a built view that is no refusal has a start
 abbrev pub IsTold : Reply → Type 0
@@ -157,9 +158,8 @@ none_told c bytes _ (no_presentation l m place reason k) h = h
 none_told c bytes _ (no_head l m b k) h = h
 
 pub started : (c : Command) (bytes : List ℕ) (r : Reply) → IsTold r → AnswersCommand c bytes r → (s : Start) × IsStart c bytes s
-started c bytes _ told (unread u) = absurd told
 started c bytes _ told (no_start u r h) = absurd (none_told c bytes r h told)
-started c bytes _ told (start u s is r h) = (s, is)
+started c bytes _ told (start s is r h) = (s, is)
 
 -- a view that isn't built has no fault after its start
 unbuilt_reply : (c : Command) (s : Start) → way_of c.view ≡ None → (r : Reply) → AnswersStart c s r → r ≡ not_built
@@ -168,9 +168,8 @@ unbuilt_reply c s e _ (built way k r a) = absurd (not_way (way_of c.view) way e 
 
 pub unbuilt_command : (c : Command) (bytes : List ℕ) (s : Start) → way_of c.view ≡ None → IsStart c bytes s → (r : Reply) → AnswersCommand c bytes r →
     r ≡ not_built
-unbuilt_command c bytes s e is _ (unread u) = refl
-unbuilt_command c bytes s e is _ (no_start u r h) = absurd (start_or_none c bytes s r is h)
-unbuilt_command c bytes s e is _ (start u t also r h) = unbuilt_reply c t e r h
+unbuilt_command c bytes s e is _ (no_start u r h) = absurd (start_or_none c bytes u s r is h)
+unbuilt_command c bytes s e is _ (start t also r h) = unbuilt_reply c t e r h
 
 -- the reply to words that spell a command
 pub of_words : (words : List (List ℕ)) (bytes : List ℕ) (c : Command) → IsCommand words c → (r : Reply) → Answers words bytes r → AnswersCommand c bytes r

@@ -21,15 +21,15 @@ use Rattle.fpl_run.specs.declared.task.Way.TheVariants.{Show, Write, Check}
 use Rattle.fpl_run.specs.declared.task.Task.{Task}
 use Rattle.fpl_run.specs.Task.{way_of, task_for, does_compute}
 use Rattle.fpl_run.specs.Start.{Start, of_text, of_head, walk_for, HasCome}
-use Rattle.fpl_run.specs.Read.{IsStart, IsNoStart, IsMarked}
+use Rattle.fpl_run.specs.Read.{IsUnread, IsStart, IsNoStart, IsMarked}
 use Rattle.fpl_checkpoint.specs.Heads.{checkpoint_mark}
-use Rattle.fpl_run.specs.Read.IsStart.{from_text, from_head}
+use Rattle.fpl_run.specs.Read.IsStart.{from_text, from_head, built_in}
 use Rattle.fpl_run.specs.Read.IsNoStart.{input_too_long, text_too_long, no_presentation, no_head}
 use Rattle.fpl_run.specs.Stream.{stream_text}
 use Rattle.fpl_run.specs.Answer.{AnswersTask, AnswersStart, AnswersCommand, text_of_way, written_before}
 use Rattle.fpl_run.specs.Answer.AnswersTask.{stopped_at, fails_in_view, shown}
 use Rattle.fpl_run.specs.Answer.AnswersStart.{not_built_yet, built}
-use Rattle.fpl_run.specs.Answer.AnswersCommand.{unread, no_start, start}
+use Rattle.fpl_run.specs.Answer.AnswersCommand.{no_start, start}
 use Rattle.fpl_run.specs.Laws.{IsCheckpointOf, OwnCheckpoints}
 use Rattle.fpl_run.proofs.Names.{command_in_range}
 use Rattle.fpl_run.proofs.OneReply.{of_words, built_task}
@@ -63,7 +63,7 @@ marked_front n (suc k) rest l = (omega arith, refl)
 stream_marked : (p : Presentation) (bytes : List ℕ) → IsStreamOf p bytes → IsMarked bytes
 stream_marked p bytes stream = subst IsMarked (sym stream.front) (marked_front _ stream.end _ stream.head)
 
-module _ (c : Command) (p : Presentation) (bytes : List ℕ) (own : IsCheckpointOf p bytes) (range : (c.limit ≤ 1000) × (c.entries ≤ 2000000)) where
+module _ (c : Command) (p : Presentation) (bytes : List ℕ) (own : IsCheckpointOf p bytes) (reads : IsUnread c.view → ⊥) (range : (c.limit ≤ 1000) × (c.entries ≤ 2000000)) where
   held : (h : Head) → HasHead bytes h → h.presentation ≡ p
   held h has = heads_are_of p bytes h own.1 has
 
@@ -99,8 +99,9 @@ module _ (c : Command) (p : Presentation) (bytes : List ℕ) (own : IsCheckpoint
 
   -- it is a start, from its head
   head_start : (s : Start) → IsStart c bytes s → (h : Head) × (HasHead bytes h × (s ≡ of_head bytes h))
-  head_start _ (from_text l a q k) = absurd (a (inr (stream_marked p bytes own.1)))
-  head_start _ (from_head l a h k) = (h, (k, refl))
+  head_start _ (from_text u l a q k) = absurd (a (inr (stream_marked p bytes own.1)))
+  head_start _ (from_head u l a h k) = (h, (k, refl))
+  head_start _ (built_in u) = absurd (reads u)
 
   no_refusal : (r : Reply) → IsNoStart c bytes r → ⊥
   no_refusal _ (input_too_long l) = omega (arith, l, own.0)
@@ -109,9 +110,8 @@ module _ (c : Command) (p : Presentation) (bytes : List ℕ) (own : IsCheckpoint
   no_refusal _ (no_head l a b k) = let g = have_heads p bytes own.1 in not_bad bytes g.0 b g.1 k
 
   pub alone_of : (way_of c.view ≡ Some Check → ⊥) → (r : Reply) → AnswersCommand c bytes r → AnswersStart c (of_text p) r
-  alone_of other _ (unread u) = not_built_yet (ap way_of u)
   alone_of other _ (no_start u r h) = absurd (no_refusal r h)
-  alone_of other _ (start u s is r a) =
+  alone_of other _ (start s is r a) =
       let h = head_start s is in
       alone_start other h.0 h.1.0 r (subst (λ (x : Start). AnswersStart c x r) h.1.1 a)
 
@@ -124,14 +124,13 @@ module _ (c : Command) (p : Presentation) (bytes : List ℕ) (own : IsCheckpoint
   task_passes h has _ (shown come text e) = inl refl
 
   pub command_passes : way_of c.view ≡ Some Check → (r : Reply) → AnswersCommand c bytes r → (status_of r ≡ Done) ⊎ (status_of r ≡ Limit)
-  command_passes e _ (unread u) = let no : ◌≡◌ {A = Option Way} (Some Check) None = sym e ∙ ap way_of u in cc
   command_passes e _ (no_start u r h) = absurd (no_refusal r h)
-  command_passes e _ (start u s is r a) =
+  command_passes e _ (start s is r a) =
       let h = head_start s is in
       task_passes h.0 h.1.0 r (built_task c Check e (of_head bytes h.0) r (subst (λ (x : Start). AnswersStart c x r) h.1.1 a))
 
 pub own_checkpoints : OwnCheckpoints
-own_checkpoints words c p bytes r is own a = record {
-  checked = λ e. command_passes c p bytes own (command_in_range words c is) e r (of_words words bytes c is r a);
-  answered = λ other. alone_of c p bytes own (command_in_range words c is) other r (of_words words bytes c is r a);
+own_checkpoints words c p bytes r is reads own a = record {
+  checked = λ e. command_passes c p bytes own reads (command_in_range words c is) e r (of_words words bytes c is r a);
+  answered = λ other. alone_of c p bytes own reads (command_in_range words c is) other r (of_words words bytes c is r a);
 }

@@ -28,6 +28,7 @@ use Rattle.fpl_run.specs.Laws.{CheckpointsAreOwn}
 use Rattle.fpl_run.proofs.Names.{command_in_range}
 use Rattle.fpl_run.proofs.Marks.{no_mark}
 use Rattle.fpl_run.proofs.OneReply.{of_words, task_reply}
+use Rattle.fpl_run.proofs.Replies.{written_reads}
 
 written_is : (p : Presentation) (ss : List Section) → stream_text p ss ≡ stream_of Two p ss
 unfolding stream_text
@@ -59,4 +60,4 @@ checkpoints_are_own words c p text r end is made short said a long =
     let kept : IsStreamOf p (take end (stream_text p (sections c p end))) =
     subst (λ x. IsStreamOf p (take end x)) (sym (written_is p (sections c p end)))
     (runs_write_streams p c.entries c.limit end sound canonical range.1 range.0 long) in
-    task_writes c p end kept r (task_reply c text Write made (of_text p) (from_text short (plain c p text made said) p said) r (of_words words text c is r a))
+    task_writes c p end kept r (task_reply c text Write made (of_text p) (from_text (written_reads c made) short (plain c p text made said) p said) r (of_words words text c is r a))

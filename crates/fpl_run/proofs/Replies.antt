@@ -12,6 +12,7 @@ use Rattle.fpl_reply.specs.Reply.{Reply, read_fault, fault_status, status_of, te
 use Rattle.fpl_reply.specs.Leaves.{Says, Leaves, IsAnswered}
 use Rattle.fpl_reply.specs.Leaves.Leaves.{whole, part, front}
 use Rattle.fpl_reply.proofs.Leaving.{leaves_through, none_taken, status_shown, IsInner, fault_inner, view_fault_inner}
+use Rattle.fpl_views.specs.declared.shown.Shown.TheVariants.{Sample}
 use Rattle.fpl_run.specs.declared.words.View.{View}
 use Rattle.fpl_run.specs.declared.words.Command.{Command}
 use Rattle.fpl_run.specs.declared.task.Way.{Way}
@@ -25,9 +26,9 @@ use Rattle.fpl_run.specs.Read.IsNoStart.{input_too_long, text_too_long, no_prese
 use Rattle.fpl_run.specs.Answer.{AnswersTask, AnswersStart, AnswersCommand, Answers, IsFront, FrontsStart, FrontsCommand, Fronts}
 use Rattle.fpl_run.specs.Answer.AnswersTask.{stopped_at, fails_in_view, shown}
 use Rattle.fpl_run.specs.Answer.AnswersStart.{not_built_yet, built}
-use Rattle.fpl_run.specs.Answer.AnswersCommand.{unread, no_start, start}
+use Rattle.fpl_run.specs.Answer.AnswersCommand.{no_start, start}
 use Rattle.fpl_run.specs.Answer.Answers.{command}
-use Rattle.fpl_run.specs.Run.{IsWritten, MayPut}
+use Rattle.fpl_run.specs.Run.{ReadsNothing, IfTold, IsWritten, MayPut}
 
 pub always : {A : Type 0} (o : Option A) (P : A → Type 0) → ((x : A) → P x) → IfSome o P
 always None P f = tt
@@ -60,10 +61,10 @@ start_through c s way is a b r h =
     (λ text f. (way, is, f)) r h
 
 -- what was read, told by its bytes
-pub command_through : (c : Command) (bytes : List ℕ) (s : Start) → (IsUnread c.view → ⊥) → IsStart c bytes s → (a b : Option (List ℕ)) (r : Reply) →
+pub command_through : (c : Command) (bytes : List ℕ) (s : Start) → IsStart c bytes s → (a b : Option (List ℕ)) (r : Reply) →
     Leaves (AnswersStart c s) (FrontsStart c s) a b r → Leaves (AnswersCommand c bytes) (FrontsCommand c bytes) a b r
-command_through c bytes s now is a b r h =
-    leaves_through (AnswersStart c s) (AnswersCommand c bytes) (FrontsStart c s) (FrontsCommand c bytes) a b (λ x k. start now s is x k)
+command_through c bytes s is a b r h =
+    leaves_through (AnswersStart c s) (AnswersCommand c bytes) (FrontsStart c s) (FrontsCommand c bytes) a b (λ x k. start s is x k)
     (λ text f. (s, is, f)) r h
 
 -- no reply to what is read of an input
@@ -84,9 +85,8 @@ module _ (c : Command) (bytes : List ℕ) where
   no_start_inner _ (no_head l m b k) = fault_inner (bad_bytes b)
 
   pub command_inner : (r : Reply) → AnswersCommand c bytes r → IsInner (status_of r)
-  command_inner _ (unread u) = (λ e. cc, λ e. cc, λ e. cc, λ e. cc)
   command_inner _ (no_start u r h) = no_start_inner r h
-  command_inner _ (start u s is r h) = start_inner s r h
+  command_inner _ (start s is r h) = start_inner s r h
 
   pub ended_inner : (F : List ℕ → Type 0) (oo on : Option (List ℕ)) (r : Reply) → Leaves (AnswersCommand c bytes) F oo on r →
       (status_of r ≡ ReadFault → ⊥) × (status_of r ≡ Usage → ⊥)
@@ -122,9 +122,8 @@ module _ (c : Command) (bytes : List ℕ) where
   no_start_quiet _ (no_head l m b k) = refl
 
   command_quiet : (r : Reply) → AnswersCommand c bytes r → (MayPut c.view (status_of r) → ⊥) → text_of r ≡ []
-  command_quiet _ (unread u) never = refl
   command_quiet _ (no_start u r h) never = no_start_quiet r h
-  command_quiet _ (start u s is r h) never = start_quiet s r h never
+  command_quiet _ (start s is r h) never = start_quiet s r h never
 
   pub quiet_output : (oo on : Option (List ℕ)) (r : Reply) → Leaves (AnswersCommand c bytes) (FrontsCommand c bytes) oo on r →
       (MayPut c.view (status_of r) → ⊥) → on ≡ oo
@@ -139,17 +138,44 @@ module _ (c : Command) (bytes : List ℕ) where
       let way : f.0 ≡ Write = f.2.0 in
       absurd (never (is ∙ ap Some way))
 
-pub command_reply : (words : List (List ℕ)) (c : Command) → IsCommand words c → (left oo on : Option (List ℕ)) (r : Reply) →
-    IfSome left (λ bytes. (r ≡ read_fault) ⊎ Leaves (AnswersCommand c bytes) (FrontsCommand c bytes) oo on r) →
-    IfSome left (λ bytes. (r ≡ read_fault) ⊎ Leaves (Answers words bytes) (Fronts words bytes) oo on r)
-command_reply words c is None oo on r h = tt
-command_reply words c is (Some bytes) oo on r (inl e) = inl e
-command_reply words c is (Some bytes) oo on r (inr h) =
-    inr (leaves_through (AnswersCommand c bytes) (Answers words bytes) (FrontsCommand c bytes) (Fronts words bytes) oo on (λ x a. command c is x a)
-    (λ text f. (c, is, f)) r h)
+-- what is told of an input, told of more
+pub told_more : {M N : Type 0} (left : Option (List ℕ)) (P Q : List ℕ → Type 0) → (M → N) → ((bytes : List ℕ) → P bytes → Q bytes) →
+    IfTold N left P → IfTold M left Q
+told_more None P Q f g h = (tt, λ silent. g [] (h.1 (f silent)))
+told_more (Some bytes) P Q f g h = (g bytes h.0, λ silent. g [] (h.1 (f silent)))
+
+pub told_always : {N : Type 0} (left : Option (List ℕ)) (P : List ℕ → Type 0) → ((bytes : List ℕ) → P bytes) → IfTold N left P
+told_always left P f = (always left P f, λ silent. f [])
+
+-- a view that writes its sections reads its input
+pub written_reads : (c : Command) → way_of c.view ≡ Some Write → IsUnread c.view → ⊥
+written_reads c made unread = let no : ◌≡◌ {A = Option Way} (Some Write) (Some (Show Sample)) = sym made ∙ ap way_of unread in cc
+
+-- words of a view that reads nothing
+pub silent_view : (words : List (List ℕ)) (c : Command) → IsCommand words c → ((d : Command) → IsCommand words d → d ≡ c) → ReadsNothing words → IsUnread c.view
+silent_view words c is one (inl none) = absurd (none c is)
+silent_view words c is one (inr d) = subst (λ (x : Command). IsUnread x.view) (one d.0 d.1) d.2
+
+pub command_reply : (words : List (List ℕ)) (c : Command) → IsCommand words c → ((d : Command) → IsCommand words d → d ≡ c) →
+    (left oo on : Option (List ℕ)) (r : Reply) →
+    IfTold (IsUnread c.view) left (λ bytes. (r ≡ read_fault) ⊎ Leaves (AnswersCommand c bytes) (FrontsCommand c bytes) oo on r) →
+    IfTold (ReadsNothing words) left (λ bytes. (r ≡ read_fault) ⊎ Leaves (Answers words bytes) (Fronts words bytes) oo on r)
+command_reply words c is one left oo on r h =
+    told_more left (λ bytes. (r ≡ read_fault) ⊎ Leaves (AnswersCommand c bytes) (FrontsCommand c bytes) oo on r)
+    (λ bytes. (r ≡ read_fault) ⊎ Leaves (Answers words bytes) (Fronts words bytes) oo on r) (silent_view words c is one) at h
+  where
+    at : (bytes : List ℕ) → (r ≡ read_fault) ⊎ Leaves (AnswersCommand c bytes) (FrontsCommand c bytes) oo on r →
+        (r ≡ read_fault) ⊎ Leaves (Answers words bytes) (Fronts words bytes) oo on r
+    at bytes (inl e) = inl e
+    at bytes (inr k) =
+        inr (leaves_through (AnswersCommand c bytes) (Answers words bytes) (FrontsCommand c bytes) (Fronts words bytes) oo on
+        (λ x a. command c is x a) (λ text f. (c, is, f)) r k)
 
 pub answered : (words : List (List ℕ)) (left oo on eo en : Option (List ℕ)) (before now : ℕ) (r : Reply) →
-    IfSome left (λ bytes. (r ≡ read_fault) ⊎ Leaves (Answers words bytes) (Fronts words bytes) oo on r) → Says eo en before now (line_of r) →
-    IfSome left (λ bytes. IsAnswered (Answers words bytes) (Fronts words bytes) (status_of r) oo on eo en before now)
-answered words None oo on eo en before now r h l = tt
-answered words (Some bytes) oo on eo en before now r h l = record { reply = r; status = refl; leaves = h; line = l }
+    IfTold (ReadsNothing words) left (λ bytes. (r ≡ read_fault) ⊎ Leaves (Answers words bytes) (Fronts words bytes) oo on r) →
+    Says eo en before now (line_of r) →
+    IfTold (ReadsNothing words) left (λ bytes. IsAnswered (Answers words bytes) (Fronts words bytes) (status_of r) oo on eo en before now)
+answered words left oo on eo en before now r h l =
+    told_more left (λ bytes. (r ≡ read_fault) ⊎ Leaves (Answers words bytes) (Fronts words bytes) oo on r)
+    (λ bytes. IsAnswered (Answers words bytes) (Fronts words bytes) (status_of r) oo on eo en before now) (λ silent. silent)
+    (λ bytes k. record { reply = r; status = refl; leaves = k; line = l }) h

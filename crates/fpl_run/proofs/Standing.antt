@@ -28,7 +28,7 @@ use Rattle.fpl_run.proofs.OneReply.{of_words, task_reply, unbuilt_command, stops
 use Rattle.fpl_run.proofs.Meaning.{start_sound, start_bytes, walk_standard, reply_tells, shown_through}
 
 pub walks_standard : WalksAreStandard
-walks_standard = walk_standard
+walks_standard words c way bytes s is fits from = walk_standard words c way bytes s is (λ reads. fits) from
 
 if_some : {A : Type 0} (P : A → Type 0) (o : Option A) (x : A) → o ≡ Some x → IfSome o P → P x
 if_some P None x e h = cc
@@ -40,8 +40,8 @@ faults_mean words c way bytes s text fault is made fits from a =
     let w = walk_for (task_for c way) s in
     let stop : w.stop ≡ Some (failed fault) = reply_tells words c way bytes s (stopped text fault) is made from a in
     if_some (StopMeans (does_compute way) c.entries c.limit s.presentation s.stored w.stage) w.stop (failed fault) stop
-    (stops_mean (does_compute way) c.entries c.limit s.place s.has s.presentation s.stored (start_sound c bytes fits s from) range.1 range.0
-    (start_bytes c bytes fits s from))
+    (stops_mean (does_compute way) c.entries c.limit s.place s.has s.presentation s.stored (start_sound c bytes (λ reads. fits) is.most s from) range.1 range.0
+    (start_bytes c bytes (λ reads. fits) s from))
 
 -- a task whose walk a fault stops
 stopped_task : (t : Task) (s : Start) (fault : Fault) → (walk_for t s).stop ≡ Some (failed fault) → (r : Reply) → AnswersTask t s r →
@@ -58,7 +58,7 @@ limit_comes words c way bytes s w count r is made fits from passes below a =
     let range = command_in_range words c is in
     stopped_task (task_for c way) s (too_many w count)
     (there.too_many_stops (does_compute way) c.entries c.limit s.place s.has s.presentation s.stored w count
-    (start_sound c bytes fits s from) range.1 range.0 (start_bytes c bytes fits s from) passes below)
+    (start_sound c bytes (λ reads. fits) is.most s from) range.1 range.0 (start_bytes c bytes (λ reads. fits) s from) passes below)
     r (task_reply c bytes way made s from r (of_words words bytes c is r a))
 
 pub faults_come : FaultsCome
@@ -66,7 +66,7 @@ faults_come words c way bytes s w fault r is made fits from one last below holds
     let range = command_in_range words c is in
     stopped_task (task_for c way) s fault
     (there.stops_there_too (does_compute way) c.entries c.limit s.place s.has s.presentation s.stored w (failed fault)
-    (start_sound c bytes fits s from) range.1 range.0 (start_bytes c bytes fits s from) one last below holds)
+    (start_sound c bytes (λ reads. fits) is.most s from) range.1 range.0 (start_bytes c bytes (λ reads. fits) s from) one last below holds)
     r (task_reply c bytes way made s from r (of_words words bytes c is r a))
 
 pub primes_fit : PrimesFit
@@ -80,7 +80,7 @@ primes_fit n words c bytes s text w u is fits from prime a = go (way_of c.view) 
         (of_words words bytes c is (stopped text (overflow w u)) a) in cc
     go (Some way) e =
         there.primes_fit n (does_compute way) c.entries c.limit s.place s.has s.presentation s.stored w u
-        (start_sound c bytes fits s from) range.1 range.0 (start_bytes c bytes fits s from) prime
+        (start_sound c bytes (λ reads. fits) is.most s from) range.1 range.0 (start_bytes c bytes (λ reads. fits) s from) prime
         (reply_tells words c way bytes s (stopped text (overflow w u)) is e from a)
 
 one_shown : (v : Shown) (p q : Presentation) (T S : PlainTable) (ss rr : List Section) (text also : List ℕ) → text_of_view v p T ss ≡ Ok text →
@@ -98,8 +98,8 @@ one_text words c v bytes more s t text also is made of_table fits fits_too from 
     subst (λ (p : Presentation). (walk_of true c.entries p t.stored c.limit (begun p t.place t.has)).stop ≡ None) (sym same) (shown_through c v t told_too.0) in
     let tables : x.stage.table ≡ (walk_of true c.entries s.presentation t.stored c.limit (begun s.presentation t.place t.has)).stage.table =
     there.one_table true true c.entries c.entries c.limit s.place t.place s.has t.has s.presentation s.stored t.stored
-    (start_sound c bytes fits s from) range.1 range.1 range.0
-    (start_bytes c bytes fits s from) (start_bytes c more fits_too t from_too) (shown_through c v s told.0) over in
+    (start_sound c bytes (λ reads. fits) is.most s from) range.1 range.1 range.0
+    (start_bytes c bytes (λ reads. fits) s from) (start_bytes c more (λ reads. fits_too) t from_too) (shown_through c v s told.0) over in
     let table : x.stage.table ≡ y.stage.table =
     tables ∙ ap (λ (p : Presentation). (walk_of true c.entries p t.stored c.limit (begun p t.place t.has)).stage.table) same in
     one_shown v s.presentation t.presentation x.stage.table y.stage.table x.stage.sections y.stage.sections text also told.1 told_too.1

@@ -2,6 +2,7 @@
 use Rattle.std.proofs.Common.{◌≡◌, ℕ, ◌≤◌, inl, inr, List, Bool, true, false, Err, None, Some, refl, sym, ap, ◌∙◌, subst, arith}
 use Rattle.std.specs.declared.option.Option.{Option}
 use Rattle.fpl_model.specs.Sound.{IsSound}
+use Rattle.fpl_sample.proofs.Sound.{type_a_is_sound}
 use Rattle.fpl_reader.specs.Reading.{HasPresentation}
 use Rattle.fpl_reader.proofs.Soundness.{presentation_sound}
 use Rattle.fpl_table.specs.Standard.{IsTableOf}
@@ -17,14 +18,15 @@ use Rattle.fpl_run.specs.declared.words.Command.{Command}
 use Rattle.fpl_run.specs.declared.task.Way.{Way}
 use Rattle.fpl_run.specs.declared.task.Way.TheVariants.{Show, Write, Check}
 use Rattle.fpl_run.specs.declared.task.Task.{Task}
+use Rattle.fpl_run.specs.Words.{most_limit}
 use Rattle.fpl_run.specs.Task.{way_of, task_for, does_compute}
 use Rattle.fpl_run.specs.Start.{Start, of_text, walk_for}
-use Rattle.fpl_run.specs.Read.{IsCheckpoint}
-use Rattle.fpl_run.specs.Read.IsStart.{from_text}
+use Rattle.fpl_run.specs.Read.{IsStart, IsCheckpoint}
+use Rattle.fpl_run.specs.Read.IsStart.{from_text, built_in}
 use Rattle.fpl_run.specs.Answer.{AnswersTask, AnswersCommand, text_of_way}
 use Rattle.fpl_run.specs.Answer.AnswersTask.{stopped_at, fails_in_view, shown}
 use Rattle.fpl_run.specs.Laws.{IsInput, IsWithinLimits, WithinLimits}
-use Rattle.fpl_run.specs.Laws.IsInput.{as_text, as_checkpoint}
+use Rattle.fpl_run.specs.Laws.IsInput.{as_text, as_checkpoint, as_built_in}
 use Rattle.fpl_run.proofs.Names.{command_in_range}
 use Rattle.fpl_run.proofs.Marks.{no_mark}
 use Rattle.fpl_run.proofs.OneReply.{of_words, task_reply, built_task, no_fault_at_end}
@@ -44,9 +46,11 @@ module _ (words : List (List ℕ)) (bytes : List ℕ) (h : IsWithinLimits words 
   range : (h.command.limit ≤ 1000) × (h.command.entries ≤ 2000000)
   range = command_in_range words h.command h.spelled
 
-  input_sound : IsInput h.presentation bytes → IsSound h.presentation
-  input_sound (as_text short said) = presentation_sound bytes h.presentation (omega (arith, short)) said
-  input_sound (as_checkpoint own) = own.1.sound
+  input_sound : IsInput h.command h.presentation bytes → IsSound h.presentation
+  input_sound (as_text reads short said) = presentation_sound bytes h.presentation (omega (arith, short)) said
+  input_sound (as_checkpoint reads own) = own.1.sound
+  input_sound (as_built_in unread same) =
+      subst IsSound (sym same) (type_a_is_sound h.command.limit (subst (λ v. h.command.limit ≤ most_limit v) unread h.spelled.most))
 
   abbrev walk : Bool → Walked
   walk b = walk_of b h.command.entries h.presentation s.stored h.command.limit (begun h.presentation 0 false)
@@ -87,9 +91,11 @@ module _ (words : List (List ℕ)) (bytes : List ℕ) (h : IsWithinLimits words 
   plain said (inl e) = not_check (ap way_of e)
   plain said (inr m) = no_mark bytes h.presentation said m
 
-  command_done : IsInput h.presentation bytes → (r : Reply) → AnswersCommand h.command bytes r → status_of r ≡ Done
-  command_done (as_text short said) r a = task_done r (task_reply h.command bytes h.way h.built s (from_text short (plain said) h.presentation said) r a)
-  command_done (as_checkpoint own) r a = task_done r (built_task h.command h.way h.built s r (alone_of h.command h.presentation bytes own range not_check r a))
+  command_done : IsInput h.command h.presentation bytes → (r : Reply) → AnswersCommand h.command bytes r → status_of r ≡ Done
+  command_done (as_text reads short said) r a = task_done r (task_reply h.command bytes h.way h.built s (from_text reads short (plain said) h.presentation said) r a)
+  command_done (as_checkpoint reads own) r a = task_done r (built_task h.command h.way h.built s r (alone_of h.command h.presentation bytes own reads range not_check r a))
+  command_done (as_built_in unread same) r a =
+      task_done r (task_reply h.command bytes h.way h.built s (subst (λ p. IsStart h.command bytes (of_text p)) (sym same) (built_in unread)) r a)
 
 pub within_limits : WithinLimits
 within_limits words bytes r h a = command_done words bytes h h.input r (of_words words bytes h.command h.spelled r a)

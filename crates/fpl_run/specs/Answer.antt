@@ -5,7 +5,7 @@
 --     the weights below, others nothing
 --   AnswersTask t s: a fault stops the walk at a weight; or it comes to its end, and the view has a fault of its own; or a text
 --   AnswersStart c s: the view isn't built yet; or it is, and has the reply of its task
---   AnswersCommand c bytes: the view reads no input, and isn't built; the bytes are nothing for the command; or they are a start
+--   AnswersCommand c bytes: the bytes are nothing for the command; or there is a start
 --   Answers words bytes: the words spell no command; or one
 --   IsFront t s text: of a checkpoint the head and the sections of the weights from 1 to some weight, as the walk has them
 --   FrontsStart, FrontsCommand, Fronts: the same, told by a command, its input, and the words
@@ -48,9 +48,8 @@ pub data AnswersStart (c : Command) (s : Start) : Reply → Type 0 where
   built : (way : Way) → way_of c.view ≡ Some way → (reply : Reply) → AnswersTask (task_for c way) s reply → AnswersStart c s reply
 
 pub data AnswersCommand (c : Command) (bytes : List ℕ) : Reply → Type 0 where
-  unread : IsUnread c.view → AnswersCommand c bytes not_built
   no_start : (IsUnread c.view → ⊥) → (reply : Reply) → IsNoStart c bytes reply → AnswersCommand c bytes reply
-  start : (IsUnread c.view → ⊥) → (s : Start) → IsStart c bytes s → (reply : Reply) → AnswersStart c s reply → AnswersCommand c bytes reply
+  start : (s : Start) → IsStart c bytes s → (reply : Reply) → AnswersStart c s reply → AnswersCommand c bytes reply
 
 pub data Answers (words : List (List ℕ)) (bytes : List ℕ) : Reply → Type 0 where
   no_command : IsNoCommand words → Answers words bytes usage

@@ -10,9 +10,9 @@
 --   FaultsCome: the same of each fault that means what it says, after a walk through the weights below that nothing stops
 --   IsCheckpointOf p bytes: a checkpoint of a presentation's own, as a run writes it, whole or cut after its head, and no longer than an input may be
 --   IsOwnReply c p r: Done or Limit, where the command is a check; else the reply to the presentation
---   OwnCheckpoints: it has the reply of the presentation; and passes a check, but for the number of symbols
+--   OwnCheckpoints: where the input is read, it has the reply of the presentation; and passes a check, but for the number of symbols
 --   CheckpointsAreOwn: what the view checkpoint writes for a text is one, and so is each front of it that has the head
---   IsInput p bytes: the bytes are a text of p, or a checkpoint of its own
+--   IsInput c p bytes: the bytes are a text of p, or a checkpoint of its own; or nothing is read, and p is the built-in presentation
 --   IsWithinLimits words bytes: the words ask for a view, but no check, of a presentation that the bytes are an input of; its symbols, over its standard table,
 --   stay within the entries; over fractions each weight's operations fit; and the view has no fault of its own over its table
 --   WithinLimits: then the reply is a text
@@ -28,6 +28,7 @@ use Rattle.plain_tables.specs.Raised.{IsRaised}
 use Rattle.plain_weights.specs.Section.{FitsAt}
 use Rattle.fpl_bytes.specs.Codes.{IsBytes}
 use Rattle.fpl_checkpoint.specs.Heads.{VERSION, head_bytes_of}
+use Rattle.fpl_sample.specs.TypeA.{type_a}
 use Rattle.fpl_walk.specs.Walk.{Fault, too_many, overflow}
 use Rattle.plain_walks.specs.Walks.{IsStandardWalk, FaultMeans}
 use Rattle.plain_walks.specs.Laws.{IsWithin}
@@ -43,7 +44,7 @@ use Rattle.fpl_run.specs.declared.task.Way.TheVariants.{Show, Write, Check}
 use Rattle.fpl_run.specs.Words.{IsCommand}
 use Rattle.fpl_run.specs.Task.{way_of, task_for, does_compute}
 use Rattle.fpl_run.specs.Start.{Start, of_text, walk_for}
-use Rattle.fpl_run.specs.Read.{IsStart, most_bytes, most_text}
+use Rattle.fpl_run.specs.Read.{IsUnread, IsStart, most_bytes, most_text}
 use Rattle.fpl_run.specs.Answer.{Answers, AnswersStart}
 
 abbrev pub OneReply : Type 0
@@ -100,7 +101,7 @@ pub record IsOwnReply (c : Command) (p : Presentation) (r : Reply) : Type 0 wher
 
 abbrev pub OwnCheckpoints : Type 0
 OwnCheckpoints =
-    (words : List (List ℕ)) (c : Command) (p : Presentation) (bytes : List ℕ) (r : Reply) → IsCommand words c → IsCheckpointOf p bytes →
+    (words : List (List ℕ)) (c : Command) (p : Presentation) (bytes : List ℕ) (r : Reply) → IsCommand words c → (IsUnread c.view → ⊥) → IsCheckpointOf p bytes →
     Answers words bytes r → IsOwnReply c p r
 
 abbrev pub CheckpointsAreOwn : Type 0
@@ -109,9 +110,10 @@ CheckpointsAreOwn =
     length text ≤ most_text →
     HasPresentation text p → Answers words text r → length (head_bytes_of VERSION p) ≤ end → IsStreamOf p (take end (text_of r))
 
-pub data IsInput (p : Presentation) (bytes : List ℕ) : Type 0 where
-  as_text : length bytes ≤ most_text → HasPresentation bytes p → IsInput p bytes
-  as_checkpoint : IsCheckpointOf p bytes → IsInput p bytes
+pub data IsInput (c : Command) (p : Presentation) (bytes : List ℕ) : Type 0 where
+  as_text : (IsUnread c.view → ⊥) → length bytes ≤ most_text → HasPresentation bytes p → IsInput c p bytes
+  as_checkpoint : (IsUnread c.view → ⊥) → IsCheckpointOf p bytes → IsInput c p bytes
+  as_built_in : IsUnread c.view → p ≡ type_a c.limit → IsInput c p bytes
 
 pub record IsWithinLimits (words : List (List ℕ)) (bytes : List ℕ) : Type 0 where
   pub command : Command
@@ -120,7 +122,7 @@ pub record IsWithinLimits (words : List (List ℕ)) (bytes : List ℕ) : Type 0 
   pub built : way_of command.view ≡ Some way
   pub computes : does_compute way ≡ true
   pub presentation : Presentation
-  pub input : IsInput presentation bytes
+  pub input : IsInput command presentation bytes
   pub within : IsWithin presentation command.limit command.entries
   pub fits : presentation.field ≡ Rational → (w : ℕ) → 1 ≤ w → w ≤ command.limit → FitsAt presentation w
   pub shows : (v : Shown) → way ≡ Show v → (T : PlainTable) (sections : List Section) (fault : ViewFault) → IsTableOf presentation command.limit T →

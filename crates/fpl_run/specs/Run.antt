@@ -1,5 +1,6 @@
 -- What a run does.
 --   ReadsNothing words: the words are no command, or one of a view that reads no input
+--   IfTold silent left P: what holds of the bytes of an input, where it tells them; and where nothing is read, of none
 --   Means c bytes v text: the text shows a view of a table that is the standard table of the presentation that was read, through the limit, and was raised by
 --   sections that a check accepts
 --   IsWritten view: sections are written along the way
@@ -7,7 +8,7 @@
 --   a checkpoint also what was written before a fault stopped the run or memory ran out
 --   Spends c bytes out_old out_new old new: a number rose by at most the number of origins of the weights that a run computes, where its view is counted;
 --   it stayed where the view isn't built, or the bytes are no start; and a checkpoint's sections are written as its weights are done
-use Rattle.std.specs.Prelude.{◌≡◌, ℕ, ◌+◌, ◌≤◌, ◌⊎◌, List, Option, Some}
+use Rattle.std.specs.Prelude.{◌≡◌, ℕ, ◌+◌, ◌≤◌, ◌⊎◌, List, [], Option, Some, IfSome}
 use Rattle.fpl_log.specs.declared.section.Section.{Section}
 use Rattle.fpl_table.specs.Plain.{PlainTable}
 use Rattle.fpl_table.specs.Standard.{IsTableOf}
@@ -28,6 +29,9 @@ use Rattle.fpl_run.specs.Pace.{IsPaced}
 
 abbrev pub ReadsNothing : List (List ℕ) → Type 0
 ReadsNothing words = IsNoCommand words ⊎ ((c : Command) × IsCommand words c × IsUnread c.view)
+
+abbrev pub IfTold : (silent : Type 0) → Option (List ℕ) → (List ℕ → Type 0) → Type 0
+IfTold silent left P = IfSome left P × (silent → P [])
 
 pub record Means (c : Command) (bytes : List ℕ) (v : Shown) (text : List ℕ) : Type 0 where
   pub start : Start

@@ -1,6 +1,6 @@
 -- A run through the weights of what was read.
 --   Start: a presentation, what is stored for it, the place where its sections begin, and whether there are any
---   of_text p: nothing is stored for the presentation of a text
+--   of_text p: nothing is stored for the presentation of a text, or for one that is built in
 --   of_head bytes h: sections may stand in these bytes, after their head
 --   begun_for s: the stage at weight 0
 --   walk_for t s: the weights through the task's limit, or as many as come before a stop

@@ -1,16 +1,16 @@
 //! From the bytes of an input to what they come to.
-ghost use Rattle.std.specs.Prelude.{◌≡◌, ◌≢◌, ◌≤◌, ◌⊎◌, ◌↔◌, length, IfSome, IsTrue, None};
+ghost use Rattle.std.specs.Prelude.{◌≡◌, ◌≢◌, ◌≤◌, ◌⊎◌, ◌↔◌, ℕ, List, length, IfSome, IsTrue, None};
 ghost use Rattle.std.specs.Io.KnownBytes.{IsAtEnd};
 ghost use Rattle.fpl_bytes.specs.Codes.{IsBytes};
 ghost use Rattle.fpl_outside.specs.Outside.{Rose};
 ghost use Rattle.fpl_reply.specs.Reply.{read_fault, status_of};
 ghost use Rattle.fpl_reply.specs.Outcome.{reply_of};
 ghost use Rattle.fpl_reply.specs.Leaves.{Leaves};
-ghost use Rattle.fpl_run.specs.Words.{IsInRange};
+ghost use Rattle.fpl_run.specs.Words.{IsInRange, most_limit};
 ghost use Rattle.fpl_run.specs.Task.{way_of};
 ghost use Rattle.fpl_run.specs.Read.{IsUnread, IsMarked, IsCheckpoint, most_bytes};
 ghost use Rattle.fpl_run.specs.Answer.{AnswersCommand, FrontsCommand};
-ghost use Rattle.fpl_run.specs.Run.{MayPut, Spends};
+ghost use Rattle.fpl_run.specs.Run.{IfTold, MayPut, Spends};
 
 use crate::start::{Begin, answer_start};
 use crate::words::{Command, View};
@@ -18,6 +18,7 @@ use fpl_checkpoint::{CHECKPOINT_MARK, ScanError, scan_head};
 use fpl_outside::{ReadError, Sink, Source, read_whole};
 use fpl_reader::{ReaderError, read};
 use fpl_reply::{Outcome, Refusal, Status};
+use fpl_sample::type_a;
 use fpl_steps::Steps;
 use std::alloc::Global;
 use std::sync::ledger::Ledger;
@@ -138,6 +139,35 @@ fn answer_bytes<O: Sink, L: Ledger>(
     answer_text(alloc, c, bytes, out, steps)
 }
 
+// What a view that reads no input comes to.
+fn answer_built_in<O: Sink, L: Ledger>(
+    alloc: Global,
+    c: Command,
+    out: &mut O,
+    steps: &mut Steps<L>,
+) -> Outcome
+    requires range { IsInRange c.limit c.entries }
+    requires rank { c.limit ≤ 64 }
+    requires unread { IsUnread c.view }
+    ensures reply { (bytes : List ℕ) → Leaves (AnswersCommand c bytes) (FrontsCommand c bytes) (O.taken out.old) (O.taken out.new) (reply_of result) }
+    ensures fault { status_of (reply_of result) ≡ Status.WriteFault → Rose (O.faults out.old) (O.faults out.new) }
+    ensures cost { (bytes : List ℕ) → Spends c bytes (O.taken out.old) (O.taken out.new) steps.old steps.new }
+    ensures idle { way_of c.view ≡ None → steps.new ≡ steps.old }
+{
+    match type_a(alloc, c.limit) {
+        Ok(presentation) => {
+            let begin = Begin {
+                presentation,
+                version: 2,
+                place: 0,
+                stored: false,
+            };
+            answer_start(alloc, c, begin, b"", out, steps)
+        }
+        Err(_) => Outcome::NoMemory,
+    }
+}
+
 /// What a command comes to.
 pub(crate) fn answer_command<I: Source, O: Sink, L: Ledger>(
     alloc: Global,
@@ -147,20 +177,21 @@ pub(crate) fn answer_command<I: Source, O: Sink, L: Ledger>(
     steps: &mut Steps<L>,
 ) -> Outcome
     requires range { IsInRange c.limit c.entries }
+    requires most { c.limit ≤ most_limit c.view }
     ensures command { status_of (reply_of result) ≢ Status.Usage }
-    ensures reply { IfSome (I.left input.old) (λ bytes. (reply_of result ≡ read_fault) ⊎ Leaves (AnswersCommand c bytes) (FrontsCommand c bytes)
+    ensures reply { IfTold (IsUnread c.view) (I.left input.old) (λ bytes. (reply_of result ≡ read_fault) ⊎ Leaves (AnswersCommand c bytes) (FrontsCommand c bytes)
         (O.taken out.old) (O.taken out.new) (reply_of result)) }
     ensures fault { status_of (reply_of result) ≡ Status.WriteFault → Rose (O.faults out.old) (O.faults out.new) }
-    ensures cost { IfSome (I.left input.old) (λ bytes. Spends c bytes (O.taken out.old) (O.taken out.new) steps.old steps.new) }
+    ensures cost { IfTold (IsUnread c.view) (I.left input.old) (λ bytes. Spends c bytes (O.taken out.old) (O.taken out.new) steps.old steps.new) }
     ensures nothing { (MayPut c.view (status_of (reply_of result)) → ⊥) → O.taken out.new ≡ O.taken out.old }
-    ensures bytes { status_of (reply_of result) ≡ Status.Done → IfSome (I.left input.old) IsBytes }
+    ensures bytes { status_of (reply_of result) ≡ Status.Done → (IsUnread c.view → ⊥) → IfSome (I.left input.old) IsBytes }
     ensures unread { IsUnread c.view → input.new ≡ input.old }
     ensures idle { way_of c.view ≡ None → steps.new ≡ steps.old }
     ensures read { status_of (reply_of result) ≡ Status.ReadFault → Rose (I.faults input.old) (I.faults input.new) × (IsUnread c.view → ⊥) }
-    ensures end { status_of (reply_of result) ≡ Status.Done → IsAtEnd (I.left input.new) }
+    ensures end { status_of (reply_of result) ≡ Status.Done → IsUnread c.view ⊎ IsAtEnd (I.left input.new) }
 {
     if is_unread(c.view) {
-        return Outcome::NotBuilt;
+        return answer_built_in(alloc, c, out, steps);
     }
     match read_whole(alloc, input, MOST_BYTES) {
         Ok(bytes) => answer_bytes(alloc, c, &bytes, out, steps),

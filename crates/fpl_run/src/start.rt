@@ -50,7 +50,7 @@ fn through<F: Field, O: Sink, L: Ledger>(
     requires range { IsInRange task.limit task.entries }
     requires begun { HasBegun run.old }
     requires version { (run.old.version ≡ 1) ⊎ (run.old.version ≡ 2) }
-    requires short { length (canonical_of run.old.presentation) < 2 ^ 32 }
+    requires short { task.way ≡ Way.Write → length (canonical_of run.old.presentation) < 2 ^ 32 }
     ensures reply { Leaves (AnswersTask task (start_from run.old bytes.now)) (IsFront task (start_from run.old bytes.now)) (O.taken out.old) (O.taken out.new)
         (reply_of result) }
     ensures fault { status_of (reply_of result) ≡ Status.WriteFault → Rose (O.faults out.old) (O.faults out.new) }
@@ -98,7 +98,7 @@ fn run_through<F: Field, O: Sink, L: Ledger>(
     requires range { IsInRange task.limit task.entries }
     requires begun { IfOk begun HasBegun }
     requires version { IfOk begun (λ run. (run.version ≡ 1) ⊎ (run.version ≡ 2)) }
-    requires short { IfOk begun (λ run. length (canonical_of run.presentation) < 2 ^ 32) }
+    requires short { task.way ≡ Way.Write → IfOk begun (λ run. length (canonical_of run.presentation) < 2 ^ 32) }
     ensures reply { (s : Start) → IfOk begun (λ run. start_from run bytes.now ≡ s) → Leaves (AnswersTask task s) (IsFront task s) (O.taken out.old)
         (O.taken out.new) (reply_of result) }
     ensures fault { status_of (reply_of result) ≡ Status.WriteFault → Rose (O.faults out.old) (O.faults out.new) }
@@ -134,7 +134,7 @@ pub(crate) fn answer_start<O: Sink, L: Ledger>(
     steps: &mut Steps<L>,
 ) -> Outcome
     requires sound { IsSound begin.presentation }
-    requires short { length (canonical_of begin.presentation) < 2 ^ 32 }
+    requires short { way_of c.view ≡ Some Way.Write → length (canonical_of begin.presentation) < 2 ^ 32 }
     requires version { (begin.version ≡ 1) ⊎ (begin.version ≡ 2) }
     requires range { IsInRange c.limit c.entries }
     ensures reply { Leaves (AnswersStart c (start_in begin bytes.now)) (FrontsStart c (start_in begin bytes.now)) (O.taken out.old) (O.taken out.new) (reply_of result) }

@@ -34,6 +34,7 @@ pub(crate) fn way_of(view: View) -> Option<Way>
         View::Gap => Some(Way::Show(Shown::Gap)),
         View::Log => Some(Way::Show(Shown::Log)),
         View::Equal => Some(Way::Show(Shown::Equal)),
+        View::Sample => Some(Way::Show(Shown::Sample)),
         View::Checkpoint => Some(Way::Write),
         View::Check => Some(Way::Check),
         _ => None,

@@ -12,7 +12,7 @@ ghost use Rattle.fpl_run.specs.declared.task.Way.TheVariants.{Show};
 ghost use Rattle.fpl_run.specs.Words.{spelled, IsCommand, IsNoCommand};
 ghost use Rattle.fpl_run.specs.Task.{way_of};
 ghost use Rattle.fpl_run.specs.Answer.{Answers, Fronts};
-ghost use Rattle.fpl_run.specs.Run.{ReadsNothing, Means, MayPut, Spends};
+ghost use Rattle.fpl_run.specs.Run.{ReadsNothing, IfTold, Means, MayPut, Spends};
 
 use crate::read::answer_command;
 use crate::spelling::command;
@@ -31,16 +31,16 @@ fn answer_words<I: Source, O: Sink, L: Ledger>(
     steps: &mut Steps<L>,
 ) -> Outcome
     ensures usage { (status_of (reply_of result) ≡ Status.Usage) ↔ IsNoCommand (spelled words.now.items) }
-    ensures reply { IfSome (I.left input.old) (λ bytes. (reply_of result ≡ read_fault) ⊎ Leaves (Answers (spelled words.now.items) bytes)
+    ensures reply { IfTold (ReadsNothing (spelled words.now.items)) (I.left input.old) (λ bytes. (reply_of result ≡ read_fault) ⊎ Leaves (Answers (spelled words.now.items) bytes)
         (Fronts (spelled words.now.items) bytes) (O.taken out.old) (O.taken out.new) (reply_of result)) }
     ensures nothing { ((c : Command) → IsCommand (spelled words.now.items) c → MayPut c.view (status_of (reply_of result)) → ⊥) → O.taken out.new ≡ O.taken out.old }
     ensures unread { ReadsNothing (spelled words.now.items) → input.new ≡ input.old }
-    ensures bytes { status_of (reply_of result) ≡ Status.Done → IfSome (I.left input.old) IsBytes }
+    ensures bytes { status_of (reply_of result) ≡ Status.Done → (ReadsNothing (spelled words.now.items) → ⊥) → IfSome (I.left input.old) IsBytes }
     ensures idle { ((c : Command) → IsCommand (spelled words.now.items) c → way_of c.view ≡ None) → steps.new ≡ steps.old }
-    ensures cost { IfSome (I.left input.old) (λ bytes. (c : Command) → IsCommand (spelled words.now.items) c → Spends c bytes (O.taken out.old) (O.taken out.new) steps.old steps.new) }
+    ensures cost { IfTold (ReadsNothing (spelled words.now.items)) (I.left input.old) (λ bytes. (c : Command) → IsCommand (spelled words.now.items) c → Spends c bytes (O.taken out.old) (O.taken out.new) steps.old steps.new) }
     ensures read { status_of (reply_of result) ≡ Status.ReadFault → Rose (I.faults input.old) (I.faults input.new) × (ReadsNothing (spelled words.now.items) → ⊥) }
     ensures write { status_of (reply_of result) ≡ Status.WriteFault → Rose (O.faults out.old) (O.faults out.new) }
-    ensures end { status_of (reply_of result) ≡ Status.Done → IsAtEnd (I.left input.new) }
+    ensures end { status_of (reply_of result) ≡ Status.Done → ReadsNothing (spelled words.now.items) ⊎ IsAtEnd (I.left input.new) }
 {
     match command(words) {
         Some(c) => answer_command(alloc, c, input, out, steps),
@@ -63,12 +63,12 @@ pub fn run<I: Source, O: Sink, E: Sink, L: Ledger>(
 ) -> Status
     ensures usage { (result ≡ Status.Usage) ↔ IsNoCommand (spelled words.now.items) }
 
-    // Where the input tells its bytes, the words and the bytes decide the status, the text and the line, but for want of memory and faults.
-    ensures answer { IfSome (I.left input.old) (λ bytes. IsAnswered (Answers (spelled words.now.items) bytes) (Fronts (spelled words.now.items) bytes) result
+    // Where the input tells its bytes, or isn't read, the words and the bytes decide the status, the text and the line, but for want of memory and faults.
+    ensures answer { IfTold (ReadsNothing (spelled words.now.items)) (I.left input.old) (λ bytes. IsAnswered (Answers (spelled words.now.items) bytes) (Fronts (spelled words.now.items) bytes) result
         (O.taken out.old) (O.taken out.new) (E.taken err.old) (E.taken err.new) (E.faults err.old) (E.faults err.new)) }
 
     // What was written shows the standard table of the presentation that was read, in the words of the algebra.
-    ensures means { result ≡ Status.Done → IfSome (I.left input.old) (λ bytes. (c : Command) (v : Shown) → IsCommand (spelled words.now.items) c →
+    ensures means { result ≡ Status.Done → IfTold (ReadsNothing (spelled words.now.items)) (I.left input.old) (λ bytes. (c : Command) (v : Shown) → IsCommand (spelled words.now.items) c →
         way_of c.view ≡ Some (Show v) → (text : List ℕ) × Takes (O.taken out.old) (O.taken out.new) text × Means c bytes v text) }
 
     ensures line { (reply : Reply) × (status_of reply ≡ result) × Says (E.taken err.old) (E.taken err.new) (E.faults err.old) (E.faults err.new) (line_of reply) }
@@ -82,7 +82,7 @@ pub fn run<I: Source, O: Sink, E: Sink, L: Ledger>(
     ensures unread { ReadsNothing (spelled words.now.items) → input.new ≡ input.old }
 
     // What a command costs, whatever the answer.
-    ensures cost { IfSome (I.left input.old) (λ bytes. (c : Command) → IsCommand (spelled words.now.items) c → Spends c bytes (O.taken out.old) (O.taken out.new) steps.old steps.new) }
+    ensures cost { IfTold (ReadsNothing (spelled words.now.items)) (I.left input.old) (λ bytes. (c : Command) → IsCommand (spelled words.now.items) c → Spends c bytes (O.taken out.old) (O.taken out.new) steps.old steps.new) }
     ensures idle { ((c : Command) → IsCommand (spelled words.now.items) c → way_of c.view ≡ None) → steps.new ≡ steps.old }
 {
     let outcome = answer_words(alloc, words, input, out, steps);

@@ -2,7 +2,7 @@
 use Rattle.std.proofs.Common.{◌≡◌, List, ℕ, Ok, Err, refl, sym, subst, ◌∙◌}
 use Rattle.std.specs.declared.result.Result.{Result}
 use Rattle.fpl_reply.specs.declared.view_fault.ViewFault.{ViewFault}
-use Rattle.fpl_views.specs.declared.shown.Shown.TheVariants.{Table, Series, Gap, Log, Equal}
+use Rattle.fpl_views.specs.declared.shown.Shown.TheVariants.{Table, Series, Gap, Log, Equal, Sample}
 use Rattle.plain_sources.proofs.Fitting.{Always, prime_always}
 use Rattle.fpl_views.proofs.Answers.{shows_equal, equal_fits}
 use Rattle.fpl_views.proofs.Derivations.{are_derivations}
@@ -17,6 +17,7 @@ texts_show Series p T sections text sound made e = given _ text e
 texts_show Gap p T sections text sound made e = given _ text e
 texts_show Log p T sections text sound made e = (given _ text e, are_derivations p T sections made.accepted)
 texts_show Equal p T sections text sound made e = shows_equal p T sections sound made text e
+texts_show Sample p T sections text sound made e = given _ text e
 
 pub texts_fit : TextsFitOverPrimes
 texts_fit Table n p T sections u sound made prime e = cc
@@ -24,6 +25,7 @@ texts_fit Series n p T sections u sound made prime e = cc
 texts_fit Gap n p T sections u sound made prime e = cc
 texts_fit Log n p T sections u sound made prime e = cc
 texts_fit Equal n p T sections u sound made prime e = equal_fits p T (subst Always (sym (made.standard.kind ∙ prime)) (prime_always n)) u e
+texts_fit Sample n p T sections u sound made prime e = cc
 
 pub texts_of_tables : TextsAreOfTables
 texts_of_tables Table of_table p T ss more = refl
@@ -31,3 +33,4 @@ texts_of_tables Series of_table p T ss more = refl
 texts_of_tables Gap of_table p T ss more = refl
 texts_of_tables Log of_table p T ss more = absurd of_table
 texts_of_tables Equal of_table p T ss more = refl
+texts_of_tables Sample of_table p T ss more = refl

@@ -4,5 +4,6 @@ pub mod Series
 pub mod Gap
 pub mod Log
 pub mod Equal
+pub mod Sample
 pub mod Views
 pub mod Laws

@@ -5,6 +5,7 @@ mod equal;
 mod gap;
 mod laws;
 mod log;
+mod sample;
 mod series;
 mod shown;
 mod table;

@@ -8,6 +8,7 @@ ghost use Rattle.fpl_views.specs.Views.{text_of_view, IsCounted};
 use crate::equal::show_equal;
 use crate::gap::show_gap;
 use crate::log::show_log;
+use crate::sample::show_sample;
 use crate::series::show_series;
 use crate::table::show_table;
 use fpl_log::Sections;
@@ -32,6 +33,8 @@ pub enum Shown {
     Log,
     /// Whether the two sides of each query are equal.
     Equal,
+    /// How large the table is: the size of its basis and of each weight, and how many brackets aren't 0.
+    Sample,
 }
 
 /// Why a view has no text.
@@ -66,5 +69,6 @@ pub fn show<F: Field, L: Ledger>(
         Shown::Gap => show_gap(alloc, p, table),
         Shown::Log => show_log(alloc, p, table, sections),
         Shown::Equal => show_equal(alloc, p, table),
+        Shown::Sample => show_sample(alloc, table),
     }
 }

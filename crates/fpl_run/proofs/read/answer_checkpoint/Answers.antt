@@ -11,14 +11,14 @@ use Rattle.fpl_run.proofs.read.answer_checkpoint.Goals as goal
 
 pub returns-in-Ok-clause-reply : goal.returns-in-Ok-clause-reply
 returns-in-Ok-clause-reply g c =
-    command_through c.args.c c.args.bytes.now (of_head c.args.bytes.now c.in-Ok.head) c.requires.read
-    (from_head c.requires.short c.requires.checkpoint c.in-Ok.head c.in-Ok.ensures.head) _ _ _
+    command_through c.args.c c.args.bytes.now (of_head c.args.bytes.now c.in-Ok.head)
+    (from_head c.requires.read c.requires.short c.requires.checkpoint c.in-Ok.head c.in-Ok.ensures.head) _ _ _
     c.answer_start.ensures.reply
 
 pub returns-in-Ok-clause-cost : goal.returns-in-Ok-clause-cost
 returns-in-Ok-clause-cost g c =
     costs_start c.args.c c.args.bytes.now (of_head c.args.bytes.now c.in-Ok.head) _ _ c.args.steps.now c.answer_start.new.steps
-    (from_head c.requires.short c.requires.checkpoint c.in-Ok.head c.in-Ok.ensures.head)
+    (from_head c.requires.read c.requires.short c.requires.checkpoint c.in-Ok.head c.in-Ok.ensures.head)
     c.answer_start.ensures.rises c.answer_start.ensures.idle c.answer_start.ensures.cost c.answer_start.ensures.paced
 
 pub returns-in-Err-Bad-clause-reply : goal.returns-in-Err-Bad-clause-reply

@@ -12,7 +12,7 @@ use Rattle.fpl_run.proofs.Costs.{costs_start}
 use Rattle.fpl_run.proofs.read.answer_text.Goals as goal
 
 pub answer_start-requires-clause-short : goal.answer_start-requires-clause-short
-answer_start-requires-clause-short g c = omega (arith, canonical_short c.args.bytes.now c.in-Ok.presentation c.in-Ok.ensures.read)
+answer_start-requires-clause-short g c = λ way. omega (arith, canonical_short c.args.bytes.now c.in-Ok.presentation c.in-Ok.ensures.read)
 
 pub returns-then-bytes-gt-MOST_TEXT-clause-reply : goal.returns-then-bytes-gt-MOST_TEXT-clause-reply
 returns-then-bytes-gt-MOST_TEXT-clause-reply g c =
@@ -21,8 +21,8 @@ returns-then-bytes-gt-MOST_TEXT-clause-reply g c =
 pub returns-in-Ok-clause-reply : goal.returns-in-Ok-clause-reply
 returns-in-Ok-clause-reply g c =
     let short : length c.args.bytes.now ≤ most_text = omega arith in
-    command_through c.args.c c.args.bytes.now (of_text c.in-Ok.presentation) c.requires.read
-    (from_text short c.requires.plain c.in-Ok.presentation c.in-Ok.ensures.read) _ _ _ c.answer_start.ensures.reply
+    command_through c.args.c c.args.bytes.now (of_text c.in-Ok.presentation)
+    (from_text c.requires.read short c.requires.plain c.in-Ok.presentation c.in-Ok.ensures.read) _ _ _ c.answer_start.ensures.reply
 
 pub returns-in-Err-Refused-clause-reply : goal.returns-in-Err-Refused-clause-reply
 returns-in-Err-Refused-clause-reply g c =
@@ -35,7 +35,7 @@ pub returns-in-Ok-clause-cost : goal.returns-in-Ok-clause-cost
 returns-in-Ok-clause-cost g c =
     let short : length c.args.bytes.now ≤ most_text = omega arith in
     costs_start c.args.c c.args.bytes.now (of_text c.in-Ok.presentation) _ _ c.args.steps.now c.answer_start.new.steps
-    (from_text short c.requires.plain c.in-Ok.presentation c.in-Ok.ensures.read)
+    (from_text c.requires.read short c.requires.plain c.in-Ok.presentation c.in-Ok.ensures.read)
     c.answer_start.ensures.rises c.answer_start.ensures.idle c.answer_start.ensures.cost c.answer_start.ensures.paced
 
 pub returns-in-Err-NoMemory-clause-reply : goal.returns-in-Err-NoMemory-clause-reply

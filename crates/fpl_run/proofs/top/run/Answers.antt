@@ -1,4 +1,4 @@
-use Rattle.std.proofs.Common.{inr, ◌∙◌, sym, subst}
+use Rattle.std.proofs.Common.{◌∙◌, sym, subst}
 use Rattle.fpl_run.specs.Run.{MayPut}
 use Rattle.fpl_reply.proofs.Leaving.{says}
 use Rattle.fpl_run.proofs.Replies.{answered}
@@ -17,4 +17,4 @@ pub returns-clause-nothing : goal.returns-clause-nothing
 returns-clause-nothing g c = λ none. c.answer_words-outcome.ensures.nothing (λ d is may. none d is (subst (λ s. MayPut d.view s) (sym c.status.ensures) may))
 
 pub returns-clause-end : goal.returns-clause-end
-returns-clause-end g c = λ e. inr (c.answer_words-outcome.ensures.end (sym c.status.ensures ∙ e))
+returns-clause-end g c = λ e. c.answer_words-outcome.ensures.end (sym c.status.ensures ∙ e)
