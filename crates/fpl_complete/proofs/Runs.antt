@@ -1,5 +1,5 @@
 -- What origins that are still to come make of an elimination, or of a sweep, as each is done.
-use Rattle.std.specs.Prelude.{◌≡◌, List, [], ◌∷◌, Result, Ok, Err}
+use Rattle.std.specs.Prelude.{◌≡◌, List, ◌∷◌, Result, Ok, Err}
 use mathlib.Core.Path.{refl, sym, subst, ◌∙◌}
 use Rattle.fpl_numbers.specs.declared.number.Num.{Num}
 use Rattle.fpl_numbers.specs.declared.number.Unfit.{Unfit}

@@ -10,16 +10,14 @@ use Rattle.fpl_numbers.specs.Results.{map_ok, and_then}
 use Rattle.fpl_numbers.specs.Reads.{Reads}
 use Rattle.fpl_numbers.proofs.KindReads.{kind_reads}
 use Rattle.math_linear.specs.Vector.{Vector}
-use Rattle.fpl_rows.specs.Meaning.{IsRowOf}
 use Rattle.fpl_log.specs.declared.step.Origin.{Origin}
-use Rattle.plain_elimination.specs.Plain.{PivotRow, IsPivotRow, Held, Elimination, Inserted, insert_of, close_of, rows_of, sweep_rows}
+use Rattle.plain_elimination.specs.Plain.{IsPivotRow, Held, Elimination, Inserted, insert_of, close_of, rows_of, sweep_rows}
 use Rattle.plain_elimination.proofs.Spans.{standing, insert_reads}
 use Rattle.plain_lean.specs.Lean.{Agree, IsLean, IsInsertedLean, insert_lean}
 use Rattle.plain_lean.proofs.Inverting.{inserts_lean}
 use Rattle.plain_lean.proofs.Renumbering.{start_same, close_same, rows_same}
 use Rattle.fpl_model.specs.declared.presentation.Presentation.{Presentation}
 use Rattle.fpl_table.specs.Plain.{PlainTable, symbols_in}
-use Rattle.plain_tables.specs.Holds.{Holds}
 use Rattle.fpl_rewrite.specs.Origins.{origins_of}
 use Rattle.fpl_rewrite.specs.Rows.{row_of_origin}
 use Rattle.plain_weights.specs.Weight.{begun, with_held, gather, again, close_weight}

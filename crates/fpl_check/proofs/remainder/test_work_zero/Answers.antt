@@ -1,6 +1,5 @@
 use Rattle.std.proofs.Common.{sym, arith}
 use Rattle.fpl_rows.proofs.Leads.{lead_is}
-use Rattle.fpl_check.proofs.RowLoops.{number_element}
 use Rattle.fpl_check.proofs.remainder.test_work_zero.Goals as goal
 
 pub at-requires : goal.at-requires
