@@ -20,6 +20,7 @@ way_of view.Gap = Some (Show shown.Gap)
 way_of view.Log = Some (Show shown.Log)
 way_of view.Equal = Some (Show shown.Equal)
 way_of view.Sample = Some (Show shown.Sample)
+way_of view.Cohomology = Some (Show shown.Cohomology)
 way_of view.Checkpoint = Some Write
 way_of view.Check = Some Check
 way_of _ = None

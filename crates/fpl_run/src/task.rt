@@ -35,6 +35,7 @@ pub(crate) fn way_of(view: View) -> Option<Way>
         View::Log => Some(Way::Show(Shown::Log)),
         View::Equal => Some(Way::Show(Shown::Equal)),
         View::Sample => Some(Way::Show(Shown::Sample)),
+        View::Cohomology => Some(Way::Show(Shown::Cohomology)),
         View::Checkpoint => Some(Way::Write),
         View::Check => Some(Way::Check),
         _ => None,

@@ -4,4 +4,5 @@ pub mod Queries
 pub mod AnswerLists
 pub mod Answers
 pub mod Derivations
+pub mod Cocycles
 pub mod Texts

@@ -5,5 +5,6 @@ pub mod Gap
 pub mod Log
 pub mod Equal
 pub mod Sample
+pub mod Cohomology
 pub mod Views
 pub mod Laws

@@ -15,13 +15,14 @@ use Rattle.fpl_print.specs.LogText.{log_text}
 use Rattle.fpl_print.specs.SampleText.{sample_text}
 use Rattle.fpl_reply.specs.declared.view_fault.ViewFault.{ViewFault}
 use Rattle.fpl_views.specs.declared.shown.Shown.{Shown}
-use Rattle.fpl_views.specs.declared.shown.Shown.TheVariants.{Table, Series, Gap, Log, Equal, Sample}
+use Rattle.fpl_views.specs.declared.shown.Shown.TheVariants.{Table, Series, Gap, Log, Equal, Sample, Cohomology}
 use Rattle.fpl_views.specs.Table.{ShowsTable}
 use Rattle.fpl_views.specs.Series.{ShowsSeries}
 use Rattle.fpl_views.specs.Gap.{ShowsGap}
 use Rattle.fpl_views.specs.Log.{ShowsLog}
 use Rattle.fpl_views.specs.Equal.{text_of_equal, ShowsEqual}
 use Rattle.fpl_views.specs.Sample.{ShowsSample}
+use Rattle.fpl_views.specs.Cohomology.{cohomology_text, ShowsCohomology}
 
 abbrev pub text_of_view : Shown → Presentation → PlainTable → List Section → Result (List ℕ) ViewFault
 text_of_view Table p T sections = Ok (table_text (names_of p) T)
@@ -30,6 +31,7 @@ text_of_view Gap p T sections = Ok (gap_text (names_of p) T)
 text_of_view Log p T sections = Ok (log_text (names_of p) T sections)
 text_of_view Equal p T sections = text_of_equal p T
 text_of_view Sample p T sections = Ok (sample_text T)
+text_of_view Cohomology p T sections = cohomology_text T
 
 abbrev pub Shows : Shown → Presentation → PlainTable → List Section → List ℕ → Type 0
 Shows Table p T sections text = ShowsTable p T text
@@ -38,6 +40,7 @@ Shows Gap p T sections text = ShowsGap p T text
 Shows Log p T sections text = ShowsLog p T sections text
 Shows Equal p T sections text = ShowsEqual p T text
 Shows Sample p T sections text = ShowsSample T text
+Shows Cohomology p T sections text = ShowsCohomology p T text
 
 abbrev pub IsOfTable : Shown → Type 0
 IsOfTable Table = Unit {0}
@@ -46,6 +49,7 @@ IsOfTable Gap = Unit {0}
 IsOfTable Log = ⊥
 IsOfTable Equal = Unit {0}
 IsOfTable Sample = Unit {0}
+IsOfTable Cohomology = Unit {0}
 
 abbrev pub IsCounted : Shown → Type 0
 IsCounted Table = Unit {0}
@@ -54,3 +58,4 @@ IsCounted Gap = Unit {0}
 IsCounted Log = Unit {0}
 IsCounted Equal = Unit {0}
 IsCounted Sample = Unit {0}
+IsCounted Cohomology = ⊥

@@ -1,6 +1,7 @@
 //! The views of a table: what each shows, and its text. Each view has a file of its own.
 #![tactic(auto)]
 
+mod cohomology;
 mod equal;
 mod gap;
 mod laws;

@@ -5,6 +5,7 @@ ghost use Rattle.fpl_model.specs.Sound.{IsSound};
 ghost use Rattle.fpl_table.specs.Standard.{IsTableOf};
 ghost use Rattle.fpl_views.specs.Views.{text_of_view, IsCounted};
 
+use crate::cohomology::show_cohomology;
 use crate::equal::show_equal;
 use crate::gap::show_gap;
 use crate::log::show_log;
@@ -35,6 +36,8 @@ pub enum Shown {
     Equal,
     /// How large the table is: the size of its basis and of each weight, and how many brackets aren't 0.
     Sample,
+    /// What represents H1 and H2, weight by weight.
+    Cohomology,
 }
 
 /// Why a view has no text.
@@ -70,5 +73,6 @@ pub fn show<F: Field, L: Ledger>(
         Shown::Log => show_log(alloc, p, table, sections),
         Shown::Equal => show_equal(alloc, p, table),
         Shown::Sample => show_sample(alloc, table),
+        Shown::Cohomology => show_cohomology(alloc, p, table, steps),
     }
 }

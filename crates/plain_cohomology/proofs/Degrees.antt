@@ -20,7 +20,7 @@ use Rattle.fpl_numbers.specs.Numbers.{IsField, IsElement, residue}
 use Rattle.fpl_numbers.specs.Kinds.{field_of, number_of}
 use Rattle.fpl_numbers.proofs.KindReads.{kind_reads}
 use Rattle.fpl_scalar.specs.Vectors.{AreElements}
-use Rattle.fpl_rows.specs.Meaning.{vector_in, row_in, pivot_in, IsRowOf, IsClosedList, InSpanOf}
+use Rattle.fpl_rows.specs.Meaning.{vector_in, row_in, pivot_in, IsRowOf, AreRows, IsClosedList, InSpanOf}
 use Rattle.fpl_rows.proofs.Fits.{ok_same}
 use Rattle.fpl_rows.proofs.Readings.{vector_past, at_place}
 use Rattle.fpl_table.specs.Plain.{PlainTable, table_in, entry_row}
@@ -69,18 +69,16 @@ past_row [] e l = refl
 past_row (x ∷ xs) zero l = absurd (omega arith)
 past_row (x ∷ xs) (suc e) l = past_row xs e (omega arith)
 
-module _ (T : PlainTable) (listed : IsField T.kind) (has : HasRows T) (weights : HasWeights T) (w : ℕ) (low : w ≤ T.weight) where
-  abbrev K : Field
-  K = field_of T.kind
-
+-- the numbers at places of rows
+module _ (T : PlainTable) (listed : IsField T.kind) where
   number_is : (row : List Num) (e : ℕ) → number_of T.kind (get_or row e (residue 0)) ≡ vector_in T.kind row e
   number_is row e = go (dec_lt e (length row))
     where
       go : Dec (e < length row) → number_of T.kind (get_or row e (residue 0)) ≡ vector_in T.kind row e
-      go (yes l) = sym (at_place T.kind K (number_of T.kind) (kind_reads T.kind listed) row e (residue 0) l)
+      go (yes l) = sym (at_place T.kind (field_of T.kind) (number_of T.kind) (kind_reads T.kind listed) row e (residue 0) l)
       go (no l) =
           ap (number_of T.kind) (past_row row e (omega arith)) ∙ (kind_reads T.kind listed).zero_is (residue 0) (units T listed).nought refl
-          ∙ sym (vector_past K (number_of T.kind) row e (omega arith))
+          ∙ sym (vector_past (field_of T.kind) (number_of T.kind) row e (omega arith))
 
   number_element : (row : List Num) (e : ℕ) → AreElements T.kind row → IsElement T.kind (get_or row e (residue 0))
   number_element row e are = go (dec_lt e (length row))
@@ -89,17 +87,42 @@ module _ (T : PlainTable) (listed : IsField T.kind) (has : HasRows T) (weights :
       go (yes l) = are e (residue 0) l
       go (no l) = subst (IsElement T.kind) (sym (past_row row e (omega arith))) (units T listed).nought
 
+-- rows of elements
+module _ (T : PlainTable) (listed : IsField T.kind) (has : HasRows T) (w : ℕ) (low : w ≤ T.weight) where
+  entry_element : (x : Symbol) → IsPair T w x → (e : ℕ) → IsElement T.kind (get_or (entry_of T x) e (residue 0))
+  entry_element x p e =
+      subst (λ y. IsElement T.kind (get_or (entry_of T y) e (residue 0))) (sym p.is)
+      (number_element T listed (entry_row T (left x) (right x)) e (has.entries (left x) (right x) p.first p.second p.regular
+          (let s = p.sum in omega arith)).elements)
+
+  pub one_is_row : (x : Symbol) → IsPair T w x → IsRowOf T.kind (length (singles T w)) (bracket_row T w x)
+  one_is_row x p =
+      map_row T.kind listed (λ e. get_or (entry_of T x) e (residue 0)) (singles T w) 0 (λ s l. entry_element x p (single_at T w s))
+
+  pub bound_is_row : (e : ℕ) → IsRowOf T.kind (length (pairs T w)) (coboundary_row T w e)
+  bound_is_row e =
+      map_row T.kind listed (λ x. get_or (entry_of T x) e (residue 0)) (pairs T w) (of_pair 0 0)
+      (λ s l. entry_element (pair_at T w s) (at_pair T w s l) e)
+
+  one_formed : AreFormed T.kind (length (singles T w)) (map (λ x. Ok (bracket_row T w x)) (pairs T w))
+  one_formed =
+      are_formed T.kind (length (singles T w)) (map (λ x. Ok (bracket_row T w x)) (pairs T w))
+      (λ row h. let r = among_map (λ x. Ok (bracket_row T w x)) (pairs T w) (of_pair 0 0) (Ok row) h in
+      subst (IsRowOf T.kind (length (singles T w))) (ok_same r.2) (one_is_row (pair_at T w r.0) (at_pair T w r.0 r.1)))
+
+  pub h1_rows : (rows : List (List Num)) → h1_of T w ≡ Ok rows → AreRows T.kind (length (singles T w)) rows
+  h1_rows rows e = (kernel_means T.kind listed (length (singles T w)) (map (λ x. Ok (bracket_row T w x)) (pairs T w)) rows one_formed e).0.are_rows
+
+module _ (T : PlainTable) (listed : IsField T.kind) (has : HasRows T) (weights : HasWeights T) (w : ℕ) (low : w ≤ T.weight) where
+  abbrev K : Field
+  K = field_of T.kind
+
   entry_number_is : (x : Symbol) → IsPair T w x → (e : ℕ) →
       number_of T.kind (get_or (entry_of T x) e (residue 0)) ≡ product K (table_in T.kind T) (left x) (right x) e
   entry_number_is x p e =
       ap (λ y. number_of T.kind (get_or (entry_of T y) e (residue 0))) p.is
-      ∙ number_is (entry_row T (left x) (right x)) e
+      ∙ number_is T listed (entry_row T (left x) (right x)) e
       ∙ ap (λ v. v e) (entry_is T listed w has weights (left x) (right x) p.regular (let s = p.sum in omega arith))
-
-  entry_element : (x : Symbol) → IsPair T w x → (e : ℕ) → IsElement T.kind (get_or (entry_of T x) e (residue 0))
-  entry_element x p e =
-      subst (λ y. IsElement T.kind (get_or (entry_of T y) e (residue 0))) (sym p.is)
-      (number_element (entry_row T (left x) (right x)) e (has.entries (left x) (right x) p.first p.second p.regular (let s = p.sum in omega arith)).elements)
 
   abbrev at_single : (x : Symbol) → ℕ → Num
   at_single x e = get_or (entry_of T x) e (residue 0)
@@ -183,18 +206,10 @@ module _ (T : PlainTable) (listed : IsField T.kind) (has : HasRows T) (weights :
       (is_formed T.kind Brackets1 (bracket_row T w (pair_at T w (pair_place T w h.0 h.1)))
       (map_among (λ x. Ok (bracket_row T w x)) (pairs T w) (of_pair 0 0) (pair_place T w h.0 h.1) l))
 
-  one_formed : AreFormed T.kind (length (singles T w)) Brackets1
-  one_formed =
-      are_formed T.kind (length (singles T w)) Brackets1
-      (λ row h. let r = among_map (λ x. Ok (bracket_row T w x)) (pairs T w) (of_pair 0 0) (Ok row) h in
-      subst (IsRowOf T.kind (length (singles T w))) (ok_same r.2)
-      (map_row T.kind listed (at_single (pair_at T w r.0)) (singles T w) 0
-      (λ s l. entry_element (pair_at T w r.0) (at_pair T w r.0 r.1) (single_at T w s))))
-
   pub h1_is : (P : Abstract K.Carrier) → ObeysLaw K P (table_in T.kind T) → (rows : List (List Num)) → h1_of T w ≡ Ok rows →
       RepresentsH1 K (table_in T.kind T) w (length rows) (form1 T.kind T w rows)
   h1_is P law rows e =
-      let k = kernel_means T.kind listed (length (singles T w)) Brackets1 rows one_formed e in
+      let k = kernel_means T.kind listed (length (singles T w)) Brackets1 rows (one_formed T listed has w low) e in
       low_represents1 K P (table_in T.kind T) law w (length (singles T w)) (single_at T w) (single_place (singles T w)) (singles_numbered T w)
       (length rows) (row_in T.kind rows) (pivot_in rows) k.0.closed
       (λ x. (
@@ -220,11 +235,6 @@ module _ (T : PlainTable) (listed : IsField T.kind) (has : HasRows T) (weights :
           ∙ sym (row2_past K (table_in T.kind T) w (length (pairs T w)) (λ s. left (pair_at T w s)) (λ s. right (pair_at T w s)) (pair_place T w)
           (pairs_numbered T w) (λ i j. product K (table_in T.kind T) i j e) s (omega arith))
 
-  bound_is_row : (e : ℕ) → IsRowOf T.kind (length (pairs T w)) (coboundary_row T w e)
-  bound_is_row e =
-      map_row T.kind listed (λ x. get_or (entry_of T x) e (residue 0)) (pairs T w) (of_pair 0 0)
-      (λ s l. entry_element (pair_at T w s) (at_pair T w s l) e)
-
   abbrev Bounds : List (Result (List Num) Unfit)
   Bounds = map (λ e. Ok (coboundary_row T w e)) (singles T w)
 
@@ -235,7 +245,7 @@ module _ (T : PlainTable) (listed : IsField T.kind) (has : HasRows T) (weights :
   bounds_formed =
       are_formed T.kind (length (pairs T w)) Bounds
       (λ row h. let r = among_map (λ e. Ok (coboundary_row T w e)) (singles T w) 0 (Ok row) h in
-      subst (IsRowOf T.kind (length (pairs T w))) (ok_same r.2) (bound_is_row (single_at T w r.0)))
+      subst (IsRowOf T.kind (length (pairs T w))) (ok_same r.2) (bound_is_row T listed has w low (single_at T w r.0)))
 
   bound_from : (v : Vector K) → IsFormed T.kind Bounds v → IsOneOf K (length (singles T w)) BoundAt v
   bound_from v h =

@@ -1,8 +1,9 @@
 -- H1 and H2 of a weight: what the plain run gives represents them.
-use Rattle.std.specs.Prelude.{◌≡◌, ◌≢◌, ℕ, zero, suc, ◌+◌, ◌<◌, ◌≤◌, List, [], ◌∷◌, ◌++◌, length, get_or, map, not, Bool, true, false, Result, Ok}
+use Rattle.std.specs.Prelude.{◌≡◌, ◌≢◌, ℕ, zero, suc, ◌+◌, ◌<◌, ◌≤◌, List, [], ◌∷◌, ◌++◌, length, get_or, map, not, Bool, true, false, All, Result, Ok}
 use mathlib.Core.Logic.{inl, inr}
 use mathlib.Core.Path.{sym, refl, ap, ap₂, ◌∙◌, fun_ext, subst}
 use native.Mathlib.Omega.{arith}
+use Rattle.std.proofs.lemmas.List.Elements.{All-nil, All-cons, All-append}
 use Rattle.math_fields.specs.Field.{Field}
 use Rattle.math_linear.specs.Vector.{Vector}
 use Rattle.math_linear.specs.Span.Spanned.{span_kind}
@@ -15,7 +16,8 @@ use Rattle.fpl_numbers.specs.declared.number.Unfit.{Unfit}
 use Rattle.fpl_numbers.specs.Numbers.{IsField}
 use Rattle.fpl_numbers.specs.Results.{and_then, map_ok}
 use Rattle.fpl_numbers.specs.Kinds.{field_of}
-use Rattle.fpl_rows.specs.Meaning.{vector_in, row_in, pivot_of, pivot_in, IsRowOf}
+use Rattle.fpl_scalar.specs.Vectors.{AreElements}
+use Rattle.fpl_rows.specs.Meaning.{vector_in, row_in, pivot_of, pivot_in, IsRowOf, AreRows}
 use Rattle.fpl_rows.proofs.Fits.{ok_same, first_fits, part_fits}
 use Rattle.fpl_model.specs.declared.presentation.Presentation.{Presentation}
 use Rattle.fpl_model.specs.Meaning.{presentation_in}
@@ -30,12 +32,12 @@ use Rattle.math_cohomology.specs.Forms.{Two, sum2, IsCocycle2, IsCoboundary2, Re
 use Rattle.math_cohomology.specs.Tuples.{two_of, cocycle_row2, IsCocycleRow2}
 use Rattle.math_cohomology.proofs.DegreeTwo.{low_represents2}
 use Rattle.plain_cohomology.specs.Plain.{Triple, singles, pairs, triples, single_place, triple_row, all_of, is_pivot, Low, h1_of, cocycles_of, coboundaries_of, chosen, low_with, low_of, lows_of}
-use Rattle.plain_cohomology.specs.Means.{form2, RepresentsLow, LowMeans, AreLows, LowsMean}
+use Rattle.plain_cohomology.specs.Means.{form2, RepresentsLow, LowMeans, HasElements, AreLows, LowsMean}
 use Rattle.plain_cohomology.proofs.Lists.{member_among}
 use Rattle.plain_cohomology.proofs.Tuples.{left, right, single_at, singles_numbered, pair_at, pair_place, pairs_numbered, triple_of, IsTriple, triple_is, is_triple_of}
 use Rattle.plain_cohomology.proofs.Triples.{triple_reads}
 use Rattle.plain_cohomology.proofs.Kept.{kept_slots, pivot_among, pivot_not, all_among, among_all}
-use Rattle.plain_cohomology.proofs.Degrees.{h1_is, bounds_are}
+use Rattle.plain_cohomology.proofs.Degrees.{h1_is, h1_rows, bounds_are}
 
 -- representatives are read below their count
 sum2_below : (K : Field) (n : ℕ) (c : ℕ → K.Carrier) (f g : ℕ → Two K) → ((k : ℕ) → k < n → f k ≡ g k) → sum2 K n c f ≡ sum2 K n c g
@@ -64,6 +66,11 @@ mapped : {X Y : Type 0} (f : X → Y) (xs : List X) (x : X) → Among xs x → A
 mapped f [] x h = absurd h
 mapped f (y ∷ ys) x (inl e) = inl (ap f e)
 mapped f (y ∷ ys) x (inr h) = inr (mapped f ys x h)
+
+defaults : {X : Type 0} (xs : List X) (k : ℕ) (d e : X) → k < length xs → get_or xs k d ≡ get_or xs k e
+defaults [] k d e l = absurd (omega arith)
+defaults (x ∷ xs) zero d e l = refl
+defaults (x ∷ xs) (suc k) d e l = defaults xs k d e (omega arith)
 
 not_true : (b : Bool) → not b ≡ true → b ≡ false
 not_true true e = absurd cc
@@ -118,6 +125,9 @@ module _ (T : PlainTable) (listed : IsField T.kind) (has : HasRows T) (weights :
         subst (IsFormed T.kind (map Ok formed)) (sym (h.6 ∙ sym (reads_row q.0 (triple_of T w h.0 h.1 h.2) t q.1).1))
         (is_formed T.kind (map Ok formed) q.0 (among_ok formed q.0 q.2))
 
+    two_rows : (cocycles : List (List Num)) → kernel_of T.kind (length (pairs T w)) (map Ok formed) ≡ Ok cocycles → AreRows T.kind (length (pairs T w)) cocycles
+    two_rows cocycles e = (kernel_means T.kind listed (length (pairs T w)) (map Ok formed) cocycles two_formed e).0.are_rows
+
     module _ (P : Abstract K.Carrier) (law : ObeysLaw K P (table_in T.kind T)) where
       h2_is : (cocycles bounds : List (List Num)) → kernel_of T.kind (length (pairs T w)) (map Ok formed) ≡ Ok cocycles →
           coboundaries_of T w ≡ Ok bounds →
@@ -149,6 +159,21 @@ module _ (T : PlainTable) (listed : IsField T.kind) (has : HasRows T) (weights :
               go : (b : Bool) → is_pivot bounds q ≡ b → not b ≡ true
               go true t = (let p = pivot_among bounds q t in absurd (h p.0 p.1 p.2))
               go false t = refl
+
+  pub low_elements : (l : Low) → low_of T w ≡ Ok l → HasElements T.kind l
+  low_elements l e =
+      let a = first_fits (λ h1. and_then (λ cocycles. map_ok (low_with h1 cocycles) (coboundaries_of T w)) (cocycles_of T w)) (h1_of T w) l e in
+      let b = first_fits (λ cocycles. map_ok (low_with a.0 cocycles) (coboundaries_of T w)) (cocycles_of T w) l a.1.1 in
+      let c = part_fits (low_with a.0 b.0) (coboundaries_of T w) l b.1.1 in
+      let d = first_fits (λ rows. kernel_of T.kind (length (pairs T w)) (map Ok rows)) (all_of (map (triple_row T w) (triples T w))) b.0 b.1.0 in
+      let rows = two_rows d.0 d.1.0 b.0 d.1.1 in
+      let s = kept_slots (λ r. not (is_pivot c.0 (pivot_of r))) b.0 [] in
+      subst (HasElements T.kind) (sym c.1.1)
+      (record {
+        first = λ k x m. (h1_rows T listed has w low a.0 a.1.0 k x m).elements;
+        second = λ k x m.
+        subst (AreElements T.kind) (sym (defaults (chosen b.0 c.0) k x [] m ∙ s.1.is k m)) (rows (s.0 k) [] (s.1.there k m).0).elements;
+      })
 
   pub low_is : (P : Abstract K.Carrier) → ObeysLaw K P (table_in T.kind T) → (l : Low) → low_of T w ≡ Ok l → RepresentsLow T.kind T w l
   low_is P law l e =
@@ -197,3 +222,18 @@ module _ (p : Presentation) (sound : IsSound p) (T : PlainTable) (for : IsTableF
 
 pub lows_mean : (p : Presentation) → LowsMean p
 lows_mean p sound T for law lows e = lows_to p sound T for law T.weight (omega arith) lows e
+
+module _ (T : PlainTable) (listed : IsField T.kind) (has : HasRows T) (weights : HasWeights T) where
+  pub lows_elements : (w : ℕ) → w ≤ T.weight → (lows : List Low) → lows_of T w ≡ Ok lows → (length lows ≡ w) × All (HasElements T.kind) lows
+  lows_elements zero l lows e =
+      subst (λ lows. (length lows ≡ 0) × All (HasElements T.kind) lows) (ok_same e) (refl, All-nil (HasElements T.kind))
+  lows_elements (suc w) l lows e =
+      let a = first_fits (λ lows. map_ok (λ low. lows ++ low ∷ []) (low_of T (suc w))) (lows_of T w) lows e in
+      let b = part_fits (λ low. a.0 ++ low ∷ []) (low_of T (suc w)) lows a.1.1 in
+      let h = lows_elements w (omega arith) a.0 a.1.0 in
+      subst (λ lows. (length lows ≡ suc w) × All (HasElements T.kind) lows) (sym b.1.1)
+      (
+        length_more a.0 b.0 ∙ ap suc h.0,
+        All-append (HasElements T.kind) a.0 (b.0 ∷ []) h.1
+        (All-cons (HasElements T.kind) b.0 [] (low_elements T listed has weights (suc w) l b.0 b.1.0) (All-nil (HasElements T.kind))),
+      )

@@ -67,7 +67,7 @@ abbrev pub no_pair : Symbol
 no_pair = of_pair 0 0
 
 module _ (T : PlainTable) (w : ℕ) where
-  single_is : (i : ℕ) → Among (singles T w) i → (i < length T.basis) × (weight T i ≡ w)
+  pub single_is : (i : ℕ) → Among (singles T w) i → (i < length T.basis) × (weight T i ≡ w)
   single_is i h =
       let r = among_joined (length T.basis) (single_cell T w) i h in
       let k = among_kept (nat_eq (weight T r.0) w) r.0 i r.2 in

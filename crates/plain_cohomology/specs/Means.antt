@@ -3,10 +3,11 @@
 --   form1, form2      the form that a row over the basis elements, or over the pairs, of a weight stands for
 --   RepresentsLow     the rows represent H1 and H2 of the weight: cocycles, of which each cocycle is a combination plus a coboundary, in one way only
 --   LowMeans p        what the plain run of a weight gives does
+--   HasElements       the numbers of the rows are canonical and fit
 --   AreLows           each represents its weight, the first of weight w, the next of the weight after it, and so on
 --   LowsMean p        what the plain run of all weights gives does
 --   LowsFit           over a prime every operation of the weights up to any fits
-use Rattle.std.specs.Prelude.{ℕ, suc, ◌≡◌, ◌≤◌, List, [], ◌∷◌, length, Ok}
+use Rattle.std.specs.Prelude.{ℕ, suc, ◌≡◌, ◌≤◌, List, [], ◌∷◌, length, All, Ok}
 use Rattle.math_algebra.specs.Table.{of_pair, ObeysLaw}
 use Rattle.math_algebra.specs.Symbols.{place_of}
 use Rattle.math_cohomology.specs.Forms.{One, Two, RepresentsH1, RepresentsH2}
@@ -15,6 +16,7 @@ use Rattle.fpl_numbers.specs.declared.number.Num.{Num}
 use Rattle.fpl_numbers.specs.declared.number.Kind.{Kind}
 use Rattle.fpl_numbers.specs.declared.number.Kind.TheVariants.{Prime}
 use Rattle.fpl_numbers.specs.Kinds.{field_of}
+use Rattle.fpl_scalar.specs.Vectors.{AreElements}
 use Rattle.fpl_rows.specs.Meaning.{row_in}
 use Rattle.fpl_model.specs.declared.presentation.Presentation.{Presentation}
 use Rattle.fpl_model.specs.Meaning.{presentation_in}
@@ -37,6 +39,10 @@ abbrev pub LowMeans : Presentation → Type 0
 LowMeans p =
     IsSound p → (T : PlainTable) → IsTableFor p T → ObeysLaw (field_of p.field) (presentation_in p) (table_in p.field T) →
     (w : ℕ) → w ≤ T.weight → (low : Low) → low_of T w ≡ Ok low → RepresentsLow p.field T w low
+
+pub record HasElements (k : Kind) (low : Low) : Type 0 where
+  pub first : All (AreElements k) low.h1
+  pub second : All (AreElements k) low.h2
 
 abbrev pub AreLows : Kind → PlainTable → ℕ → List Low → Type 0
 AreLows k T w [] = Unit {0}

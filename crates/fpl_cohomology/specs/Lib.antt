@@ -1,0 +1,4 @@
+pub mod Forms
+pub mod Pairs
+pub mod Rows
+pub mod Text
