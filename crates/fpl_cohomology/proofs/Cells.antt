@@ -1,5 +1,5 @@
 -- The tuples of a weight, cell by cell.
-use Rattle.std.proofs.Common.{◌≡◌, ◌≢◌, ◌≤◌, ◌<◌, ◌+◌, ◌-◌, ◌*◌, ◌/◌, ◌++◌, ◌⊎◌, inl, inr, ℕ, suc, List, [], ◌∷◌, length, max, cond, Bool, true, false, nat_eq, ◌&&◌, refl, ap, ap₂, sym, ◌∙◌, arith}
+use Rattle.std.proofs.Common.{◌≡◌, ◌≢◌, ◌≤◌, ◌<◌, ◌+◌, ◌-◌, ◌/◌, ◌++◌, ◌⊎◌, inl, inr, ℕ, [], ◌∷◌, length, max, cond, Bool, true, false, nat_eq, ◌&&◌, refl, ap, ap₂, ◌∙◌, arith}
 use Rattle.std.proofs.lemmas.Bool.Decides.{nat_tests}
 use Rattle.math_linear.specs.Lists.{joined}
 use Rattle.math_algebra.specs.Symbols.{is_odd, is_regular}
@@ -8,7 +8,7 @@ use Rattle.fpl_rewrite.specs.Rows.{entry_by, entry_if}
 use Rattle.fpl_table.specs.Shape.{HasShape}
 use Rattle.fpl_table.proofs.Lists.{nat_split}
 use Rattle.fpl_table.proofs.Weights.{through_below, through_above, through_within}
-use Rattle.plain_cohomology.specs.Plain.{Triple, single_cell, singles, is_triple, third_cell, second_cell, first_cell, triples}
+use Rattle.plain_cohomology.specs.Plain.{single_cell, singles, is_triple, third_cell, second_cell, first_cell, triples}
 use Rattle.fpl_cohomology.proofs.Ranges.{joined_one, joined_none, joined_to, joined_few}
 
 module _ (T : PlainTable) (shape : HasShape T) where

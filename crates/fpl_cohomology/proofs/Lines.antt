@@ -1,6 +1,6 @@
 -- Lines one after the other, and pivots looked for one after the other.
 use Rattle.std.specs.Prelude.{◌≡◌, ◌≢◌, ℕ, suc, ◌+◌, ◌≤◌, List, [], ◌∷◌, ◌++◌, length, drop, slice_get, get_or, Some, None, Result, Ok, Err, OnOk, zero, true, false, Bool, cond, not, nat_eq}
-use Rattle.std.proofs.Common.{append_assoc, append-nil, add-one, refl, sym, ap, ap₂, ◌∙◌, arith}
+use Rattle.std.proofs.Common.{append_assoc, append-nil, add-one, refl, sym, ap, ◌∙◌, arith}
 use Rattle.fpl_numbers.specs.declared.number.Num.{Num}
 use Rattle.fpl_rows.specs.Meaning.{pivot_of}
 use Rattle.fpl_log.proofs.TermsTaken.{drop_next, past_end}

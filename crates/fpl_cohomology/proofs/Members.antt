@@ -1,18 +1,16 @@
 -- What stands at a place of a list of tuples.
-use Rattle.std.proofs.Common.{◌≡◌, ◌≤◌, ◌<◌, ◌+◌, ◌^◌, ◌*◌, ◌⊎◌, inl, inr, ℕ, zero, suc, List, [], ◌∷◌, length, map, get_or, cond, Bool, true, false, refl, ap, sym, subst, ◌∙◌, arith}
-use Rattle.math_algebra.specs.Tree.{odd}
-use Rattle.math_algebra.specs.Table.{Symbol, of_generator, of_pair, IsRegular}
+use Rattle.std.proofs.Common.{◌≡◌, ◌≤◌, ◌<◌, ◌+◌, ◌^◌, inl, inr, ℕ, zero, suc, List, [], ◌∷◌, length, map, get_or, cond, Bool, true, false, ap, sym, subst, ◌∙◌, arith}
+use Rattle.math_algebra.specs.Table.{Symbol, IsRegular}
 use Rattle.math_algebra.specs.Symbols.{is_odd, no_symbol}
 use Rattle.fpl_rows.specs.Meaning.{IsRowOf}
 use Rattle.fpl_table.specs.Shape.{HasShape}
 use Rattle.fpl_table.specs.Plain.{PlainTable, plain_basis, first_partner, table_in}
-use Rattle.fpl_table.proofs.Lists.{at_default}
 use Rattle.plain_spans.proofs.Among.{Among}
 use Rattle.plain_cohomology.specs.Plain.{Triple, singles, pairs, triples, bracket_row, coboundary_row}
 use Rattle.plain_sources.proofs.Laws.{rows_of_shape}
 use Rattle.plain_cohomology.proofs.Degrees.{one_is_row, bound_is_row}
 use Rattle.plain_cohomology.proofs.Lists.{member_among}
-use Rattle.plain_cohomology.proofs.Tuples.{single_is, IsPair, pair_is, IsTriple, triple_is, left, right}
+use Rattle.plain_cohomology.proofs.Tuples.{single_is, pair_is, triple_is, left, right}
 use Rattle.fpl_cohomology.specs.declared.triples.Places as code
 use Rattle.fpl_cohomology.specs.Forms.{triple_in}
 use Rattle.fpl_cohomology.specs.Rows.{IsPairOf, IsTripleOf}

@@ -1,6 +1,6 @@
 -- The parts of the cohomology of a weight, one after the other.
-use Rattle.std.specs.Prelude.{◌≡◌, ℕ, List, [], ◌∷◌, length, map, Result, Ok, Err}
-use Rattle.std.proofs.Common.{refl, sym, ap, subst, ◌∙◌}
+use Rattle.std.specs.Prelude.{◌≡◌, ℕ, List, [], ◌∷◌, map, Result, Ok, Err}
+use Rattle.std.proofs.Common.{sym, ap, subst, ◌∙◌}
 use Rattle.fpl_numbers.specs.declared.number.Num.{Num}
 use Rattle.fpl_numbers.specs.declared.number.Kind.{Kind}
 use Rattle.fpl_numbers.specs.declared.number.Unfit.{Unfit}
@@ -12,7 +12,7 @@ use Rattle.fpl_table.specs.Plain.{PlainTable}
 use Rattle.plain_spans.specs.Plain.{begin, put_rows, closed_of, span_of, kernel_by, kernel_of}
 use Rattle.plain_spans.specs.Means.{AreAllFormed}
 use Rattle.plain_spans.proofs.Putting.{fault_part, fault_first, fault_then}
-use Rattle.plain_cohomology.specs.Plain.{Low, all_of, chosen, low_with, h1_of, cocycles_of, coboundaries_of, low_of}
+use Rattle.plain_cohomology.specs.Plain.{all_of, chosen, low_with, h1_of, cocycles_of, coboundaries_of, low_of}
 use Rattle.plain_cohomology.proofs.Fitting.{all_of_formed}
 use Rattle.fpl_cohomology.specs.Rows.{low_as}
 

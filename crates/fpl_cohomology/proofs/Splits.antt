@@ -1,5 +1,5 @@
 -- The pairs of a weight stand behind its generators.
-use Rattle.std.proofs.Common.{◌≡◌, ◌≤◌, ◌<◌, ◌+◌, ◌++◌, ℕ, zero, suc, List, [], ◌∷◌, length, drop, get_or, Some, cond, Bool, true, false, nat_eq, refl, ap, sym, ◌∙◌, arith}
+use Rattle.std.proofs.Common.{◌≡◌, ◌≤◌, ◌<◌, ◌+◌, ◌++◌, ℕ, zero, suc, List, [], ◌∷◌, length, drop, get_or, cond, Bool, true, false, nat_eq, refl, ap, ◌∙◌, arith}
 use Rattle.math_linear.specs.Lists.{joined}
 use Rattle.math_algebra.specs.Table.{Symbol, of_generator, of_pair}
 use Rattle.math_algebra.specs.Symbols.{symbols_of, generators_of, pairs_of, is_pair_of, place_of, no_symbol}

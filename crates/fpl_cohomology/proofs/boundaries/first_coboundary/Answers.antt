@@ -1,8 +1,8 @@
-use Rattle.std.proofs.Common.{◌≡◌, ◌∙◌, ap, sym, arith, map}
+use Rattle.std.proofs.Common.{arith}
 use Rattle.math_algebra.specs.Symbols.{no_symbol}
 use Rattle.fpl_table.specs.Plain.{symbol_in}
 use Rattle.plain_cohomology.specs.Plain.{bracket_row}
-use Rattle.fpl_cohomology.proofs.Ranges.{pushed, pushed_all}
+use Rattle.fpl_cohomology.proofs.Ranges.{pushed}
 use Rattle.fpl_cohomology.proofs.Members.{pair_at}
 use Rattle.fpl_cohomology.proofs.boundaries.first_coboundary.Goals as goal
 

@@ -1,4 +1,4 @@
-use Rattle.std.proofs.Common.{◌≡◌, ◌+◌, ◌∙◌, Ok, ap, sym, refl, subst, arith, map}
+use Rattle.std.proofs.Common.{◌≡◌, ◌+◌, ◌∙◌, Ok, ap, sym, subst, arith, map}
 use Rattle.fpl_numbers.specs.Results.{IsFault}
 use Rattle.plain_cohomology.specs.Plain.{triples, triple_row, all_of}
 use Rattle.fpl_cohomology.specs.Forms.{triple_in}

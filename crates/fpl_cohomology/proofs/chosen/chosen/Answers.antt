@@ -1,4 +1,4 @@
-use Rattle.std.proofs.Common.{◌≡◌, ◌∙◌, sym, arith}
+use Rattle.std.proofs.Common.{◌∙◌, arith}
 use Rattle.fpl_echelon.proofs.Spanning.{none_left}
 use Rattle.fpl_cohomology.proofs.Lines.{chosen_next}
 use Rattle.fpl_cohomology.proofs.chosen.chosen.Goals as goal

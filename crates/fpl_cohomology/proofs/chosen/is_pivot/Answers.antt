@@ -1,4 +1,4 @@
-use Rattle.std.proofs.Common.{◌≡◌, ◌∙◌, sym, arith}
+use Rattle.std.proofs.Common.{◌∙◌, sym, arith}
 use Rattle.fpl_echelon.proofs.Spanning.{none_left}
 use Rattle.fpl_cohomology.proofs.Lines.{pivot_here, pivot_next}
 use Rattle.fpl_cohomology.proofs.chosen.is_pivot.Goals as goal

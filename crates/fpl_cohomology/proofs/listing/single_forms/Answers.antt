@@ -1,4 +1,4 @@
-use Rattle.std.proofs.Common.{◌≡◌, ◌∙◌, ap, sym, arith, map}
+use Rattle.std.proofs.Common.{◌∙◌, ap, arith, map}
 use Rattle.fpl_cohomology.specs.Forms.{single_tuple}
 use Rattle.fpl_cohomology.proofs.Ranges.{pushed, pushed_all}
 use Rattle.fpl_cohomology.proofs.Members.{single_small}

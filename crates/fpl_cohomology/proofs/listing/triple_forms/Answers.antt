@@ -1,4 +1,4 @@
-use Rattle.std.proofs.Common.{◌≡◌, ◌∙◌, ap, sym, arith, map}
+use Rattle.std.proofs.Common.{◌∙◌, ap, arith, map}
 use Rattle.fpl_cohomology.specs.Forms.{triple_tuple, triple_in}
 use Rattle.fpl_cohomology.proofs.Ranges.{pushed, pushed_all}
 use Rattle.fpl_cohomology.proofs.Putting.{map_twice}

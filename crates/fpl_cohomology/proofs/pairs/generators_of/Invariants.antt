@@ -1,4 +1,4 @@
-use Rattle.std.proofs.Common.{◌≡◌, ◌≤◌, ◌+◌, length, drop}
+use Rattle.std.proofs.Common.{◌≡◌, ◌+◌, drop}
 use Rattle.fpl_cohomology.specs.Pairs.{leading_generators}
 use Rattle.fpl_cohomology.proofs.pairs.generators_of.Given as goal
 

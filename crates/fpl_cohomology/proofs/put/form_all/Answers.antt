@@ -1,4 +1,4 @@
-use Rattle.std.proofs.Common.{◌≡◌, ◌∙◌, Ok, ap, sym, refl, subst, arith, map}
+use Rattle.std.proofs.Common.{◌≡◌, ◌∙◌, ap, subst, arith, map}
 use Rattle.fpl_numbers.specs.Results.{IsFault}
 use Rattle.fpl_numbers.specs.declared.number.Kind.TheVariants.{Prime}
 use Rattle.plain_cohomology.proofs.Fitting.{triples_formed}

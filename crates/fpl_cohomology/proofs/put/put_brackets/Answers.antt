@@ -1,4 +1,4 @@
-use Rattle.std.proofs.Common.{◌≡◌, ◌∙◌, Ok, ap, sym, refl, subst, arith, map}
+use Rattle.std.proofs.Common.{◌≡◌, ◌∙◌, Ok, ap, sym, subst, arith, map}
 use Rattle.fpl_numbers.specs.Results.{IsFault}
 use Rattle.plain_spans.specs.Plain.{put_rows}
 use Rattle.math_algebra.specs.Symbols.{no_symbol}

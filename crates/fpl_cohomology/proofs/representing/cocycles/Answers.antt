@@ -1,4 +1,4 @@
-use Rattle.std.proofs.Common.{◌≡◌, List, sym, subst, length, map}
+use Rattle.std.proofs.Common.{List, sym, subst, length, map}
 use Rattle.fpl_numbers.specs.declared.number.Num.{Num}
 use Rattle.fpl_numbers.specs.Results.{GivesBy}
 use Rattle.plain_cohomology.specs.Plain.{pairs, triples, triple_row}

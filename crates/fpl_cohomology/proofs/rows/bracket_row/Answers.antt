@@ -1,9 +1,9 @@
-use Rattle.std.proofs.Common.{◌≡◌, ◌∷◌, [], ◌∙◌, ap, sym, arith, length, length-append, map, get_or}
+use Rattle.std.proofs.Common.{◌∷◌, [], ◌∙◌, ap, arith, length, length-append, map, get_or}
 use Rattle.std.proofs.lemmas.List.{map-append}
 use Rattle.fpl_numbers.specs.Numbers.{residue}
 use Rattle.fpl_table.specs.Plain.{symbol_in}
 use Rattle.plain_cohomology.specs.Plain.{entry_of}
-use Rattle.fpl_cohomology.proofs.Ranges.{pushed, pushed_all}
+use Rattle.fpl_cohomology.proofs.Ranges.{pushed}
 use Rattle.fpl_cohomology.proofs.rows.bracket_row.Goals as goal
 
 pub loop-k-preserved : goal.loop-k-preserved

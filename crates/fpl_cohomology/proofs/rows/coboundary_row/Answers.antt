@@ -1,10 +1,10 @@
-use Rattle.std.proofs.Common.{◌≡◌, ◌∷◌, [], ◌∙◌, ap, sym, arith, length, length-append, map, get_or}
+use Rattle.std.proofs.Common.{◌∷◌, [], ◌∙◌, ap, arith, length, length-append, map, get_or}
 use Rattle.std.proofs.lemmas.List.{map-append}
 use Rattle.math_algebra.specs.Symbols.{no_symbol}
 use Rattle.fpl_numbers.specs.Numbers.{residue}
 use Rattle.fpl_table.specs.Plain.{symbol_in}
 use Rattle.plain_cohomology.specs.Plain.{entry_of}
-use Rattle.fpl_cohomology.proofs.Ranges.{pushed, pushed_all}
+use Rattle.fpl_cohomology.proofs.Ranges.{pushed}
 use Rattle.fpl_cohomology.proofs.Members.{pair_at}
 use Rattle.fpl_cohomology.proofs.rows.coboundary_row.Goals as goal
 

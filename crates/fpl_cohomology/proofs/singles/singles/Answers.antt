@@ -1,4 +1,4 @@
-use Rattle.std.proofs.Common.{◌≡◌, ◌++◌, ◌∷◌, [], ◌∙◌, ap, sym, arith}
+use Rattle.std.proofs.Common.{◌++◌, ◌∷◌, [], ◌∙◌, ap, sym, arith}
 use Rattle.math_linear.specs.Lists.{joined}
 use Rattle.plain_cohomology.specs.Plain.{single_cell}
 use Rattle.fpl_cohomology.proofs.Cells.{singles_first, singles_more, singles_last, singles_few}

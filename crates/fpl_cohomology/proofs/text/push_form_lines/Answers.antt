@@ -1,6 +1,6 @@
-use Rattle.std.proofs.Common.{◌≡◌, ◌∙◌, ap, sym, arith}
+use Rattle.std.proofs.Common.{◌∙◌, ap, arith}
 use Rattle.fpl_echelon.proofs.Spanning.{none_left}
-use Rattle.fpl_cohomology.proofs.Lines.{line_next, lines_done}
+use Rattle.fpl_cohomology.proofs.Lines.{line_next}
 use Rattle.fpl_cohomology.proofs.text.push_form_lines.Goals as goal
 use Rattle.fpl_cohomology.proofs.text.push_form_lines.Goals.{in-Some+in_ok-push_form_line, in_default}
 

@@ -1,9 +1,9 @@
-use Rattle.std.proofs.Common.{◌≡◌, ◌∙◌, ap, sym, arith}
+use Rattle.std.proofs.Common.{◌∙◌, ap, sym, arith}
 use Rattle.fpl_table.proofs.Lists.{all_get}
 use Rattle.plain_cohomology.specs.Means.{HasElements}
 use Rattle.fpl_echelon.proofs.Spanning.{none_left}
 use Rattle.fpl_cohomology.specs.Rows.{low_as}
-use Rattle.fpl_cohomology.proofs.Lines.{low_next, lows_done}
+use Rattle.fpl_cohomology.proofs.Lines.{low_next}
 use Rattle.fpl_cohomology.proofs.text.push_lows.Goals as goal
 use Rattle.fpl_cohomology.proofs.text.push_lows.Goals.{in-Some+in_ok-push_low, in_default}
 

@@ -1,4 +1,4 @@
-use Rattle.std.proofs.Common.{◌≡◌, ◌≤◌, ◌+◌, ◌-◌, ◌/◌, ◌++◌, ◌∙◌, refl, ap, sym, arith, length, append-nil, append_assoc}
+use Rattle.std.proofs.Common.{◌≡◌, ◌-◌, ◌/◌, ◌∙◌, refl, ap, sym, arith, append-nil, append_assoc}
 use Rattle.math_linear.specs.Lists.{joined}
 use Rattle.fpl_table.specs.Shape.{HasShape}
 use Rattle.fpl_table.specs.Plain.{plain_basis, through}

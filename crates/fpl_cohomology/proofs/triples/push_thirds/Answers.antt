@@ -1,4 +1,4 @@
-use Rattle.std.proofs.Common.{◌≡◌, ◌≤◌, ◌+◌, ◌-◌, ◌++◌, ◌∷◌, [], ℕ, ◌∙◌, refl, ap, sym, arith, length, append-nil, append_assoc}
+use Rattle.std.proofs.Common.{◌≤◌, ◌+◌, ◌-◌, ℕ, refl, sym, arith, length, append-nil, append_assoc}
 use Rattle.std.proofs.lemmas.List.{map-append}
 use Rattle.fpl_table.specs.Shape.{HasShape}
 use Rattle.fpl_table.specs.Plain.{first_partner, through}

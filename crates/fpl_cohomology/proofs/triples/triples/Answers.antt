@@ -1,4 +1,4 @@
-use Rattle.std.proofs.Common.{◌≡◌, ◌+◌, ◌/◌, ◌∙◌, refl, ap, sym, arith, append_assoc}
+use Rattle.std.proofs.Common.{◌/◌, refl, arith}
 use Rattle.math_linear.specs.Lists.{joined}
 use Rattle.fpl_table.proofs.Weights.{through_below}
 use Rattle.fpl_cohomology.proofs.Cells.{firsts_more, firsts_last}

@@ -1,4 +1,4 @@
-use Rattle.std.proofs.Common.{◌≡◌, arith}
+use Rattle.std.proofs.Common.{arith}
 use Rattle.fpl_cohomology.specs.Rows.{low_as}
 use Rattle.fpl_cohomology.proofs.Putting.{lows_next, lows_stop}
 use Rattle.fpl_cohomology.proofs.weights.lows.Goals as goal

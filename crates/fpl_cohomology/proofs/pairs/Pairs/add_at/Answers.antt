@@ -1,4 +1,4 @@
-use Rattle.std.proofs.Common.{◌-◌, arith, drop}
+use Rattle.std.proofs.Common.{◌-◌, arith}
 use Rattle.math_algebra.specs.Table.{of_pair}
 use Rattle.math_algebra.specs.Symbols.{place_of}
 use Rattle.fpl_table.proofs.Nought.{add_past}

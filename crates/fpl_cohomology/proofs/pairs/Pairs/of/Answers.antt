@@ -1,4 +1,4 @@
-use Rattle.std.proofs.Common.{◌≡◌, ◌∙◌, ap, sym, subst, drop}
+use Rattle.std.proofs.Common.{◌∙◌, ap, sym, subst, drop}
 use Rattle.fpl_cohomology.specs.Pairs.{leading_generators, IsSplit}
 use Rattle.fpl_cohomology.proofs.Splits.{split_leads, pairs_behind}
 use Rattle.fpl_cohomology.proofs.pairs.Pairs.of.Goals as goal
