@@ -1,10 +1,9 @@
 -- What a map text gives is an assignment.
-use Rattle.std.proofs.Common.{◌≡◌, ◌<◌, ◌≤◌, ◌+◌, ◌-◌, ◌*◌, ◌/◌, ◌%◌, ℕ, zero, suc, List, [], ◌∷◌, ◌++◌, length, get_or, map, refl, sym, ap, ap₂, ◌∙◌, subst, arith, append_assoc, inl, inr}
-use Rattle.std.specs.Prelude.{◌⊎◌, All, Result, Ok, Err, Bool, true, false, ◌&&◌, ◌||◌, nat_eq, nat_lt, nat_le, if◌then◌else◌, codes}
+use Rattle.std.proofs.Common.{◌≡◌, ◌<◌, ◌≤◌, ◌+◌, ◌-◌, ◌*◌, ◌/◌, ◌%◌, ℕ, zero, suc, List, [], ◌∷◌, ◌++◌, length, get_or, map, refl, sym, ap, ◌∙◌, subst, arith, append_assoc, inl, inr}
+use Rattle.std.specs.Prelude.{◌⊎◌, All, Ok, Err, Bool, true, false, ◌&&◌, ◌||◌, nat_eq, nat_lt, nat_le, if◌then◌else◌, codes}
 use Rattle.std.proofs.lemmas.List.{length-append, length-map, get_or_append_left, get_or-append_right}
 use Rattle.std.proofs.lemmas.Grind.{get_or_default_zero}
 use native.Mathlib.Decide.{dec_lt}
-use Rattle.fpl_lanes.specs.Lanes.{AllBelow}
 use Rattle.fpl_numbers.specs.Results.{and_then, map_ok}
 use Rattle.fpl_numbers.specs.declared.number.Kind.TheVariants.{Prime}
 use Rattle.fpl_numbers.specs.Numbers.{IsListed}
@@ -15,11 +14,10 @@ use Rattle.fpl_model.specs.declared.presentation.Presentation.{Presentation}
 use Rattle.fpl_model.specs.declared.presentation.Generator.{Generator}
 use Rattle.fpl_model.specs.Meaning.{parity_in, generator_in}
 use Rattle.plain_matrices.specs.Plain.{PlainMatrix, IsSquare}
-use Rattle.plain_matrices.specs.Relations.{AreMatricesOf}
 use Rattle.fpl_matrices.specs.declared.fault.MapError.{MapError}
-use Rattle.fpl_matrices.specs.Matrices.{Assigned, IsShape, IsAssignment, prime_in, numbers_in}
-use Rattle.fpl_matrices.specs.MapText.{Read, read_as, start_of, sized, is_size, judged, matrix_with, assigned, read_word, read_number, read_even, read_odd, read_entry, read_entries, read_matrix, read_matrices, read_end, map_of}
-use Rattle.fpl_matrices.proofs.Steps.{Passed, passed, Mapped, mapped, test_passed, ok_value, no_err}
+use Rattle.fpl_matrices.specs.Matrices.{Assigned, IsShape, IsAssignment, prime_in}
+use Rattle.fpl_matrices.specs.MapText.{Read, start_of, sized, is_size, judged, matrix_with, assigned, read_word, read_number, read_even, read_odd, read_entry, read_entries, read_matrix, read_matrices, read_end, map_of}
+use Rattle.fpl_matrices.proofs.Steps.{passed, mapped, test_passed, ok_value, no_err}
 
 pub same_is : (s t : Parity) → same_parity s t ≡ true → s ≡ t
 same_is even even e = refl

@@ -1,6 +1,6 @@
 -- Numbers of a text, digit by digit.
-use Rattle.std.proofs.Common.{◌≡◌, ◌<◌, ◌≤◌, ◌+◌, ◌-◌, ◌*◌, ℕ, zero, suc, List, [], ◌∷◌, length, drop, get_or, refl, sym, ap, ap₂, ◌∙◌, subst, arith, min}
-use Rattle.std.specs.Prelude.{Bool, true, false, not, ◌&&◌, ◌||◌, nat_eq, nat_le, if◌then◌else◌, Option, Some, None}
+use Rattle.std.proofs.Common.{◌≡◌, ◌≤◌, ◌+◌, ◌-◌, ◌*◌, ℕ, List, [], ◌∷◌, sym, ap, ◌∙◌, arith, min}
+use Rattle.std.specs.Prelude.{true, false, ◌&&◌}
 use Rattle.std.specs.List.{list_all}
 use native.Mathlib.Decide.{dec_le}
 use Rattle.fpl_matrices.specs.MapText.{is_digit, value_after}
@@ -33,9 +33,6 @@ digits_of b bs l m = ap (λ t. t && list_all is_digit bs) (is_one b l m)
   where
     is_one : (b : ℕ) → 48 ≤ b → b ≤ 57 → is_digit b ≡ true
     is_one b l m = grind arith
-
-pub no_digit : (b : ℕ) (bs : List ℕ) → is_digit b ≡ false → list_all is_digit (b ∷ bs) ≡ false
-no_digit b bs e = ap (λ t. t && list_all is_digit bs) e
 
 pub min_most : (n : ℕ) → min 65536 n ≤ 65536
 min_most n = grind arith

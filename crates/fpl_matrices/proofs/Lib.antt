@@ -1,8 +1,7 @@
 mod Digits
-mod Runs
 mod Steps
 mod Assigned
-mod Sizes
 mod Sound
 mod Faults
 mod Entries
+mod Meant

@@ -1,12 +1,12 @@
 -- What the code needs of sound matrices: bounds of the prime, rows, and matrices that it makes.
-use Rattle.std.proofs.Common.{◌≡◌, ◌<◌, ◌≤◌, ◌+◌, ◌-◌, ◌*◌, ◌/◌, ◌%◌, ◌^◌, ℕ, zero, suc, List, [], ◌∷◌, ◌++◌, length, get_or, take, drop, replicate, refl, sym, ap, ap₂, ◌∙◌, subst, arith}
-use Rattle.std.specs.Prelude.{Bool, true, false, All, map, nat_le, slice_get, Some, sum, sum_by, Result, Ok, Err, IfOk}
+use Rattle.std.proofs.Common.{◌≡◌, ◌<◌, ◌≤◌, ◌+◌, ◌-◌, ◌*◌, ◌%◌, ◌^◌, ℕ, List, [], ◌∷◌, ◌++◌, length, get_or, take, drop, refl, sym, ap, ap₂, ◌∙◌, subst, arith}
+use Rattle.std.specs.Prelude.{true, map, nat_le, slice_get, Some, sum, sum_by, Result, Ok, Err, IfOk}
 use Rattle.std.proofs.Math.Seq.{take-append_seam}
 use Rattle.std.proofs.lemmas.List.Sums.{sum-map, sum_by-cons}
 use Rattle.std.proofs.lemmas.Option.{get_or_from_slice_get}
 use Rattle.std.proofs.lemmas.List.Elements.{All-contains}
 use Rattle.std.proofs.lemmas.List.Sums.{AllPass-from_list_all}
-use Rattle.std.proofs.lemmas.List.{length-replicate, get_or-replicate, length-map, get_or-map}
+use Rattle.std.proofs.lemmas.List.{length-map, get_or-map}
 use Rattle.fpl_lanes.specs.Lanes.{AllBelow, added, multiplied}
 use Rattle.fpl_numbers.specs.declared.number.Num.{Num}
 use Rattle.fpl_numbers.specs.declared.number.Kind.TheVariants.{Prime}
@@ -19,11 +19,10 @@ use Rattle.fpl_model.specs.Sound.{IsTerm, count_equation}
 use Rattle.fpl_model.specs.Sound.{IsSound as IsSoundPresentation}
 use Rattle.fpl_model.proofs.Terms.{term_within}
 use Rattle.math_algebra.specs.Tree.{Tree, gen}
-use Rattle.plain_matrices.specs.Plain.{PlainMatrix, IsSquare, IsMatrix, size_of, row_at, turned, bracket_row, bracket_numbers, zeros, numbers_of}
-use Rattle.plain_matrices.specs.Relations.{AreMatricesOf}
-use Rattle.plain_matrices.proofs.Entries.{length_row, below_row, length_turned, turned_below, length_added, all_below}
+use Rattle.plain_matrices.specs.Plain.{PlainMatrix, IsSquare, size_of, row_at, turned}
+use Rattle.plain_matrices.proofs.Entries.{length_row, below_row, length_turned, turned_below, length_added}
 use Rattle.plain_matrices.proofs.Respect.{brackets_mean, numbers_mean}
-use Rattle.fpl_matrices.specs.Matrices.{IsShape, IsSound, AreAlike, bracket_of, with_numbers, Assigned, IsAssignment, numbers_in, prime_in, matrix_at}
+use Rattle.fpl_matrices.specs.Matrices.{IsSound, AreAlike, bracket_of, with_numbers, Assigned, IsAssignment, numbers_in, prime_in, matrix_at}
 
 -- the accepted primes are from 3 to 65521
 pub listed_least : (p : ℕ) → IsListed p → 3 ≤ p
@@ -35,9 +34,6 @@ pub listed_most : (p : ℕ) → IsListed p → p ≤ 65521
 listed_most p h =
     let t : nat_le p 65521 ≡ true = All-contains (λ q. nat_le q 65521 ≡ true) accepted_primes p (AllPass-from_list_all (λ q. nat_le q 65521) accepted_primes refl) h in
     grind arith
-
-pub square_of : (x : PlainMatrix) → IsSound x → IsSquare x.prime (size_of x) x.numbers
-square_of x s = s.matrix.square
 
 -- rows
 pub row_length : (x : PlainMatrix) (k : ℕ) → IsSound x → k < size_of x → length (row_at (size_of x) x.numbers k) ≡ size_of x

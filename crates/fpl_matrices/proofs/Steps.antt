@@ -1,5 +1,5 @@
 -- Results in turn.
-use Rattle.std.proofs.Common.{◌≡◌, refl, sym, ap, ◌∙◌, subst}
+use Rattle.std.proofs.Common.{◌≡◌, refl}
 use Rattle.std.specs.Prelude.{Result, Ok, Err, Bool, true, false, if◌then◌else◌}
 use Rattle.fpl_numbers.specs.Results.{and_then, map_ok}
 

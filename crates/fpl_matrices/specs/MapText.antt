@@ -3,10 +3,13 @@
 --   is_blank b              a tab, a line end, a carriage return or a space
 --   start_of, end_of        where the first piece from a place on begins, or the end of the bytes where there is none; and where it ends
 --   piece_of                its bytes; none where there is no piece
+--   is_spelled text         something, and no leading zero
 --   is_number text          decimal digits without a leading zero
 --   value_of text           the value of digits
 --   capped                  a value, or 65536 where it is more
 --   Read                    a value that was read, and the place after it
+--   sized, judged           a number that passes as a size, and as the number at a place
+--   matrix_with, assigned   a matrix with the numbers that were read, and a shape with the matrices
 --   read_word               a given word
 --   read_number             a number
 --   read_even, read_odd     how many rows are even, and how many odd: each at most 32, and together from 1 to 32
@@ -19,7 +22,7 @@
 --
 -- A piece that is missing is a piece that isn't what stands there, at the end of the bytes. At one piece syntax comes before size, and before number and
 -- parity, in this order.
-use Rattle.std.specs.Prelude.{ℕ, zero, suc, ◌≡◌, ◌+◌, ◌-◌, ◌*◌, ◌/◌, ◌%◌, List, [], ◌∷◌, ◌++◌, length, drop, slice_index, slice_range, Bool, true, false, not, ◌&&◌, ◌||◌, nat_eq, nat_le, nat_lt, min, Result, Ok, Err, if◌then◌else◌, codes}
+use Rattle.std.specs.Prelude.{ℕ, zero, suc, ◌≡◌, ◌+◌, ◌-◌, ◌*◌, ◌/◌, ◌%◌, List, [], ◌∷◌, ◌++◌, length, drop, slice_index, slice_range, Bool, not, ◌&&◌, ◌||◌, nat_eq, nat_le, nat_lt, min, Result, Ok, Err, if◌then◌else◌, codes}
 use Rattle.std.specs.List.{prefix_len, list_all}
 use Rattle.std.specs.Str.{bytes_eq}
 use Rattle.fpl_numbers.specs.Results.{and_then, map_ok}

@@ -3,12 +3,14 @@
 --   IsShape m n               n rows and columns, from 1 to 32, of which m are even
 --   IsSound x                 a matrix of such a shape, modulo an accepted prime
 --   AreAlike x y              two matrices with one prime and one shape
+--   with_numbers x xs         a matrix of the prime and the shape of x
 --   bracket_of x y            the bracket of two such matrices
 --   prime_in k                the prime of a kind; 0 of the fractions
 --   Assigned                  a shape, and a matrix for each generator
 --   numbers_in a              the numbers of the matrices
 --   IsAssignment p a          one matrix for each generator of p, of its parity, modulo the prime of p and of the shape
 --   matrix_at p a t           the matrix of an expression
+--   IsRespectedBy p a e       both sides of an equation have one matrix
 --   IsRespectedAt p a k       both sides of relation k, counted from 0, have one matrix
 --   IsFirstBroken p a k       k, counted from 1, is the least relation that isn't respected
 use Rattle.std.specs.Prelude.{ℕ, ◌≡◌, ◌<◌, ◌≤◌, ◌+◌, ◌-◌, List, length, map, All, get_or}

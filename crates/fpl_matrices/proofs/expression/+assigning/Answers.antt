@@ -1,14 +1,11 @@
-use Rattle.std.proofs.Common.{◌≡◌, ◌<◌, ◌≤◌, ◌+◌, length, sym, subst, ap, ◌∙◌, arith}
-use Rattle.std.proofs.lemmas.Grind.{common_steps}
-use Rattle.fpl_lanes.specs.Lanes.{multiplied}
-use Rattle.fpl_numbers.specs.Numbers.{residue_of}
-use Rattle.math_algebra.specs.Tree.{gen, multiple}
+use Rattle.std.proofs.Common.{◌≡◌, length, sym, subst, ap, ◌∙◌}
+use Rattle.math_algebra.specs.Tree.{gen}
 use Rattle.fpl_model.specs.Meaning.{plain}
 use Rattle.fpl_model.specs.Sound.{IsTerm}
-use Rattle.fpl_model.proofs.Plain.{plain-Gen, plain-Times, plain_forms}
+use Rattle.fpl_model.proofs.Plain.{plain-Gen}
 use Rattle.plain_matrices.specs.Plain.{PlainMatrix}
-use Rattle.fpl_matrices.specs.Matrices.{IsSound, matrix_at, with_numbers}
-use Rattle.fpl_matrices.proofs.Sound.{ok_more, generator_is, matrix_sound, multiplied_sound}
+use Rattle.fpl_matrices.specs.Matrices.{IsSound, matrix_at}
+use Rattle.fpl_matrices.proofs.Sound.{ok_more, generator_is, matrix_sound}
 use Rattle.fpl_matrices.proofs.expression.+assigning.Goals as goal
 
 pub matrix_of-returns-in-Gen-clause-value : goal.matrix_of-returns-in-Gen-clause-value

@@ -1,5 +1,4 @@
-use Rattle.std.proofs.Common.{◌≡◌, ◌<◌, ◌≤◌, ◌+◌, ℕ, length, get_or, sym, subst, ap, ◌∙◌, arith}
-use Rattle.std.proofs.lemmas.Grind.{common_steps}
+use Rattle.std.proofs.Common.{◌<◌, length, arith}
 use Rattle.fpl_matrices.proofs.Sound.{few_relations, left_term, right_term}
 use Rattle.fpl_matrices.proofs.expression.first_broken.Goals as goal
 

@@ -1,11 +1,11 @@
-use Rattle.std.proofs.Common.{◌≡◌, ◌<◌, ◌≤◌, ◌+◌, ◌-◌, ◌*◌, [], ◌∷◌, ◌++◌, Ok, length, sym, subst, ap, ◌∙◌, arith}
+use Rattle.std.proofs.Common.{◌≡◌, ◌<◌, ◌≤◌, ◌+◌, ◌-◌, ◌*◌, [], ◌∷◌, ◌++◌, Ok, length, ap, ◌∙◌, arith}
 use Rattle.std.proofs.Common.{rules}
 use Rattle.std.proofs.lemmas.Grind.{common_steps}
 use Rattle.std.proofs.lemmas.List.{length-append}
 use Rattle.fpl_model.specs.Meaning.{parity_in}
 use Rattle.fpl_matrices.specs.declared.pieces.Number.{Number}
 use Rattle.fpl_matrices.specs.declared.map_text.Entries.{Entries}
-use Rattle.fpl_matrices.specs.MapText.{Read, read_as, read_entry, read_entries}
+use Rattle.fpl_matrices.specs.MapText.{read_as, read_entry, read_entries}
 use Rattle.fpl_matrices.proofs.Entries.{entries_step, entries_fault}
 use Rattle.fpl_matrices.proofs.map_text.read_entries.Goals as goal
 

@@ -1,4 +1,4 @@
-use Rattle.std.proofs.Common.{◌≡◌, ◌≤◌, ◌+◌, ◌-◌, length, drop}
+use Rattle.std.proofs.Common.{◌≡◌, ◌≤◌, ◌-◌, length}
 use Rattle.fpl_matrices.specs.MapText.{start_of}
 use Rattle.fpl_matrices.proofs.pieces.skip_blanks.Given as goal
 

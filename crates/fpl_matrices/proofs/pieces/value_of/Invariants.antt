@@ -1,4 +1,4 @@
-use Rattle.std.proofs.Common.{◌≡◌, ◌≤◌, length, drop, min}
+use Rattle.std.proofs.Common.{◌≡◌, ◌≤◌, drop, min}
 use Rattle.std.specs.List.{list_all}
 use Rattle.fpl_matrices.specs.MapText.{is_digit, value_after, value_of}
 use Rattle.fpl_matrices.proofs.pieces.value_of.Given as goal

@@ -1,6 +1,6 @@
-use Rattle.std.proofs.Common.{◌≡◌, ◌+◌, ◌-◌, ◌*◌, length, take, drop, ap, ap₂, sym, ◌∙◌, subst}
+use Rattle.std.proofs.Common.{◌≡◌, length, ap, ap₂, sym, ◌∙◌, subst}
 use Rattle.fpl_lanes.specs.Lanes.{AllBelow}
-use Rattle.plain_matrices.specs.Plain.{size_of, row_at}
+use Rattle.plain_matrices.specs.Plain.{row_at}
 use Rattle.fpl_matrices.proofs.Sound.{row_length, row_below}
 use Rattle.fpl_matrices.proofs.matrix.Matrix.row.Goals as goal
 
