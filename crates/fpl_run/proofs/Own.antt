@@ -1,7 +1,6 @@
 -- A checkpoint of a presentation's own has the reply of the presentation, and passes a check.
-use Rattle.std.proofs.Common.{◌≡◌, ℕ, zero, suc, ◌≤◌, ◌⊎◌, inl, inr, List, ◌∷◌, take, Bool, true, false, Ok, None, Some, refl, sym, ap, ◌∙◌, subst, arith}
+use Rattle.std.proofs.Common.{◌≡◌, ℕ, zero, suc, ◌≤◌, ◌⊎◌, inl, inr, List, ◌∷◌, take, Bool, true, false, Ok, Some, refl, sym, ap, ◌∙◌, subst, arith}
 use mathlib.Core.Path.{ap₂}
-use Rattle.std.specs.declared.option.Option.{Option}
 use Rattle.fpl_log.specs.declared.section.Section.{Section}
 use Rattle.fpl_model.specs.declared.presentation.Presentation.{Presentation}
 use Rattle.fpl_table.specs.Plain.{PlainTable}
