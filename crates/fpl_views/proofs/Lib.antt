@@ -5,4 +5,5 @@ pub mod AnswerLists
 pub mod Answers
 pub mod Derivations
 pub mod Cocycles
+pub mod Spaces
 pub mod Texts

@@ -2,11 +2,13 @@
 use Rattle.std.proofs.Common.{◌≡◌, List, ℕ, Ok, Err, refl, sym, subst, ◌∙◌}
 use Rattle.std.specs.declared.result.Result.{Result}
 use Rattle.fpl_reply.specs.declared.view_fault.ViewFault.{ViewFault}
-use Rattle.fpl_views.specs.declared.shown.Shown.TheVariants.{Table, Series, Gap, Log, Equal, Sample, Cohomology}
+use Rattle.fpl_views.specs.declared.shown.Shown.TheVariants.{Table, Series, Gap, Log, Equal, Sample, Cohomology, Centre, Lcs, Ideal}
 use Rattle.plain_sources.proofs.Fitting.{Always, prime_always}
+use Rattle.fpl_views.proofs.Made.{made_holds}
 use Rattle.fpl_views.proofs.Answers.{shows_equal, equal_fits}
 use Rattle.fpl_views.proofs.Derivations.{are_derivations}
 use Rattle.fpl_reply.specs.declared.view_fault.ViewFault.TheVariants.{Overflow}
+use Rattle.fpl_views.proofs.Spaces.{shows_centre, shows_lcs, shows_ideal, centre_fits, lcs_fits, ideal_fits}
 use Rattle.fpl_views.specs.Laws.{TextsShow, TextsFitOverPrimes, TextsAreOfTables}
 use Rattle.fpl_views.proofs.Cocycles.{cohomology_shows, cohomology_fits}
 
@@ -21,6 +23,9 @@ texts_show Log p T sections text sound made e = (given _ text e, are_derivations
 texts_show Equal p T sections text sound made e = shows_equal p T sections sound made text e
 texts_show Sample p T sections text sound made e = given _ text e
 texts_show Cohomology p T sections text sound made e = cohomology_shows p T sections text sound made e
+texts_show Centre p T sections text sound made e = shows_centre p T text (made_holds p T sections sound made) e
+texts_show Lcs p T sections text sound made e = shows_lcs p T text (made_holds p T sections sound made) e
+texts_show Ideal p T sections text sound made e = shows_ideal p T text (made_holds p T sections sound made) e
 
 pub texts_fit : TextsFitOverPrimes
 texts_fit Table n p T sections u sound made prime e = cc
@@ -30,6 +35,9 @@ texts_fit Log n p T sections u sound made prime e = cc
 texts_fit Equal n p T sections u sound made prime e = equal_fits p T (subst Always (sym (made.standard.kind ∙ prime)) (prime_always n)) u e
 texts_fit Sample n p T sections u sound made prime e = cc
 texts_fit Cohomology n p T sections u sound made prime e = cohomology_fits n T (Overflow u) (made.standard.kind ∙ prime) e
+texts_fit Centre n p T sections u sound made prime e = centre_fits n T u (made.standard.kind ∙ prime) e
+texts_fit Lcs n p T sections u sound made prime e = lcs_fits n T u (made.standard.kind ∙ prime) e
+texts_fit Ideal n p T sections u sound made prime e = ideal_fits n p T u (made.standard.kind ∙ prime) e
 
 pub texts_of_tables : TextsAreOfTables
 texts_of_tables Table of_table p T ss more = refl
@@ -39,3 +47,6 @@ texts_of_tables Log of_table p T ss more = absurd of_table
 texts_of_tables Equal of_table p T ss more = refl
 texts_of_tables Sample of_table p T ss more = refl
 texts_of_tables Cohomology of_table p T ss more = refl
+texts_of_tables Centre of_table p T ss more = refl
+texts_of_tables Lcs of_table p T ss more = refl
+texts_of_tables Ideal of_table p T ss more = refl

@@ -6,5 +6,8 @@ pub mod Log
 pub mod Equal
 pub mod Sample
 pub mod Cohomology
+pub mod Centre
+pub mod Lcs
+pub mod Ideal
 pub mod Views
 pub mod Laws

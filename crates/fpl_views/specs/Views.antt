@@ -15,7 +15,7 @@ use Rattle.fpl_print.specs.LogText.{log_text}
 use Rattle.fpl_print.specs.SampleText.{sample_text}
 use Rattle.fpl_reply.specs.declared.view_fault.ViewFault.{ViewFault}
 use Rattle.fpl_views.specs.declared.shown.Shown.{Shown}
-use Rattle.fpl_views.specs.declared.shown.Shown.TheVariants.{Table, Series, Gap, Log, Equal, Sample, Cohomology}
+use Rattle.fpl_views.specs.declared.shown.Shown.TheVariants.{Table, Series, Gap, Log, Equal, Sample, Cohomology, Centre, Lcs, Ideal}
 use Rattle.fpl_views.specs.Table.{ShowsTable}
 use Rattle.fpl_views.specs.Series.{ShowsSeries}
 use Rattle.fpl_views.specs.Gap.{ShowsGap}
@@ -23,6 +23,9 @@ use Rattle.fpl_views.specs.Log.{ShowsLog}
 use Rattle.fpl_views.specs.Equal.{text_of_equal, ShowsEqual}
 use Rattle.fpl_views.specs.Sample.{ShowsSample}
 use Rattle.fpl_views.specs.Cohomology.{cohomology_text, ShowsCohomology}
+use Rattle.fpl_views.specs.Centre.{centre_text, ShowsCentre}
+use Rattle.fpl_views.specs.Lcs.{lcs_text, ShowsLcs}
+use Rattle.fpl_views.specs.Ideal.{ideal_text, ShowsIdeal}
 
 abbrev pub text_of_view : Shown → Presentation → PlainTable → List Section → Result (List ℕ) ViewFault
 text_of_view Table p T sections = Ok (table_text (names_of p) T)
@@ -32,6 +35,9 @@ text_of_view Log p T sections = Ok (log_text (names_of p) T sections)
 text_of_view Equal p T sections = text_of_equal p T
 text_of_view Sample p T sections = Ok (sample_text T)
 text_of_view Cohomology p T sections = cohomology_text T
+text_of_view Centre p T sections = centre_text T
+text_of_view Lcs p T sections = lcs_text T
+text_of_view Ideal p T sections = ideal_text p T
 
 abbrev pub Shows : Shown → Presentation → PlainTable → List Section → List ℕ → Type 0
 Shows Table p T sections text = ShowsTable p T text
@@ -41,6 +47,9 @@ Shows Log p T sections text = ShowsLog p T sections text
 Shows Equal p T sections text = ShowsEqual p T text
 Shows Sample p T sections text = ShowsSample T text
 Shows Cohomology p T sections text = ShowsCohomology p T text
+Shows Centre p T sections text = ShowsCentre p T text
+Shows Lcs p T sections text = ShowsLcs p T text
+Shows Ideal p T sections text = ShowsIdeal p T text
 
 abbrev pub IsOfTable : Shown → Type 0
 IsOfTable Table = Unit {0}
@@ -50,6 +59,9 @@ IsOfTable Log = ⊥
 IsOfTable Equal = Unit {0}
 IsOfTable Sample = Unit {0}
 IsOfTable Cohomology = Unit {0}
+IsOfTable Centre = Unit {0}
+IsOfTable Lcs = Unit {0}
+IsOfTable Ideal = Unit {0}
 
 abbrev pub IsCounted : Shown → Type 0
 IsCounted Table = Unit {0}
@@ -59,3 +71,6 @@ IsCounted Log = Unit {0}
 IsCounted Equal = Unit {0}
 IsCounted Sample = Unit {0}
 IsCounted Cohomology = ⊥
+IsCounted Centre = ⊥
+IsCounted Lcs = ⊥
+IsCounted Ideal = ⊥

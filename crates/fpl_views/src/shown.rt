@@ -5,9 +5,12 @@ ghost use Rattle.fpl_model.specs.Sound.{IsSound};
 ghost use Rattle.fpl_table.specs.Standard.{IsTableOf};
 ghost use Rattle.fpl_views.specs.Views.{text_of_view, IsCounted};
 
+use crate::centre::show_centre;
 use crate::cohomology::show_cohomology;
 use crate::equal::show_equal;
 use crate::gap::show_gap;
+use crate::ideal::show_ideal;
+use crate::lcs::show_lcs;
 use crate::log::show_log;
 use crate::sample::show_sample;
 use crate::series::show_series;
@@ -38,6 +41,12 @@ pub enum Shown {
     Sample,
     /// What represents H1 and H2, weight by weight.
     Cohomology,
+    /// The centre.
+    Centre,
+    /// The lower central series.
+    Lcs,
+    /// The ideal that the presentation's ideal elements generate.
+    Ideal,
 }
 
 /// Why a view has no text.
@@ -74,5 +83,8 @@ pub fn show<F: Field, L: Ledger>(
         Shown::Equal => show_equal(alloc, p, table),
         Shown::Sample => show_sample(alloc, table),
         Shown::Cohomology => show_cohomology(alloc, p, table, steps),
+        Shown::Centre => show_centre(alloc, table, steps),
+        Shown::Lcs => show_lcs(alloc, table, steps),
+        Shown::Ideal => show_ideal(alloc, p, table, steps),
     }
 }
