@@ -26,7 +26,6 @@ way_of view.Lcs = Some (Show shown.Lcs)
 way_of view.Ideal = Some (Show shown.Ideal)
 way_of view.Checkpoint = Some Write
 way_of view.Check = Some Check
-way_of _ = None
 
 abbrev pub task_for : Command → Way → Task
 task_for c way = record { way = way; limit = c.limit; entries = c.entries }

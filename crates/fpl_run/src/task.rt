@@ -41,7 +41,6 @@ pub(crate) fn way_of(view: View) -> Option<Way>
         View::Ideal => Some(Way::Show(Shown::Ideal)),
         View::Checkpoint => Some(Way::Write),
         View::Check => Some(Way::Check),
-        _ => None,
     }
 }
 
