@@ -87,7 +87,7 @@ fn ends_at_each_failing_read(rt: HostRuntime) -> Result<(), Fail> {
     assert_eq!(rt; checkpoint.status, Status::ReadFault);
     assert_eq!(rt; checkpoint.out.bytes().len(), 0);
     let unread = run_on(alloc, "sample 3", PLAIN, 10, 1, 0)?;
-    assert_eq!(rt; unread.status, Status::NotBuilt);
+    assert_eq!(rt; unread.status, Status::Done);
     Ok(())
 }
 
