@@ -1,18 +1,18 @@
 -- The test of a line tells exactly the instances of its rule.
-use Rattle.std.specs.Prelude.{ℕ, zero, suc, List, [], ◌∷◌, ◌≡◌, ◌<◌, ◌≤◌, ◌↔◌, ◌++◌, ◌+◌, ◌-◌, Bool, true, false, ◌&&◌, nat_eq, nat_le, nat_lt, map, take, drop, length, get_or}
+use Rattle.std.specs.Prelude.{ℕ, suc, List, [], ◌∷◌, ◌≡◌, ◌<◌, ◌≤◌, ◌++◌, ◌+◌, ◌-◌, Bool, true, nat_le, nat_lt, map, take, drop, length}
 use mathlib.Core.Path.{refl, ap, ap₂, sym, ◌∙◌, subst}
 use native.Mathlib.Omega.{arith}
 use Rattle.std.proofs.lemmas.List.{length-append}
 use Rattle.math_fields.specs.Field.{Field}
-use Rattle.math_algebra.specs.Tree.{Tree, Trees, gen, none, sum_of, multiple, bracket_of, end, more, trees, Parity, even, odd, Presentation, left, right, IsOver}
-use Rattle.math_algebra.specs.Tree.IsOver.{over_sum, over_multiple, over_bracket}
-use Rattle.math_algebra.specs.Degrees.{Degree, any, exact, mixed, same_parity, HasParity}
-use Rattle.math_algebra.specs.Derives.{Expression, sum_all, sign, three}
+use Rattle.math_algebra.specs.Tree.{none, sum_of, multiple, bracket_of, trees, Parity, even, odd, Presentation, left, right, IsOver}
+use Rattle.math_algebra.specs.Tree.IsOver.{over_bracket}
+use Rattle.math_algebra.specs.Degrees.{Degree, any, exact, mixed, HasParity}
+use Rattle.math_algebra.specs.Derives.{Expression, sum_all, sign}
 use Rattle.math_proofs.specs.Shown.{shown, includes}
 use Rattle.math_proofs.proofs.ShownParities.{shown_is_had}
 use Rattle.math_proofs.specs.Rules.{Rule, same, empty, single, multiply, one, nought, spread, left_sum, right_sum, left_times, right_times, cube, turn, factor, exchange, flat, drop as drop_member, collect, relation, chain, members, parts, swap, jacobi, Line, AreEarlier, IsInstance, line_at, Cites}
 use Rattle.math_proofs.specs.Rules.IsInstance.{is_same, is_turn, is_chain, is_parts, is_factor, is_members, is_exchange, is_flat, is_drop, is_empty, is_single, is_multiply, is_one, is_nought, is_collect, is_spread, is_left_sum, is_right_sum, is_left_times, is_right_times, is_swap, is_jacobi, is_relation, is_cube}
-use Rattle.plain_proofs.specs.Checks.{is_number, same_tree, list_of, member, has, is_one_or_both, has_some, is_cited, are_cited, checks_chain, checks_factor, checks_members, checks_parts, exchanged, checks_exchange, checks_flat_at, checks_flat, checks_drop_at, checks_drop, checks_collect_at, checks_collect, checks_in_sum, checks_empty, checks_single, checks_multiply, checks_one, checks_nought, checks_spread, checks_left_sum, checks_right_sum, checks_left_times, checks_right_times, checks_swap, checks_jacobi, checks_relation, checks_cube, checked, CheckedIsInstance}
+use Rattle.plain_proofs.specs.Checks.{same_tree, list_of, member, has, is_one_or_both, has_some, is_cited, are_cited, checks_chain, checks_factor, checks_members, checks_parts, exchanged, checks_exchange, checks_flat_at, checks_flat, checks_drop_at, checks_drop, checks_collect_at, checks_collect, checks_in_sum, checks_empty, checks_single, checks_multiply, checks_one, checks_nought, checks_spread, checks_left_sum, checks_right_sum, checks_left_times, checks_right_times, checks_swap, checks_jacobi, checks_relation, checks_cube, checked, CheckedIsInstance}
 use Rattle.plain_proofs.proofs.Tests.{both, never, join, number_means, number_is, tree_is, tree_itself, tree_means, listed_trees, list_listed, all_three, all_four, all_five}
 use Rattle.plain_proofs.proofs.Members.{one_apart, two_apart, front_long, front, first_at, second_at, behind_one, behind_two}
 

@@ -1,8 +1,8 @@
 -- A list of members taken apart at a place, and what the rules on sums make of it.
-use Rattle.std.specs.Prelude.{ℕ, zero, suc, List, [], ◌∷◌, ◌≡◌, ◌<◌, ◌≤◌, ◌++◌, ◌+◌, ◌-◌, take, drop, length, get_or}
-use mathlib.Core.Path.{refl, ap, ap₂, sym, ◌∙◌}
+use Rattle.std.specs.Prelude.{ℕ, suc, List, ◌∷◌, ◌≡◌, ◌<◌, ◌≤◌, ◌++◌, ◌+◌, ◌-◌, take, drop, length, get_or}
+use mathlib.Core.Path.{ap, sym, ◌∙◌}
 use native.Mathlib.Omega.{arith}
-use Rattle.std.proofs.Math.Seq.{drop-append_seam, take-append_seam, drop-append-add, get_or-append_seam}
+use Rattle.std.proofs.Math.Seq.{take-append_seam, drop-append-add, get_or-append_seam}
 use Rattle.std.proofs.lemmas.List.{take-append-drop, length-take-le, drop_more, get_or-append-add}
 
 module _ {A : Type 0} where

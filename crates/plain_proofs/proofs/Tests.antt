@@ -1,6 +1,6 @@
 -- The tests of equal numbers and equal expressions tell equality.
 use Rattle.std.specs.Prelude.{ℕ, List, [], ◌∷◌, ◌≡◌, Bool, true, false, ◌&&◌, nat_eq}
-use mathlib.Core.Path.{refl, ap, ap₂, sym, ◌∙◌, subst}
+use mathlib.Core.Path.{refl, ap, ap₂, subst}
 use native.Mathlib.Omega.{arith}
 use Rattle.math_fields.specs.Field.{Field}
 use Rattle.math_algebra.specs.Tree.{Tree, Trees, gen, none, sum_of, multiple, bracket_of, end, more, trees}

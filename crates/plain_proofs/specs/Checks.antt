@@ -12,7 +12,7 @@
 --   checks_..                an expression and the right side that a rule gives it
 --   checked                  a line is an instance of its rule
 --   CheckedIsInstance        that is what the test tells
-use Rattle.std.specs.Prelude.{ℕ, zero, suc, List, [], ◌∷◌, ◌≡◌, ◌↔◌, ◌++◌, ◌+◌, ◌-◌, Bool, true, false, ◌&&◌, nat_eq, nat_le, nat_lt, map, take, drop, length, get_or}
+use Rattle.std.specs.Prelude.{ℕ, List, [], ◌∷◌, ◌≡◌, ◌↔◌, ◌++◌, ◌+◌, ◌-◌, Bool, true, false, ◌&&◌, nat_eq, nat_le, nat_lt, map, take, drop, length, get_or}
 use Rattle.math_fields.specs.Field.{Field}
 use Rattle.math_algebra.specs.Tree.{Tree, Trees, gen, none, sum_of, multiple, bracket_of, end, more, Parity, odd, Presentation, left, right, IsOver}
 use Rattle.math_algebra.specs.Degrees.{Degree, any, exact, mixed}
