@@ -12,7 +12,7 @@ use Rattle.fpl_reply.specs.declared.view_fault.ViewFault.{ViewFault}
 use Rattle.fpl_reply.specs.declared.view_fault.ViewFault.TheVariants as view
 use Rattle.fpl_reply.specs.declared.status.Status.{Status}
 use Rattle.fpl_reply.specs.declared.status.Status.TheVariants.{Usage, NoMemory, ReadFault, WriteFault}
-use Rattle.fpl_reply.specs.Reply.{Reply, done, usage, refused, stopped, failed_in_view, no_memory, read_fault, write_fault, not_built, fault_status, view_fault_status, status_of, text_of, with_text, line_of}
+use Rattle.fpl_reply.specs.Reply.{Reply, done, usage, refused, stopped, failed_in_view, no_memory, read_fault, write_fault, fault_status, view_fault_status, status_of, text_of, with_text, line_of}
 use Rattle.fpl_reply.specs.Leaves.{Says, Leaves}
 use Rattle.fpl_reply.specs.Leaves.Leaves.{whole, part, front}
 
@@ -44,18 +44,6 @@ status_shown t (failed_in_view fault) = refl
 status_shown t no_memory = refl
 status_shown t read_fault = refl
 status_shown t write_fault = refl
-status_shown t not_built = refl
-
-pub line_shown : (t : List ℕ) (r : Reply) → line_of (with_text t r) ≡ line_of r
-line_shown t (done u) = refl
-line_shown t usage = refl
-line_shown t (refused place reason) = refl
-line_shown t (stopped u fault) = refl
-line_shown t (failed_in_view fault) = refl
-line_shown t no_memory = refl
-line_shown t read_fault = refl
-line_shown t write_fault = refl
-line_shown t not_built = refl
 
 -- a status of what stops a run, or the text of its view
 abbrev pub IsInner : Status → Type 0

@@ -42,11 +42,6 @@ texts_split ps n =
     ap pieces_text (sym (take-append-drop n ps)) ∙ fold-append (λ text piece. text ++ piece_text piece) [] (take n ps) (drop n ps) ∙
     texts_from (pieces_text (take n ps)) (drop n ps)
 
--- the pieces through one more place
-pub piece_taken : (a b c : Option (List ℕ)) (ps : List Piece) (i : ℕ) (d : Piece) → i < length ps → Takes a b (pieces_text (take i ps)) →
-    Takes b c (piece_text (get_or ps i d)) → Takes a c (pieces_text (take (i + 1) ps))
-piece_taken a b c ps i d l t h = rw (texts_more ps i d l) (takes_more a b c (pieces_text (take i ps)) (piece_text (get_or ps i d)) t h)
-
 -- a prefix of the piece at a place, after those before it
 pub piece_part : (a b c : Option (List ℕ)) (ps : List Piece) (i : ℕ) (d : Piece) → i < length ps → Takes a b (pieces_text (take i ps)) →
     WrotePrefix b c (piece_text (get_or ps i d)) → WrotePrefix a c (pieces_text ps)

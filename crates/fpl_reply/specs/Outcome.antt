@@ -6,7 +6,7 @@ use Rattle.fpl_reply.specs.declared.outcome.Refusal.{Refusal}
 use Rattle.fpl_reply.specs.declared.outcome.Refusal.TheVariants.{TooLong, Unread}
 use Rattle.fpl_reply.specs.declared.outcome.Outcome.{Outcome}
 use Rattle.fpl_reply.specs.declared.outcome.Outcome.TheVariants as found
-use Rattle.fpl_reply.specs.Reply.{Reply, done, usage, refused, stopped, failed_in_view, no_memory, read_fault, write_fault, not_built}
+use Rattle.fpl_reply.specs.Reply.{Reply, done, usage, refused, stopped, failed_in_view, no_memory, read_fault, write_fault}
 use Rattle.fpl_complete.specs.State.{unfit_of}
 use Rattle.fpl_walk.specs.Walk.{too_many, bad_bytes, bad_section, overflow}
 use Rattle.fpl_reader.specs.Reasons.{reason_text}
@@ -30,4 +30,3 @@ reply_of (found.InView fault) = failed_in_view fault
 reply_of found.NoMemory = no_memory
 reply_of found.ReadFault = read_fault
 reply_of found.WriteFault = write_fault
-reply_of found.NotBuilt = not_built

@@ -20,7 +20,7 @@ use Rattle.fpl_reply.specs.declared.view_fault.ViewFault.TheVariants as view
 use Rattle.fpl_bytes.specs.Reasons.{byte_text}
 use Rattle.fpl_reply.specs.Faults.{spot_text, why_text}
 use Rattle.fpl_reply.specs.declared.status.Status.{Status}
-use Rattle.fpl_reply.specs.declared.status.Status.TheVariants.{Done, Usage, Refused, BadCheckpoint, Limit, Overflow, NoMemory, ReadFault, WriteFault, NotBuilt}
+use Rattle.fpl_reply.specs.declared.status.Status.TheVariants.{Done, Usage, Refused, BadCheckpoint, Limit, Overflow, NoMemory, ReadFault, WriteFault}
 
 pub data Reply : Type 0 where
   done : (text : List ℕ) → Reply
@@ -31,7 +31,6 @@ pub data Reply : Type 0 where
   no_memory : Reply
   read_fault : Reply
   write_fault : Reply
-  not_built : Reply
 
 abbrev pub fault_status : Fault → Status
 fault_status (too_many weight count) = Limit
@@ -52,7 +51,6 @@ status_of (failed_in_view fault) = view_fault_status fault
 status_of no_memory = NoMemory
 status_of read_fault = ReadFault
 status_of write_fault = WriteFault
-status_of not_built = NotBuilt
 
 abbrev pub text_of : Reply → List ℕ
 text_of (done text) = text
@@ -63,7 +61,6 @@ text_of (failed_in_view fault) = []
 text_of no_memory = []
 text_of read_fault = []
 text_of write_fault = []
-text_of not_built = []
 
 abbrev pub with_text : List ℕ → Reply → Reply
 with_text text (done other) = done text
@@ -74,7 +71,6 @@ with_text text (failed_in_view fault) = failed_in_view fault
 with_text text no_memory = no_memory
 with_text text read_fault = read_fault
 with_text text write_fault = write_fault
-with_text text not_built = not_built
 
 abbrev pub IsPut : Reply → Type 0
 IsPut (done text) = Unit {0}
@@ -85,7 +81,6 @@ IsPut (failed_in_view fault) = ⊥
 IsPut no_memory = ⊥
 IsPut read_fault = ⊥
 IsPut write_fault = ⊥
-IsPut not_built = ⊥
 
 abbrev pub op_text : Op → List ℕ
 op_text Add = codes " + "
@@ -110,7 +105,6 @@ line_of (failed_in_view fault) = view_fault_line fault
 line_of no_memory = codes "no memory\n"
 line_of read_fault = codes "read fault\n"
 line_of write_fault = codes "write fault\n"
-line_of not_built = codes "not built\n"
 
 abbrev pub IsFree : Status → Type 0
 IsFree Done = ⊥
@@ -122,4 +116,3 @@ IsFree Overflow = ⊥
 IsFree NoMemory = Unit {0}
 IsFree ReadFault = Unit {0}
 IsFree WriteFault = Unit {0}
-IsFree NotBuilt = ⊥

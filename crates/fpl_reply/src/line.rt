@@ -221,6 +221,5 @@ pub fn put_line<E: Sink>(err: &mut E, outcome: &Outcome) -> Result<(), WriteFaul
         Outcome::NoMemory => write_whole(err, b"no memory\n"),
         Outcome::ReadFault => write_whole(err, b"read fault\n"),
         Outcome::WriteFault => write_whole(err, b"write fault\n"),
-        Outcome::NotBuilt => write_whole(err, b"not built\n"),
     }
 }

@@ -32,7 +32,6 @@ pub enum Outcome {
     NoMemory,
     ReadFault,
     WriteFault,
-    NotBuilt,
 }
 
 impl Refusal {
@@ -61,7 +60,6 @@ impl Outcome {
             Outcome::NoMemory => Status::NoMemory,
             Outcome::ReadFault => Status::ReadFault,
             Outcome::WriteFault => Status::WriteFault,
-            Outcome::NotBuilt => Status::NotBuilt,
         }
     }
 }

@@ -22,8 +22,6 @@ pub enum Status {
     ReadFault,
     /// A put to the output failed, after a prefix of the view's text.
     WriteFault,
-    /// The words are a command, and its view or its input isn't built yet.
-    NotBuilt,
 }
 
 impl Status {
@@ -41,7 +39,6 @@ impl Status {
             Status::NoMemory => 6,
             Status::ReadFault => 7,
             Status::WriteFault => 8,
-            Status::NotBuilt => 9,
         }
     }
 }

@@ -1,5 +1,5 @@
 -- What a run costs.
-use Rattle.std.proofs.Common.{◌≡◌, ℕ, ◌≤◌, ◌+◌, ◌⊎◌, inl, inr, List, None, Some, refl, sym, subst, arith}
+use Rattle.std.proofs.Common.{◌≡◌, ℕ, ◌≤◌, ◌+◌, ◌⊎◌, inl, inr, List, refl, sym, ◌∙◌, subst, arith}
 use Rattle.std.specs.declared.option.Option.{Option}
 use Rattle.fpl_run.specs.declared.words.Command.{Command}
 use Rattle.fpl_run.specs.declared.task.Way.{Way}
@@ -10,7 +10,7 @@ use Rattle.fpl_run.specs.Start.{Start, cost_for}
 use Rattle.fpl_run.specs.Read.{IsUnread, IsStart}
 use Rattle.fpl_run.specs.Pace.{IsPaced}
 use Rattle.fpl_run.specs.Run.{ReadsNothing, IfTold, Spends}
-use Rattle.fpl_run.proofs.OneReply.{starts_one, ways_one}
+use Rattle.fpl_run.proofs.OneReply.{starts_one}
 use Rattle.fpl_run.proofs.Replies.{told_more, silent_view}
 
 pub costs_nothing : (c : Command) (bytes : List ℕ) (a b : Option (List ℕ)) (old new : ℕ) → new ≡ old → Spends c bytes a b old new
@@ -21,37 +21,32 @@ costs_nothing c bytes a b old new e = record {
   paced = λ s made from. inl e;
 }
 
--- where the view isn't built, nothing is spent
-some_way : (o : Option Way) → (o ≡ None) ⊎ ((way : Way) × (o ≡ Some way))
-some_way None = inl refl
-some_way (Some way) = inr (way, refl)
-
 module _ (c : Command) (bytes : List ℕ) (s : Start) (a b : Option (List ℕ)) (old new : ℕ) (is : IsStart c bytes s) where
   same_start : (t : Start) → IsStart c bytes t → s ≡ t
   same_start t also = starts_one c bytes s t is also
 
-  pub costs_start : old ≤ new → (way_of c.view ≡ None → new ≡ old) →
-      ((way : Way) → way_of c.view ≡ Some way → IsCounted way → new ≤ old + cost_for (task_for c way) s) →
-      (way_of c.view ≡ Some Write → IsPaced (task_for c Write) s a b old new) → Spends c bytes a b old new
-  costs_start rises idle most paced = record {
+  pub costs_start : old ≤ new →
+      ((way : Way) → way_of c.view ≡ way → IsCounted way → new ≤ old + cost_for (task_for c way) s) →
+      (way_of c.view ≡ Write → IsPaced (task_for c Write) s a b old new) → Spends c bytes a b old new
+  costs_start rises most paced = record {
     rises = rises;
     most = λ way t made counted also. subst (λ (x : Start). new ≤ old + cost_for (task_for c way) x) (same_start t also) (most way made counted);
-    stays = λ none. elim (some_way (way_of c.view)) [ inl e ↦ idle e | inr w ↦ absurd (none w.0 s w.1 is) ];
+    stays = λ none. absurd (none s is);
     paced = λ t made also. subst (λ (x : Start). IsPaced (task_for c Write) x a b old new) (same_start t also) (paced made);
   }
 
 -- a task, told by its command
-pub costs_task : (c : Command) (s : Start) (made : Way) → way_of c.view ≡ Some made → (old new : ℕ) →
+pub costs_task : (c : Command) (s : Start) (made : Way) → way_of c.view ≡ made → (old new : ℕ) →
     (IsCounted made → new ≤ old + cost_for (task_for c made) s) →
-    (way : Way) → way_of c.view ≡ Some way → IsCounted way → new ≤ old + cost_for (task_for c way) s
+    (way : Way) → way_of c.view ≡ way → IsCounted way → new ≤ old + cost_for (task_for c way) s
 costs_task c s made is old new most way also counted =
-    let same : way ≡ made = ways_one (way_of c.view) way made also is in
+    let same : way ≡ made = sym also ∙ is in
     subst (λ (x : Way). new ≤ old + cost_for (task_for c x) s) (sym same) (most (subst IsCounted same counted))
 
-pub paced_task : (c : Command) (s : Start) (made : Way) → way_of c.view ≡ Some made → (a b : Option (List ℕ)) (old new : ℕ) →
-    (made ≡ Write → IsPaced (task_for c made) s a b old new) → way_of c.view ≡ Some Write → IsPaced (task_for c Write) s a b old new
+pub paced_task : (c : Command) (s : Start) (made : Way) → way_of c.view ≡ made → (a b : Option (List ℕ)) (old new : ℕ) →
+    (made ≡ Write → IsPaced (task_for c made) s a b old new) → way_of c.view ≡ Write → IsPaced (task_for c Write) s a b old new
 paced_task c s made is a b old new paced also =
-    let same : made ≡ Write = ways_one (way_of c.view) made Write is also in
+    let same : made ≡ Write = sym is ∙ also in
     subst (λ (x : Way). IsPaced (task_for c x) s a b old new) same (paced same)
 
 pub costs_command : (words : List (List ℕ)) (c : Command) → IsCommand words c → ((d : Command) → IsCommand words d → d ≡ c) →

@@ -22,7 +22,7 @@ use Rattle.plain_walks.proofs.Walking.{walks_are_standard}
 use Rattle.fpl_reply.specs.declared.status.Status.TheVariants.{Done}
 use Rattle.fpl_reply.specs.declared.view_fault.ViewFault.{ViewFault}
 use Rattle.fpl_reply.specs.declared.view_fault.ViewFault.TheVariants as view
-use Rattle.fpl_reply.specs.Reply.{Reply, done, usage, refused, stopped, failed_in_view, no_memory, read_fault, write_fault, not_built, fault_status, view_fault_status, status_of, text_of, with_text}
+use Rattle.fpl_reply.specs.Reply.{Reply, done, usage, refused, stopped, failed_in_view, no_memory, read_fault, write_fault, fault_status, view_fault_status, status_of, text_of, with_text}
 use Rattle.fpl_reply.specs.Leaves.{Leaves}
 use Rattle.fpl_reply.specs.Leaves.Leaves.{whole, part, front}
 use Rattle.fpl_reply.proofs.Leaving.{status_shown}
@@ -89,7 +89,6 @@ Tells t s (failed_in_view fault) = HasCome t s × (text_of_way t.way s t.limit (
 Tells t s no_memory = Unit {0}
 Tells t s read_fault = Unit {0}
 Tells t s write_fault = Unit {0}
-Tells t s not_built = Unit {0}
 
 task_tells : (t : Task) (s : Start) (r : Reply) → AnswersTask t s r → Tells t s r
 task_tells t s _ (stopped_at f e) = e
@@ -97,7 +96,7 @@ task_tells t s _ (fails_in_view come f e) = (come, e)
 task_tells t s _ (shown come text e) = (come, e)
 
 pub reply_tells : (words : List (List ℕ)) (c : Command) (way : Way) (bytes : List ℕ) (s : Start) (r : Reply) → IsCommand words c →
-    way_of c.view ≡ Some way → IsStart c bytes s →
+    way_of c.view ≡ way → IsStart c bytes s →
     Answers words bytes r → Tells (task_for c way) s r
 reply_tells words c way bytes s r is made from a = task_tells (task_for c way) s r (task_reply c bytes way made s from r (of_words words bytes c is r a))
 
@@ -150,13 +149,12 @@ done_text (failed_in_view fault) e = absurd (view_fault_not_done fault e)
 done_text no_memory e = cc
 done_text read_fault e = cc
 done_text write_fault e = cc
-done_text not_built e = cc
 
 abbrev Meaning : List (List ℕ) → Option (List ℕ) → Option (List ℕ) → List ℕ → Type 0
 Meaning words oo on bytes =
-    (c : Command) (v : Shown) → IsCommand words c → way_of c.view ≡ Some (Show v) → (text : List ℕ) × Takes oo on text × Means c bytes v text
+    (c : Command) (v : Shown) → IsCommand words c → way_of c.view ≡ Show v → (text : List ℕ) × Takes oo on text × Means c bytes v text
 
-start_of_answer : (words : List (List ℕ)) (c : Command) (v : Shown) (bytes text : List ℕ) → IsCommand words c → way_of c.view ≡ Some (Show v) →
+start_of_answer : (words : List (List ℕ)) (c : Command) (v : Shown) (bytes text : List ℕ) → IsCommand words c → way_of c.view ≡ Show v →
     ((IsUnread c.view → ⊥) → IsBytes bytes) → Answers words bytes (done text) →
     Means c bytes v text
 start_of_answer words c v bytes text is made fits a = found (started c bytes (done text) tt (of_words words bytes c is (done text) a))

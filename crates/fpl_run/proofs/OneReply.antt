@@ -9,7 +9,7 @@ use Rattle.fpl_checkpoint.proofs.OneHead.{one_head, not_bad, one_refusal as one_
 use Rattle.fpl_walk.specs.Walk.{Fault, bad_bytes, Stop, ended, failed}
 use Rattle.fpl_reply.specs.declared.view_fault.ViewFault.{ViewFault}
 use Rattle.fpl_reader.specs.Reasons.{reason_text}
-use Rattle.fpl_reply.specs.Reply.{Reply, done, usage, refused, stopped, failed_in_view, no_memory, read_fault, write_fault, not_built}
+use Rattle.fpl_reply.specs.Reply.{Reply, done, usage, refused, stopped, failed_in_view, no_memory, read_fault, write_fault}
 use Rattle.fpl_run.specs.declared.words.Command.{Command}
 use Rattle.fpl_run.specs.declared.task.Way.{Way}
 use Rattle.fpl_run.specs.declared.task.Task.{Task}
@@ -21,7 +21,6 @@ use Rattle.fpl_run.specs.Read.IsStart.{from_text, from_head, built_in}
 use Rattle.fpl_run.specs.Read.IsNoStart.{input_too_long, text_too_long, no_presentation, no_head}
 use Rattle.fpl_run.specs.Answer.{AnswersTask, AnswersStart, AnswersCommand, Answers, text_of_way, written_before}
 use Rattle.fpl_run.specs.Answer.AnswersTask.{stopped_at, fails_in_view, shown}
-use Rattle.fpl_run.specs.Answer.AnswersStart.{not_built_yet, built}
 use Rattle.fpl_run.specs.Answer.AnswersCommand.{no_start, start}
 use Rattle.fpl_run.specs.Answer.Answers.{no_command, command}
 use Rattle.fpl_run.specs.Laws.{OneReply}
@@ -65,24 +64,13 @@ module _ (t : Task) (s : Start) where
   task_one _ _ (shown come u e) (fails_in_view also g k) = absurd (text_or_fault text u g e k)
   task_one _ _ (shown come u e) (shown also v k) = texts_one text u v e k
 
-pub ways_one : (o : Option Way) (v w : Way) → o ≡ Some v → o ≡ Some w → v ≡ w
-ways_one o v w e f = let same : Some v ≡ Some w = sym e ∙ f in cc
-
-not_way : (o : Option Way) (w : Way) → o ≡ None → o ≡ Some w → ⊥
-not_way o w e f = let no : None ≡ Some w = sym e ∙ f in cc
-
 module _ (c : Command) where
   pub start_one : (s : Start) (q r : Reply) → AnswersStart c s q → AnswersStart c s r → q ≡ r
-  start_one s _ _ (not_built_yet e) (not_built_yet k) = refl
-  start_one s _ _ (not_built_yet e) (built way k r b) = absurd (not_way (way_of c.view) way e k)
-  start_one s _ _ (built way e q a) (not_built_yet k) = absurd (not_way (way_of c.view) way k e)
-  start_one s _ _ (built way e q a) (built also k r b) =
-      task_one (task_for c also) s q r (subst (λ (w : Way). AnswersTask (task_for c w) s q) (ways_one (way_of c.view) way also e k) a) b
+  start_one s = task_one (task_for c (way_of c.view)) s
 
-  -- the task of a command whose view is built
-  pub built_task : (way : Way) → way_of c.view ≡ Some way → (s : Start) (r : Reply) → AnswersStart c s r → AnswersTask (task_for c way) s r
-  built_task way is s _ (not_built_yet e) = absurd (not_way (way_of c.view) way e is)
-  built_task way is s _ (built also e r a) = subst (λ (w : Way). AnswersTask (task_for c w) s r) (ways_one (way_of c.view) also way e is) a
+  -- the task of a command
+  pub built_task : (way : Way) → way_of c.view ≡ way → (s : Start) (r : Reply) → AnswersStart c s r → AnswersTask (task_for c way) s r
+  built_task way is s r a = subst (λ (w : Way). AnswersTask (task_for c w) s r) is a
 
   module _ (bytes : List ℕ) where
     pub starts_one : (s t : Start) → IsStart c bytes s → IsStart c bytes t → s ≡ t
@@ -133,7 +121,7 @@ module _ (c : Command) where
     command_one _ _ (start s is q h) (start t also r k) = start_one t q r (subst (λ (x : Start). AnswersStart c x q) (starts_one s t is also) h) k
 
     -- the reply to a start, where the view is built
-    pub task_reply : (way : Way) → way_of c.view ≡ Some way → (s : Start) → IsStart c bytes s → (r : Reply) → AnswersCommand c bytes r →
+    pub task_reply : (way : Way) → way_of c.view ≡ way → (s : Start) → IsStart c bytes s → (r : Reply) → AnswersCommand c bytes r →
         AnswersTask (task_for c way) s r
     task_reply way made s is _ (no_start u r h) = absurd (start_or_none u s r is h)
     task_reply way made s is _ (start t also r h) =
@@ -149,7 +137,6 @@ IsTold (failed_in_view fault) = ⊥
 IsTold no_memory = ⊥
 IsTold read_fault = ⊥
 IsTold write_fault = ⊥
-IsTold not_built = ⊥
 
 none_told : (c : Command) (bytes : List ℕ) (r : Reply) → IsNoStart c bytes r → IsTold r → ⊥
 none_told c bytes _ (input_too_long l) h = h
@@ -160,16 +147,6 @@ none_told c bytes _ (no_head l m b k) h = h
 pub started : (c : Command) (bytes : List ℕ) (r : Reply) → IsTold r → AnswersCommand c bytes r → (s : Start) × IsStart c bytes s
 started c bytes _ told (no_start u r h) = absurd (none_told c bytes r h told)
 started c bytes _ told (start s is r h) = (s, is)
-
--- a view that isn't built has no fault after its start
-unbuilt_reply : (c : Command) (s : Start) → way_of c.view ≡ None → (r : Reply) → AnswersStart c s r → r ≡ not_built
-unbuilt_reply c s e _ (not_built_yet k) = refl
-unbuilt_reply c s e _ (built way k r a) = absurd (not_way (way_of c.view) way e k)
-
-pub unbuilt_command : (c : Command) (bytes : List ℕ) (s : Start) → way_of c.view ≡ None → IsStart c bytes s → (r : Reply) → AnswersCommand c bytes r →
-    r ≡ not_built
-unbuilt_command c bytes s e is _ (no_start u r h) = absurd (start_or_none c bytes u s r is h)
-unbuilt_command c bytes s e is _ (start t also r h) = unbuilt_reply c t e r h
 
 -- the reply to words that spell a command
 pub of_words : (words : List (List ℕ)) (bytes : List ℕ) (c : Command) → IsCommand words c → (r : Reply) → Answers words bytes r → AnswersCommand c bytes r

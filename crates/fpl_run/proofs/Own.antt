@@ -27,7 +27,6 @@ use Rattle.fpl_run.specs.Read.IsNoStart.{input_too_long, text_too_long, no_prese
 use Rattle.fpl_run.specs.Stream.{stream_text}
 use Rattle.fpl_run.specs.Answer.{AnswersTask, AnswersStart, AnswersCommand, text_of_way, written_before}
 use Rattle.fpl_run.specs.Answer.AnswersTask.{stopped_at, fails_in_view, shown}
-use Rattle.fpl_run.specs.Answer.AnswersStart.{not_built_yet, built}
 use Rattle.fpl_run.specs.Answer.AnswersCommand.{no_start, start}
 use Rattle.fpl_run.specs.Laws.{IsCheckpointOf, OwnCheckpoints}
 use Rattle.fpl_run.proofs.Names.{command_in_range}
@@ -91,10 +90,9 @@ module _ (c : Command) (p : Presentation) (bytes : List ℕ) (own : IsCheckpoint
     alone _ (fails_in_view come f e) = fails_in_view (come_too come) f (sym text_too ∙ e)
     alone _ (shown come text e) = shown (come_too come) text (sym text_too ∙ e)
 
-  alone_start : (way_of c.view ≡ Some Check → ⊥) → (h : Head) → HasHead bytes h → (r : Reply) → AnswersStart c (of_head bytes h) r →
+  alone_start : (way_of c.view ≡ Check → ⊥) → (h : Head) → HasHead bytes h → (r : Reply) → AnswersStart c (of_head bytes h) r →
       AnswersStart c (of_text p) r
-  alone_start other h has _ (not_built_yet e) = not_built_yet e
-  alone_start other h has _ (built way e r a) = built way e r (alone way (computes way (λ k. other (e ∙ ap Some k))) h has r a)
+  alone_start other h has r a = alone (way_of c.view) (computes (way_of c.view) other) h has r a
 
   -- it is a start, from its head
   head_start : (s : Start) → IsStart c bytes s → (h : Head) × (HasHead bytes h × (s ≡ of_head bytes h))
@@ -108,7 +106,7 @@ module _ (c : Command) (p : Presentation) (bytes : List ℕ) (own : IsCheckpoint
   no_refusal _ (no_presentation l a place reason k) = a (inr (stream_marked p bytes own.1))
   no_refusal _ (no_head l a b k) = let g = have_heads p bytes own.1 in not_bad bytes g.0 b g.1 k
 
-  pub alone_of : (way_of c.view ≡ Some Check → ⊥) → (r : Reply) → AnswersCommand c bytes r → AnswersStart c (of_text p) r
+  pub alone_of : (way_of c.view ≡ Check → ⊥) → (r : Reply) → AnswersCommand c bytes r → AnswersStart c (of_text p) r
   alone_of other _ (no_start u r h) = absurd (no_refusal r h)
   alone_of other _ (start s is r a) =
       let h = head_start s is in
@@ -122,7 +120,7 @@ module _ (c : Command) (p : Presentation) (bytes : List ℕ) (own : IsCheckpoint
   task_passes h has _ (fails_in_view come f e) = cc
   task_passes h has _ (shown come text e) = inl refl
 
-  pub command_passes : way_of c.view ≡ Some Check → (r : Reply) → AnswersCommand c bytes r → (status_of r ≡ Done) ⊎ (status_of r ≡ Limit)
+  pub command_passes : way_of c.view ≡ Check → (r : Reply) → AnswersCommand c bytes r → (status_of r ≡ Done) ⊎ (status_of r ≡ Limit)
   command_passes e _ (no_start u r h) = absurd (no_refusal r h)
   command_passes e _ (start s is r a) =
       let h = head_start s is in

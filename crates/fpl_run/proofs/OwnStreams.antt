@@ -48,8 +48,8 @@ module _ (c : Command) (p : Presentation) (end : ℕ) where
   task_writes kept _ (shown come text e) = subst (λ x. IsStreamOf p (take end x)) (texts_same (stream_text p sections) text e) kept
 
 -- a view that writes reads a text as a text
-plain : (c : Command) (p : Presentation) (bytes : List ℕ) → way_of c.view ≡ Some Write → HasPresentation bytes p → IsCheckpoint c bytes → ⊥
-plain c p bytes made said (inl e) = let no : ◌≡◌ {A = Option Way} (Some Write) (Some Check) = sym made ∙ ap way_of e in cc
+plain : (c : Command) (p : Presentation) (bytes : List ℕ) → way_of c.view ≡ Write → HasPresentation bytes p → IsCheckpoint c bytes → ⊥
+plain c p bytes made said (inl e) = let no : Write ≡ Check = sym made ∙ ap way_of e in cc
 plain c p bytes made said (inr m) = no_mark bytes p said m
 
 pub checkpoints_are_own : CheckpointsAreOwn

@@ -25,7 +25,6 @@ use Rattle.fpl_run.specs.Read.{IsUnread, IsStart, IsNoStart}
 use Rattle.fpl_run.specs.Read.IsNoStart.{input_too_long, text_too_long, no_presentation, no_head}
 use Rattle.fpl_run.specs.Answer.{AnswersTask, AnswersStart, AnswersCommand, Answers, IsFront, FrontsStart, FrontsCommand, Fronts}
 use Rattle.fpl_run.specs.Answer.AnswersTask.{stopped_at, fails_in_view, shown}
-use Rattle.fpl_run.specs.Answer.AnswersStart.{not_built_yet, built}
 use Rattle.fpl_run.specs.Answer.AnswersCommand.{no_start, start}
 use Rattle.fpl_run.specs.Answer.Answers.{command}
 use Rattle.fpl_run.specs.Run.{ReadsNothing, IfTold, IsWritten, MayPut}
@@ -54,11 +53,9 @@ passed_input (Some bs) (Some rest) max P h f =
     f bs (rw all (omega (arith, length-append (h.front ++ h.piece) rest, length-append h.front h.piece, passed)))
 
 -- a task, told by its command
-pub start_through : (c : Command) (s : Start) (way : Way) → way_of c.view ≡ Some way → (a b : Option (List ℕ)) (r : Reply) →
+pub start_through : (c : Command) (s : Start) (way : Way) → way_of c.view ≡ way → (a b : Option (List ℕ)) (r : Reply) →
     Leaves (AnswersTask (task_for c way) s) (IsFront (task_for c way) s) a b r → Leaves (AnswersStart c s) (FrontsStart c s) a b r
-start_through c s way is a b r h =
-    leaves_through (AnswersTask (task_for c way) s) (AnswersStart c s) (IsFront (task_for c way) s) (FrontsStart c s) a b (λ x k. built way is x k)
-    (λ text f. (way, is, f)) r h
+start_through c s way is a b r h = subst (λ (w : Way). Leaves (AnswersTask (task_for c w) s) (IsFront (task_for c w) s) a b r) (sym is) h
 
 -- what was read, told by its bytes
 pub command_through : (c : Command) (bytes : List ℕ) (s : Start) → IsStart c bytes s → (a b : Option (List ℕ)) (r : Reply) →
@@ -75,8 +72,7 @@ module _ (c : Command) (bytes : List ℕ) where
   task_inner t s _ (shown come text e) = (λ e. cc, λ e. cc, λ e. cc, λ e. cc)
 
   start_inner : (s : Start) (r : Reply) → AnswersStart c s r → IsInner (status_of r)
-  start_inner s _ (not_built_yet e) = (λ e. cc, λ e. cc, λ e. cc, λ e. cc)
-  start_inner s _ (built way is r a) = task_inner (task_for c way) s r a
+  start_inner s r a = task_inner (task_for c (way_of c.view)) s r a
 
   no_start_inner : (r : Reply) → IsNoStart c bytes r → IsInner (status_of r)
   no_start_inner _ (input_too_long l) = (λ e. cc, λ e. cc, λ e. cc, λ e. cc)
@@ -103,7 +99,7 @@ module _ (c : Command) (bytes : List ℕ) where
   fault_may_put v (overflow w u) e = e
 
   -- where nothing may be put, there is no text
-  task_quiet : (s : Start) (way : Way) → way_of c.view ≡ Some way → (r : Reply) → AnswersTask (task_for c way) s r →
+  task_quiet : (s : Start) (way : Way) → way_of c.view ≡ way → (r : Reply) → AnswersTask (task_for c way) s r →
       (MayPut c.view (status_of r) → ⊥) → text_of r ≡ []
   task_quiet s (Show v) is _ (stopped_at f e) never = refl
   task_quiet s Write is _ (stopped_at f e) never = absurd (never (fault_may_put c.view f is))
@@ -112,8 +108,7 @@ module _ (c : Command) (bytes : List ℕ) where
   task_quiet s way is _ (shown come text e) never = absurd (never tt)
 
   start_quiet : (s : Start) (r : Reply) → AnswersStart c s r → (MayPut c.view (status_of r) → ⊥) → text_of r ≡ []
-  start_quiet s _ (not_built_yet e) never = refl
-  start_quiet s _ (built way is r a) never = task_quiet s way is r a never
+  start_quiet s r a never = task_quiet s (way_of c.view) refl r a never
 
   no_start_quiet : (r : Reply) → IsNoStart c bytes r → text_of r ≡ []
   no_start_quiet _ (input_too_long l) = refl
@@ -133,10 +128,7 @@ module _ (c : Command) (bytes : List ℕ) where
   quiet_output oo on _ (part r h p t) never = absurd (never tt)
   quiet_output oo on _ (front (inl e)) never = e
   quiet_output oo on _ (front (inr h)) never =
-      let f = h.1.2 in
-      let is : way_of c.view ≡ Some f.0 = f.1 in
-      let way : f.0 ≡ Write = f.2.0 in
-      absurd (never (is ∙ ap Some way))
+      absurd (never h.1.2.0)
 
 -- what is told of an input, told of more
 pub told_more : {M N : Type 0} (left : Option (List ℕ)) (P Q : List ℕ → Type 0) → (M → N) → ((bytes : List ℕ) → P bytes → Q bytes) →
@@ -148,8 +140,8 @@ pub told_always : {N : Type 0} (left : Option (List ℕ)) (P : List ℕ → Type
 told_always left P f = (always left P f, λ silent. f [])
 
 -- a view that writes its sections reads its input
-pub written_reads : (c : Command) → way_of c.view ≡ Some Write → IsUnread c.view → ⊥
-written_reads c made unread = let no : ◌≡◌ {A = Option Way} (Some Write) (Some (Show Sample)) = sym made ∙ ap way_of unread in cc
+pub written_reads : (c : Command) → way_of c.view ≡ Write → IsUnread c.view → ⊥
+written_reads c made unread = let no : Write ≡ Show Sample = sym made ∙ ap way_of unread in cc
 
 -- words of a view that reads nothing
 pub silent_view : (words : List (List ℕ)) (c : Command) → IsCommand words c → ((d : Command) → IsCommand words d → d ≡ c) → ReadsNothing words → IsUnread c.view

@@ -11,7 +11,7 @@ use Rattle.plain_walks.specs.Walks.{StopMeans}
 use Rattle.plain_walks.proofs.Walking.{stops_mean}
 use Rattle.plain_walks.proofs.StopsThere as there
 use Rattle.fpl_reply.specs.declared.view_fault.ViewFault.{ViewFault}
-use Rattle.fpl_reply.specs.Reply.{Reply, done, stopped, not_built}
+use Rattle.fpl_reply.specs.Reply.{Reply, done, stopped}
 use Rattle.fpl_views.specs.declared.shown.Shown.{Shown}
 use Rattle.fpl_views.specs.Views.{text_of_view}
 use Rattle.fpl_views.proofs.Texts.{texts_of_tables}
@@ -24,7 +24,7 @@ use Rattle.fpl_run.specs.Answer.{AnswersTask, written_before}
 use Rattle.fpl_run.specs.Answer.AnswersTask.{stopped_at, fails_in_view, shown}
 use Rattle.fpl_run.specs.Laws.{OneText, WalksAreStandard, PrimesFit, StopsMean, LimitComes, FaultsCome}
 use Rattle.fpl_run.proofs.Names.{command_in_range}
-use Rattle.fpl_run.proofs.OneReply.{of_words, task_reply, unbuilt_command, stops_one, no_fault_at_end}
+use Rattle.fpl_run.proofs.OneReply.{of_words, task_reply, stops_one, no_fault_at_end}
 use Rattle.fpl_run.proofs.Meaning.{start_sound, start_bytes, walk_standard, reply_tells, shown_through}
 
 pub walks_standard : WalksAreStandard
@@ -70,18 +70,11 @@ faults_come words c way bytes s w fault r is made fits from one last below holds
     r (task_reply c bytes way made s from r (of_words words bytes c is r a))
 
 pub primes_fit : PrimesFit
-primes_fit n words c bytes s text w u is fits from prime a = go (way_of c.view) refl
-  where
-    range : (c.limit ≤ 1000) × (c.entries ≤ 2000000)
-    range = command_in_range words c is
-
-    go : (o : Option Way) → way_of c.view ≡ o → ⊥
-    go None e = let no : stopped text (overflow w u) ≡ not_built = unbuilt_command c bytes s e from (stopped text (overflow w u))
-        (of_words words bytes c is (stopped text (overflow w u)) a) in cc
-    go (Some way) e =
-        there.primes_fit n (does_compute way) c.entries c.limit s.place s.has s.presentation s.stored w u
-        (start_sound c bytes (λ reads. fits) is.most s from) range.1 range.0 (start_bytes c bytes (λ reads. fits) s from) prime
-        (reply_tells words c way bytes s (stopped text (overflow w u)) is e from a)
+primes_fit n words c bytes s text w u is fits from prime a =
+    let range = command_in_range words c is in
+    there.primes_fit n (does_compute (way_of c.view)) c.entries c.limit s.place s.has s.presentation s.stored w u
+    (start_sound c bytes (λ reads. fits) is.most s from) range.1 range.0 (start_bytes c bytes (λ reads. fits) s from) prime
+    (reply_tells words c (way_of c.view) bytes s (stopped text (overflow w u)) is refl from a)
 
 one_shown : (v : Shown) (p q : Presentation) (T S : PlainTable) (ss rr : List Section) (text also : List ℕ) → text_of_view v p T ss ≡ Ok text →
     text_of_view v q S rr ≡ Ok also → text_of_view v p T ss ≡ text_of_view v q S rr → text ≡ also

@@ -80,10 +80,9 @@ module _ (words : List (List ℕ)) (bytes : List ℕ) (h : IsWithinLimits words 
   task_done _ (fails_in_view over f e) = absurd (no_fault h.way refl f e)
   task_done _ (shown over text e) = refl
 
-  not_check : way_of h.command.view ≡ Some Check → ⊥
+  not_check : way_of h.command.view ≡ Check → ⊥
   not_check e =
-      let same : ◌≡◌ {A = Option Way} (Some h.way) (Some Check) = sym h.built ∙ e in
-      let way : h.way ≡ Check = cc in
+      let way : h.way ≡ Check = sym h.built ∙ e in
       let no : does_compute Check ≡ true = ap does_compute (sym way) ∙ h.computes in
       cc
 

@@ -4,17 +4,17 @@
 --   written_before way p sections: what a view has written when a fault stops its walk: a checkpoint the head and the sections of
 --     the weights below, others nothing
 --   AnswersTask t s: a fault stops the walk at a weight; or it comes to its end, and the view has a fault of its own; or a text
---   AnswersStart c s: the view isn't built yet; or it is, and has the reply of its task
+--   AnswersStart c s: that of the view's task
 --   AnswersCommand c bytes: the bytes are nothing for the command; or there is a start
 --   Answers words bytes: the words spell no command; or one
 --   IsFront t s text: of a checkpoint the head and the sections of the weights from 1 to some weight, as the walk has them
 --   FrontsStart, FrontsCommand, Fronts: the same, told by a command, its input, and the words
-use Rattle.std.specs.Prelude.{ℕ, ◌≡◌, ◌-◌, List, [], length, take, Some, None, Result, Ok, Err}
+use Rattle.std.specs.Prelude.{ℕ, ◌≡◌, ◌-◌, List, [], length, take, Some, Result, Ok, Err}
 use Rattle.fpl_log.specs.declared.section.Section.{Section}
 use Rattle.fpl_model.specs.declared.presentation.Presentation.{Presentation}
 use Rattle.fpl_walk.specs.Walk.{Stage, Fault, failed}
 use Rattle.fpl_reply.specs.declared.view_fault.ViewFault.{ViewFault}
-use Rattle.fpl_reply.specs.Reply.{Reply, done, usage, stopped, failed_in_view, not_built}
+use Rattle.fpl_reply.specs.Reply.{Reply, done, usage, stopped, failed_in_view}
 use Rattle.fpl_views.specs.Views.{text_of_view}
 use Rattle.fpl_run.specs.declared.words.Command.{Command}
 use Rattle.fpl_run.specs.declared.task.Way.{Way}
@@ -43,9 +43,8 @@ pub data AnswersTask (t : Task) (s : Start) : Reply → Type 0 where
   fails_in_view : HasCome t s → (fault : ViewFault) → text_of_way t.way s t.limit (walk_for t s).stage ≡ Err fault → AnswersTask t s (failed_in_view fault)
   shown : HasCome t s → (text : List ℕ) → text_of_way t.way s t.limit (walk_for t s).stage ≡ Ok text → AnswersTask t s (done text)
 
-pub data AnswersStart (c : Command) (s : Start) : Reply → Type 0 where
-  not_built_yet : way_of c.view ≡ None → AnswersStart c s not_built
-  built : (way : Way) → way_of c.view ≡ Some way → (reply : Reply) → AnswersTask (task_for c way) s reply → AnswersStart c s reply
+abbrev pub AnswersStart : Command → Start → Reply → Type 0
+AnswersStart c s reply = AnswersTask (task_for c (way_of c.view)) s reply
 
 pub data AnswersCommand (c : Command) (bytes : List ℕ) : Reply → Type 0 where
   no_start : (IsUnread c.view → ⊥) → (reply : Reply) → IsNoStart c bytes reply → AnswersCommand c bytes reply
@@ -59,7 +58,7 @@ abbrev pub IsFront : Task → Start → List ℕ → Type 0
 IsFront t s text = (t.way ≡ Write) × (count : ℕ) × (text ≡ stream_text s.presentation (take count (walk_for t s).stage.sections))
 
 abbrev pub FrontsStart : Command → Start → List ℕ → Type 0
-FrontsStart c s text = (way : Way) × (way_of c.view ≡ Some way) × IsFront (task_for c way) s text
+FrontsStart c s text = IsFront (task_for c (way_of c.view)) s text
 
 abbrev pub FrontsCommand : Command → List ℕ → List ℕ → Type 0
 FrontsCommand c bytes text = (s : Start) × IsStart c bytes s × FrontsStart c s text

@@ -53,7 +53,7 @@ OneReply = (words : List (List ℕ)) (bytes : List ℕ) (r s : Reply) → Answer
 abbrev pub OneText : Type 0
 OneText =
     (words : List (List ℕ)) (c : Command) (v : Shown) (bytes more : List ℕ) (s t : Start) (text also : List ℕ) → IsCommand words c →
-    way_of c.view ≡ Some (Show v) → IsOfTable v →
+    way_of c.view ≡ Show v → IsOfTable v →
     IsBytes bytes → IsBytes more → IsStart c bytes s → IsStart c more t → s.presentation ≡ t.presentation →
     Answers words bytes (done text) → Answers words more (done also) → text ≡ also
 
@@ -71,14 +71,14 @@ PrimesFit =
 abbrev pub StopsMean : Type 0
 StopsMean =
     (words : List (List ℕ)) (c : Command) (way : Way) (bytes : List ℕ) (s : Start) (text : List ℕ) (fault : Fault) → IsCommand words c →
-    way_of c.view ≡ Some way →
+    way_of c.view ≡ way →
     IsBytes bytes → IsStart c bytes s → Answers words bytes (stopped text fault) →
     FaultMeans (does_compute way) c.entries c.limit s.presentation s.stored (walk_for (task_for c way) s).stage fault
 
 abbrev pub LimitComes : Type 0
 LimitComes =
     (words : List (List ℕ)) (c : Command) (way : Way) (bytes : List ℕ) (s : Start) (w count : ℕ) (r : Reply) → IsCommand words c →
-    way_of c.view ≡ Some way → IsBytes bytes →
+    way_of c.view ≡ way → IsBytes bytes →
     IsStart c bytes s → PassesAt s.presentation c.limit c.entries w count →
     (walk_for (record { way = way; limit = w - 1; entries = c.entries }) s).stop ≡ None →
     Answers words bytes r → (text : List ℕ) × (r ≡ stopped text (too_many w count))
@@ -86,7 +86,7 @@ LimitComes =
 abbrev pub FaultsCome : Type 0
 FaultsCome =
     (words : List (List ℕ)) (c : Command) (way : Way) (bytes : List ℕ) (s : Start) (w : ℕ) (fault : Fault) (r : Reply) → IsCommand words c →
-    way_of c.view ≡ Some way →
+    way_of c.view ≡ way →
     IsBytes bytes → IsStart c bytes s → 1 ≤ w → w ≤ c.limit →
     let below = walk_for (record { way = way; limit = w - 1; entries = c.entries }) s in
     below.stop ≡ None → FaultMeans (does_compute way) c.entries c.limit s.presentation s.stored below.stage fault →
@@ -96,8 +96,8 @@ abbrev pub IsCheckpointOf : Presentation → List ℕ → Type 0
 IsCheckpointOf p bytes = (length bytes ≤ most_bytes) × IsStreamOf p bytes
 
 pub record IsOwnReply (c : Command) (p : Presentation) (r : Reply) : Type 0 where
-  pub checked : way_of c.view ≡ Some Check → (status_of r ≡ Done) ⊎ (status_of r ≡ Limit)
-  pub answered : (way_of c.view ≡ Some Check → ⊥) → AnswersStart c (of_text p) r
+  pub checked : way_of c.view ≡ Check → (status_of r ≡ Done) ⊎ (status_of r ≡ Limit)
+  pub answered : (way_of c.view ≡ Check → ⊥) → AnswersStart c (of_text p) r
 
 abbrev pub OwnCheckpoints : Type 0
 OwnCheckpoints =
@@ -106,7 +106,7 @@ OwnCheckpoints =
 
 abbrev pub CheckpointsAreOwn : Type 0
 CheckpointsAreOwn =
-    (words : List (List ℕ)) (c : Command) (p : Presentation) (text : List ℕ) (r : Reply) (end : ℕ) → IsCommand words c → way_of c.view ≡ Some Write →
+    (words : List (List ℕ)) (c : Command) (p : Presentation) (text : List ℕ) (r : Reply) (end : ℕ) → IsCommand words c → way_of c.view ≡ Write →
     length text ≤ most_text →
     HasPresentation text p → Answers words text r → length (head_bytes_of VERSION p) ≤ end → IsStreamOf p (take end (text_of r))
 
@@ -119,7 +119,7 @@ pub record IsWithinLimits (words : List (List ℕ)) (bytes : List ℕ) : Type 0 
   pub command : Command
   pub spelled : IsCommand words command
   pub way : Way
-  pub built : way_of command.view ≡ Some way
+  pub built : way_of command.view ≡ way
   pub computes : does_compute way ≡ true
   pub presentation : Presentation
   pub input : IsInput command presentation bytes

@@ -7,14 +7,14 @@
 --   MayPut view status: something may stand in the output of a view that has ended with this status: its text after Done, a part of it after a failing put; of
 --   a checkpoint also what was written before a fault stopped the run or memory ran out
 --   Spends c bytes out_old out_new old new: a number rose by at most the number of origins of the weights that a run computes, where its view is counted;
---   it stayed where the view isn't built, or the bytes are no start; and a checkpoint's sections are written as its weights are done
+--   it stayed where there is no start; and a checkpoint's sections are written as its weights are done
 use Rattle.std.specs.Prelude.{◌≡◌, ℕ, ◌+◌, ◌≤◌, ◌⊎◌, List, [], Option, Some, IfSome}
 use Rattle.fpl_log.specs.declared.section.Section.{Section}
 use Rattle.fpl_table.specs.Plain.{PlainTable}
 use Rattle.fpl_table.specs.Standard.{IsTableOf}
 use Rattle.fpl_complete.specs.State.{AreAccepted}
 use Rattle.fpl_reply.specs.declared.status.Status.{Status}
-use Rattle.fpl_reply.specs.declared.status.Status.TheVariants.{Done, Usage, Refused, BadCheckpoint, Limit, Overflow, NoMemory, ReadFault, WriteFault, NotBuilt}
+use Rattle.fpl_reply.specs.declared.status.Status.TheVariants.{Done, Usage, Refused, BadCheckpoint, Limit, Overflow, NoMemory, ReadFault, WriteFault}
 use Rattle.fpl_views.specs.declared.shown.Shown.{Shown}
 use Rattle.fpl_views.specs.Views.{Shows}
 use Rattle.fpl_run.specs.declared.words.View.{View}
@@ -43,7 +43,7 @@ pub record Means (c : Command) (bytes : List ℕ) (v : Shown) (text : List ℕ) 
   pub shows : Shows v start.presentation table sections text
 
 abbrev pub IsWritten : View → Type 0
-IsWritten view = way_of view ≡ Some Write
+IsWritten view = way_of view ≡ Write
 
 abbrev pub MayPut : View → Status → Type 0
 MayPut view Done = Unit {0}
@@ -55,10 +55,9 @@ MayPut view Overflow = IsWritten view
 MayPut view NoMemory = IsWritten view
 MayPut view ReadFault = ⊥
 MayPut view WriteFault = Unit {0}
-MayPut view NotBuilt = ⊥
 
 pub record Spends (c : Command) (bytes : List ℕ) (out_old out_new : Option (List ℕ)) (old new : ℕ) : Type 0 where
   pub rises : old ≤ new
-  pub most : (way : Way) (s : Start) → way_of c.view ≡ Some way → IsCounted way → IsStart c bytes s → new ≤ old + cost_for (task_for c way) s
-  pub stays : ((way : Way) (s : Start) → way_of c.view ≡ Some way → IsStart c bytes s → ⊥) → new ≡ old
+  pub most : (way : Way) (s : Start) → way_of c.view ≡ way → IsCounted way → IsStart c bytes s → new ≤ old + cost_for (task_for c way) s
+  pub stays : ((s : Start) → IsStart c bytes s → ⊥) → new ≡ old
   pub paced : (s : Start) → IsWritten c.view → IsStart c bytes s → IsPaced (task_for c Write) s out_old out_new old new

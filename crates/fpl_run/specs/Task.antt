@@ -1,9 +1,9 @@
 -- How a command is done.
---   way_of view: how a view is made, where it is built: a text of the table; sections written along the way; or a check of those stored
+--   way_of view: how a view is made: a text of the table; sections written along the way; or a check of those stored
 --   task_for c way: a command that is done so
 --   does_compute way: whether the weights are computed whose sections aren't stored, as all do but a check
 --   IsCounted way: a row that it gives to an elimination is an origin of a weight
-use Rattle.std.specs.Prelude.{Bool, true, false, Option, Some, None}
+use Rattle.std.specs.Prelude.{Bool, true, false}
 use Rattle.fpl_views.specs.declared.shown.Shown.TheVariants as shown
 use Rattle.fpl_views.specs.Views as views
 use Rattle.fpl_run.specs.declared.words.View.{View}
@@ -13,19 +13,19 @@ use Rattle.fpl_run.specs.declared.task.Way.{Way}
 use Rattle.fpl_run.specs.declared.task.Way.TheVariants.{Show, Write, Check}
 use Rattle.fpl_run.specs.declared.task.Task.{Task}
 
-abbrev pub way_of : View → Option Way
-way_of view.Table = Some (Show shown.Table)
-way_of view.Series = Some (Show shown.Series)
-way_of view.Gap = Some (Show shown.Gap)
-way_of view.Log = Some (Show shown.Log)
-way_of view.Equal = Some (Show shown.Equal)
-way_of view.Sample = Some (Show shown.Sample)
-way_of view.Cohomology = Some (Show shown.Cohomology)
-way_of view.Centre = Some (Show shown.Centre)
-way_of view.Lcs = Some (Show shown.Lcs)
-way_of view.Ideal = Some (Show shown.Ideal)
-way_of view.Checkpoint = Some Write
-way_of view.Check = Some Check
+abbrev pub way_of : View → Way
+way_of view.Table = Show shown.Table
+way_of view.Series = Show shown.Series
+way_of view.Gap = Show shown.Gap
+way_of view.Log = Show shown.Log
+way_of view.Equal = Show shown.Equal
+way_of view.Sample = Show shown.Sample
+way_of view.Cohomology = Show shown.Cohomology
+way_of view.Centre = Show shown.Centre
+way_of view.Lcs = Show shown.Lcs
+way_of view.Ideal = Show shown.Ideal
+way_of view.Checkpoint = Write
+way_of view.Check = Check
 
 abbrev pub task_for : Command → Way → Task
 task_for c way = record { way = way; limit = c.limit; entries = c.entries }

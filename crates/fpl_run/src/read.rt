@@ -1,5 +1,5 @@
 //! From the bytes of an input to what they come to.
-ghost use Rattle.std.specs.Prelude.{◌≡◌, ◌≢◌, ◌≤◌, ◌⊎◌, ◌↔◌, ℕ, List, length, IfSome, IsTrue, None};
+ghost use Rattle.std.specs.Prelude.{◌≡◌, ◌≢◌, ◌≤◌, ◌⊎◌, ◌↔◌, ℕ, List, length, IfSome, IsTrue};
 ghost use Rattle.std.specs.Io.KnownBytes.{IsAtEnd};
 ghost use Rattle.fpl_bytes.specs.Codes.{IsBytes};
 ghost use Rattle.fpl_outside.specs.Outside.{Rose};
@@ -7,7 +7,6 @@ ghost use Rattle.fpl_reply.specs.Reply.{read_fault, status_of};
 ghost use Rattle.fpl_reply.specs.Outcome.{reply_of};
 ghost use Rattle.fpl_reply.specs.Leaves.{Leaves};
 ghost use Rattle.fpl_run.specs.Words.{IsInRange, most_limit};
-ghost use Rattle.fpl_run.specs.Task.{way_of};
 ghost use Rattle.fpl_run.specs.Read.{IsUnread, IsMarked, IsCheckpoint, most_bytes};
 ghost use Rattle.fpl_run.specs.Answer.{AnswersCommand, FrontsCommand};
 ghost use Rattle.fpl_run.specs.Run.{IfTold, MayPut, Spends};
@@ -60,7 +59,6 @@ fn answer_text<O: Sink, L: Ledger>(
     ensures reply { Leaves (AnswersCommand c bytes.now) (FrontsCommand c bytes.now) (O.taken out.old) (O.taken out.new) (reply_of result) }
     ensures fault { status_of (reply_of result) ≡ Status.WriteFault → Rose (O.faults out.old) (O.faults out.new) }
     ensures cost { Spends c bytes.now (O.taken out.old) (O.taken out.new) steps.old steps.new }
-    ensures idle { way_of c.view ≡ None → steps.new ≡ steps.old }
 {
     if bytes.len() > MOST_TEXT {
         return Outcome::Refused {
@@ -100,7 +98,6 @@ fn answer_checkpoint<O: Sink, L: Ledger>(
     ensures reply { Leaves (AnswersCommand c bytes.now) (FrontsCommand c bytes.now) (O.taken out.old) (O.taken out.new) (reply_of result) }
     ensures fault { status_of (reply_of result) ≡ Status.WriteFault → Rose (O.faults out.old) (O.faults out.new) }
     ensures cost { Spends c bytes.now (O.taken out.old) (O.taken out.new) steps.old steps.new }
-    ensures idle { way_of c.view ≡ None → steps.new ≡ steps.old }
 {
     match scan_head(alloc, bytes) {
         Ok(head) => {
@@ -131,7 +128,6 @@ fn answer_bytes<O: Sink, L: Ledger>(
     ensures reply { Leaves (AnswersCommand c bytes.now) (FrontsCommand c bytes.now) (O.taken out.old) (O.taken out.new) (reply_of result) }
     ensures fault { status_of (reply_of result) ≡ Status.WriteFault → Rose (O.faults out.old) (O.faults out.new) }
     ensures cost { Spends c bytes.now (O.taken out.old) (O.taken out.new) steps.old steps.new }
-    ensures idle { way_of c.view ≡ None → steps.new ≡ steps.old }
 {
     if is_checkpoint(c, bytes) {
         return answer_checkpoint(alloc, c, bytes, out, steps);
@@ -152,7 +148,6 @@ fn answer_built_in<O: Sink, L: Ledger>(
     ensures reply { (bytes : List ℕ) → Leaves (AnswersCommand c bytes) (FrontsCommand c bytes) (O.taken out.old) (O.taken out.new) (reply_of result) }
     ensures fault { status_of (reply_of result) ≡ Status.WriteFault → Rose (O.faults out.old) (O.faults out.new) }
     ensures cost { (bytes : List ℕ) → Spends c bytes (O.taken out.old) (O.taken out.new) steps.old steps.new }
-    ensures idle { way_of c.view ≡ None → steps.new ≡ steps.old }
 {
     match type_a(alloc, c.limit) {
         Ok(presentation) => {
@@ -186,7 +181,6 @@ pub(crate) fn answer_command<I: Source, O: Sink, L: Ledger>(
     ensures nothing { (MayPut c.view (status_of (reply_of result)) → ⊥) → O.taken out.new ≡ O.taken out.old }
     ensures bytes { status_of (reply_of result) ≡ Status.Done → (IsUnread c.view → ⊥) → IfSome (I.left input.old) IsBytes }
     ensures unread { IsUnread c.view → input.new ≡ input.old }
-    ensures idle { way_of c.view ≡ None → steps.new ≡ steps.old }
     ensures read { status_of (reply_of result) ≡ Status.ReadFault → Rose (I.faults input.old) (I.faults input.new) × (IsUnread c.view → ⊥) }
     ensures end { status_of (reply_of result) ≡ Status.Done → IsUnread c.view ⊎ IsAtEnd (I.left input.new) }
 {

@@ -1,5 +1,5 @@
 //! The run of what was read, from its beginning.
-ghost use Rattle.std.specs.Prelude.{◌≡◌, ◌≤◌, ◌<◌, ◌+◌, ◌^◌, ◌⊎◌, length, Some, None, IfOk, IfSome, IfNone};
+ghost use Rattle.std.specs.Prelude.{◌≡◌, ◌≤◌, ◌<◌, ◌+◌, ◌^◌, ◌⊎◌, length, IfOk, IfSome, IfNone};
 ghost use Rattle.fpl_numbers.specs.Numbers.{IsField};
 ghost use Rattle.fpl_model.specs.Sound.{IsSound};
 ghost use Rattle.fpl_canonical.specs.Canonical.{canonical_of};
@@ -134,21 +134,17 @@ pub(crate) fn answer_start<O: Sink, L: Ledger>(
     steps: &mut Steps<L>,
 ) -> Outcome
     requires sound { IsSound begin.presentation }
-    requires short { way_of c.view ≡ Some Way.Write → length (canonical_of begin.presentation) < 2 ^ 32 }
+    requires short { way_of c.view ≡ Way.Write → length (canonical_of begin.presentation) < 2 ^ 32 }
     requires version { (begin.version ≡ 1) ⊎ (begin.version ≡ 2) }
     requires range { IsInRange c.limit c.entries }
     ensures reply { Leaves (AnswersStart c (start_in begin bytes.now)) (FrontsStart c (start_in begin bytes.now)) (O.taken out.old) (O.taken out.new) (reply_of result) }
     ensures fault { status_of (reply_of result) ≡ Status.WriteFault → Rose (O.faults out.old) (O.faults out.new) }
     ensures rises { steps.old ≤ steps.new }
-    ensures cost { (way : Way) → way_of c.view ≡ Some way → IsCounted way → steps.new ≤ steps.old + cost_for (task_for c way) (start_in begin bytes.now) }
-    ensures paced { way_of c.view ≡ Some Way.Write → IsPaced (task_for c Way.Write) (start_in begin bytes.now) (O.taken out.old) (O.taken out.new) steps.old steps.new }
-    ensures idle { way_of c.view ≡ None → steps.new ≡ steps.old }
+    ensures cost { (way : Way) → way_of c.view ≡ way → IsCounted way → steps.new ≤ steps.old + cost_for (task_for c way) (start_in begin bytes.now) }
+    ensures paced { way_of c.view ≡ Way.Write → IsPaced (task_for c Way.Write) (start_in begin bytes.now) (O.taken out.old) (O.taken out.new) steps.old steps.new }
 {
-    let Some(way) = way_of(c.view) else {
-        return Outcome::NotBuilt;
-    };
     let task = Task {
-        way,
+        way: way_of(c.view),
         limit: c.limit,
         entries: c.entries,
     };

@@ -1,5 +1,5 @@
 //! How a command is done.
-ghost use Rattle.std.specs.Prelude.{◌≡◌, IfSome, IfNone, Some, None};
+ghost use Rattle.std.specs.Prelude.{◌≡◌};
 ghost use Rattle.fpl_run.specs.Task.{way_of, does_compute};
 
 use crate::words::View;
@@ -24,23 +24,23 @@ pub struct Task {
     pub entries: u64,
 }
 
-/// How a view is made, where it is built.
-pub(crate) fn way_of(view: View) -> Option<Way>
+/// How a view is made.
+pub(crate) fn way_of(view: View) -> Way
     ensures { result ≡ way_of view }
 {
     match view {
-        View::Table => Some(Way::Show(Shown::Table)),
-        View::Series => Some(Way::Show(Shown::Series)),
-        View::Gap => Some(Way::Show(Shown::Gap)),
-        View::Log => Some(Way::Show(Shown::Log)),
-        View::Equal => Some(Way::Show(Shown::Equal)),
-        View::Sample => Some(Way::Show(Shown::Sample)),
-        View::Cohomology => Some(Way::Show(Shown::Cohomology)),
-        View::Centre => Some(Way::Show(Shown::Centre)),
-        View::Lcs => Some(Way::Show(Shown::Lcs)),
-        View::Ideal => Some(Way::Show(Shown::Ideal)),
-        View::Checkpoint => Some(Way::Write),
-        View::Check => Some(Way::Check),
+        View::Table => Way::Show(Shown::Table),
+        View::Series => Way::Show(Shown::Series),
+        View::Gap => Way::Show(Shown::Gap),
+        View::Log => Way::Show(Shown::Log),
+        View::Equal => Way::Show(Shown::Equal),
+        View::Sample => Way::Show(Shown::Sample),
+        View::Cohomology => Way::Show(Shown::Cohomology),
+        View::Centre => Way::Show(Shown::Centre),
+        View::Lcs => Way::Show(Shown::Lcs),
+        View::Ideal => Way::Show(Shown::Ideal),
+        View::Checkpoint => Way::Write,
+        View::Check => Way::Check,
     }
 }
 

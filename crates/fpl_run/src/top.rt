@@ -1,5 +1,5 @@
 //! The entry of the program.
-ghost use Rattle.std.specs.Prelude.{◌≡◌, ◌⊎◌, ◌↔◌, List, ℕ, IfSome, Some, None};
+ghost use Rattle.std.specs.Prelude.{◌≡◌, ◌⊎◌, ◌↔◌, List, ℕ, IfSome};
 ghost use Rattle.std.specs.Io.KnownBytes.{IsAtEnd};
 ghost use Rattle.fpl_bytes.specs.Codes.{IsBytes};
 ghost use Rattle.fpl_outside.specs.Outside.{Rose, Takes};
@@ -36,7 +36,6 @@ fn answer_words<I: Source, O: Sink, L: Ledger>(
     ensures nothing { ((c : Command) → IsCommand (spelled words.now.items) c → MayPut c.view (status_of (reply_of result)) → ⊥) → O.taken out.new ≡ O.taken out.old }
     ensures unread { ReadsNothing (spelled words.now.items) → input.new ≡ input.old }
     ensures bytes { status_of (reply_of result) ≡ Status.Done → (ReadsNothing (spelled words.now.items) → ⊥) → IfSome (I.left input.old) IsBytes }
-    ensures idle { ((c : Command) → IsCommand (spelled words.now.items) c → way_of c.view ≡ None) → steps.new ≡ steps.old }
     ensures cost { IfTold (ReadsNothing (spelled words.now.items)) (I.left input.old) (λ bytes. (c : Command) → IsCommand (spelled words.now.items) c → Spends c bytes (O.taken out.old) (O.taken out.new) steps.old steps.new) }
     ensures read { status_of (reply_of result) ≡ Status.ReadFault → Rose (I.faults input.old) (I.faults input.new) × (ReadsNothing (spelled words.now.items) → ⊥) }
     ensures write { status_of (reply_of result) ≡ Status.WriteFault → Rose (O.faults out.old) (O.faults out.new) }
@@ -69,7 +68,7 @@ pub fn run<I: Source, O: Sink, E: Sink, L: Ledger>(
 
     // What was written shows the standard table of the presentation that was read, in the words of the algebra.
     ensures means { result ≡ Status.Done → IfTold (ReadsNothing (spelled words.now.items)) (I.left input.old) (λ bytes. (c : Command) (v : Shown) → IsCommand (spelled words.now.items) c →
-        way_of c.view ≡ Some (Show v) → (text : List ℕ) × Takes (O.taken out.old) (O.taken out.new) text × Means c bytes v text) }
+        way_of c.view ≡ Show v → (text : List ℕ) × Takes (O.taken out.old) (O.taken out.new) text × Means c bytes v text) }
 
     ensures line { (reply : Reply) × (status_of reply ≡ result) × Says (E.taken err.old) (E.taken err.new) (E.faults err.old) (E.faults err.new) (line_of reply) }
 
@@ -83,7 +82,6 @@ pub fn run<I: Source, O: Sink, E: Sink, L: Ledger>(
 
     // What a command costs, whatever the answer.
     ensures cost { IfTold (ReadsNothing (spelled words.now.items)) (I.left input.old) (λ bytes. (c : Command) → IsCommand (spelled words.now.items) c → Spends c bytes (O.taken out.old) (O.taken out.new) steps.old steps.new) }
-    ensures idle { ((c : Command) → IsCommand (spelled words.now.items) c → way_of c.view ≡ None) → steps.new ≡ steps.old }
 {
     let outcome = answer_words(alloc, words, input, out, steps);
     let _ = put_line(err, &outcome);

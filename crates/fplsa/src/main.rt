@@ -1,7 +1,7 @@
 //! Finitely presented Lie superalgebras, weight by weight.
 #![tactic(auto)]
 
-ghost use Rattle.std.specs.Prelude.{◌≡◌, ◌<◌, ◌⊎◌, ◌↔◌, List, ℕ, IfSome, Some};
+ghost use Rattle.std.specs.Prelude.{◌≡◌, ◌<◌, ◌⊎◌, ◌↔◌, List, ℕ, IfSome};
 ghost use Rattle.std.specs.Io.KnownBytes.{IsAtEnd};
 ghost use Rattle.fpl_outside.specs.Outside.{Rose, Takes};
 ghost use Rattle.fpl_reply.specs.Reply.{Reply, status_of, line_of};
@@ -40,7 +40,7 @@ fn run_uncounted<L: Ledger, I: Source, O: Sink, E: Sink>(
     ensures answer { IfSome (I.left input.old) (λ bytes. IsAnswered (Answers (spelled words.now.items) bytes) (Fronts (spelled words.now.items) bytes) result
         (O.taken out.old) (O.taken out.new) (E.taken err.old) (E.taken err.new) (E.faults err.old) (E.faults err.new)) }
     ensures means { result ≡ Status.Done → IfSome (I.left input.old) (λ bytes. (c : Command) (v : Shown) → IsCommand (spelled words.now.items) c →
-        way_of c.view ≡ Some (Show v) → (text : List ℕ) × Takes (O.taken out.old) (O.taken out.new) text × Means c bytes v text) }
+        way_of c.view ≡ Show v → (text : List ℕ) × Takes (O.taken out.old) (O.taken out.new) text × Means c bytes v text) }
     ensures line { (reply : Reply) × (status_of reply ≡ result) × Says (E.taken err.old) (E.taken err.new) (E.faults err.old) (E.faults err.new) (line_of reply) }
     ensures read { result ≡ Status.ReadFault → Rose (I.faults input.old) (I.faults input.new) × (ReadsNothing (spelled words.now.items) → ⊥) }
     ensures write { result ≡ Status.WriteFault → Rose (O.faults out.old) (O.faults out.new) }

@@ -24,7 +24,7 @@ pub returns-in-Ok-clause-cost : goal.returns-in-Ok-clause-cost
 returns-in-Ok-clause-cost g c = λ bytes.
     costs_start c.args.c bytes (of_text c.in-Ok.presentation) _ _ c.args.steps.now c.answer_start.new.steps
     (subst (λ p. IsStart c.args.c bytes (of_text p)) (sym c.in-Ok.ensures) (built_in c.requires.unread))
-    c.answer_start.ensures.rises c.answer_start.ensures.idle c.answer_start.ensures.cost c.answer_start.ensures.paced
+    c.answer_start.ensures.rises c.answer_start.ensures.cost c.answer_start.ensures.paced
 
 pub returns-in-Err-clause-reply : goal.returns-in-Err-clause-reply
 returns-in-Err-clause-reply g c = λ bytes. front (inl refl)

@@ -19,7 +19,7 @@ pub returns-in-Ok-clause-cost : goal.returns-in-Ok-clause-cost
 returns-in-Ok-clause-cost g c =
     costs_start c.args.c c.args.bytes.now (of_head c.args.bytes.now c.in-Ok.head) _ _ c.args.steps.now c.answer_start.new.steps
     (from_head c.requires.read c.requires.short c.requires.checkpoint c.in-Ok.head c.in-Ok.ensures.head)
-    c.answer_start.ensures.rises c.answer_start.ensures.idle c.answer_start.ensures.cost c.answer_start.ensures.paced
+    c.answer_start.ensures.rises c.answer_start.ensures.cost c.answer_start.ensures.paced
 
 pub returns-in-Err-Bad-clause-reply : goal.returns-in-Err-Bad-clause-reply
 returns-in-Err-Bad-clause-reply g c =

@@ -36,7 +36,7 @@ returns-in-Ok-clause-cost g c =
     let short : length c.args.bytes.now ≤ most_text = omega arith in
     costs_start c.args.c c.args.bytes.now (of_text c.in-Ok.presentation) _ _ c.args.steps.now c.answer_start.new.steps
     (from_text c.requires.read short c.requires.plain c.in-Ok.presentation c.in-Ok.ensures.read)
-    c.answer_start.ensures.rises c.answer_start.ensures.idle c.answer_start.ensures.cost c.answer_start.ensures.paced
+    c.answer_start.ensures.rises c.answer_start.ensures.cost c.answer_start.ensures.paced
 
 pub returns-in-Err-NoMemory-clause-reply : goal.returns-in-Err-NoMemory-clause-reply
 returns-in-Err-NoMemory-clause-reply g c = front (inl refl)
