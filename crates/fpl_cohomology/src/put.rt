@@ -52,7 +52,8 @@ pub(crate) fn put_coboundaries<F: Field, L: Ledger>(
     requires tuples { AreTuplesOf table.now tuples.now }
     requires kind { span.old.kind ≡ table.now.kind }
     requires size { span.old.size ≡ length (pairs table.now tuples.now.weight) }
-    ensures value { Gives result span.new (put_rows (map (λ e. Ok (coboundary_row table.now tuples.now.weight e)) (singles table.now tuples.now.weight)) span.old) }
+    ensures value { Gives result span.new
+        (put_rows (map (λ e. Ok (coboundary_row table.now tuples.now.weight e)) (singles table.now tuples.now.weight)) span.old) }
     ensures kind { span.new.kind ≡ span.old.kind }
     ensures size { span.new.size ≡ span.old.size }
     ensures rises { steps.old ≤ steps.new }
@@ -76,7 +77,8 @@ pub(crate) fn form_all<F: Field>(
 ) -> Result<(), Fault>
     requires tuples { AreTuplesOf table.now tuples.now }
     ensures formed { OnOk result (AreAllFormed (map (triple_row table.now tuples.now.weight) (triples table.now tuples.now.weight))) }
-    ensures fault { (fault : Fault) → IsErrOf result fault → IsFault fault (all_of (map (triple_row table.now tuples.now.weight) (triples table.now tuples.now.weight))) }
+    ensures fault { (fault : Fault) → IsErrOf result fault →
+        IsFault fault (all_of (map (triple_row table.now tuples.now.weight) (triples table.now tuples.now.weight))) }
 {
     match table.field().kind() {
         Kind::Prime(_) => return Ok(()),
