@@ -93,7 +93,7 @@ module _ (T : PlainTable) (listed : IsField T.kind) (has : HasRows T) (w : ℕ) 
   entry_element x p e =
       subst (λ y. IsElement T.kind (get_or (entry_of T y) e (residue 0))) (sym p.is)
       (number_element T listed (entry_row T (left x) (right x)) e (has.entries (left x) (right x) p.first p.second p.regular
-          (let s = p.sum in omega arith)).elements)
+      (let s = p.sum in omega arith)).elements)
 
   pub one_is_row : (x : Symbol) → IsPair T w x → IsRowOf T.kind (length (singles T w)) (bracket_row T w x)
   one_is_row x p =

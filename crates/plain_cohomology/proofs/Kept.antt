@@ -61,8 +61,16 @@ module _ {X : Type 0} (test : X → Bool) (x : X) (xs ys : List X) (d : X) (slot
       all (suc s) l e = (let r = h.all s (omega arith) e in (r.0, r.1, ap suc r.2))
 
 pub kept_slots : {X : Type 0} (test : X → Bool) (xs : List X) (d : X) → (slot : ℕ → ℕ) × IsKept test xs (filter test xs) d slot
-kept_slots test [] d = ((λ k. 0), record { there = λ k l. absurd (omega arith); ascend = λ k l m n. absurd (omega arith); all =
-    λ s l. absurd (omega arith); is = λ k l. absurd (omega arith) })
+kept_slots test [] d = (
+  (λ k. 0),
+  record {
+    there = λ k l. absurd (omega arith);
+    ascend = λ k l m n. absurd (omega arith);
+    all =
+        λ s l. absurd (omega arith);
+    is = λ k l. absurd (omega arith);
+  },
+)
 kept_slots {X} test (x ∷ xs) d = go (test x) refl (kept_slots test xs d)
   where
     go : (b : Bool) → test x ≡ b → (slot : ℕ → ℕ) × IsKept test xs (filter test xs) d slot →

@@ -172,7 +172,7 @@ module _ (T : PlainTable) (listed : IsField T.kind) (has : HasRows T) (weights :
       (record {
         first = λ k x m. (h1_rows T listed has w low a.0 a.1.0 k x m).elements;
         second = λ k x m.
-        subst (AreElements T.kind) (sym (defaults (chosen b.0 c.0) k x [] m ∙ s.1.is k m)) (rows (s.0 k) [] (s.1.there k m).0).elements;
+            subst (AreElements T.kind) (sym (defaults (chosen b.0 c.0) k x [] m ∙ s.1.is k m)) (rows (s.0 k) [] (s.1.there k m).0).elements;
       })
 
   pub low_is : (P : Abstract K.Carrier) → ObeysLaw K P (table_in T.kind T) → (l : Low) → low_of T w ≡ Ok l → RepresentsLow T.kind T w l
@@ -231,9 +231,8 @@ module _ (T : PlainTable) (listed : IsField T.kind) (has : HasRows T) (weights :
       let a = first_fits (λ lows. map_ok (λ low. lows ++ low ∷ []) (low_of T (suc w))) (lows_of T w) lows e in
       let b = part_fits (λ low. a.0 ++ low ∷ []) (low_of T (suc w)) lows a.1.1 in
       let h = lows_elements w (omega arith) a.0 a.1.0 in
-      subst (λ lows. (length lows ≡ suc w) × All (HasElements T.kind) lows) (sym b.1.1)
-      (
+      subst (λ lows. (length lows ≡ suc w) × All (HasElements T.kind) lows) (sym b.1.1) (
         length_more a.0 b.0 ∙ ap suc h.0,
         All-append (HasElements T.kind) a.0 (b.0 ∷ []) h.1
-        (All-cons (HasElements T.kind) b.0 [] (low_elements T listed has weights (suc w) l b.0 b.1.0) (All-nil (HasElements T.kind))),
+            (All-cons (HasElements T.kind) b.0 [] (low_elements T listed has weights (suc w) l b.0 b.1.0) (All-nil (HasElements T.kind))),
       )

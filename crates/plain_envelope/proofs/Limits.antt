@@ -24,8 +24,14 @@ module _ (K : Field) (T : Table K) (n : ℕ) where
     weight = p.weight;
     count = p.count;
     is = ap (λ o. or_at o n (suc w) (count_through T (suc w))) p.is;
-    first = record { some = p.first.some; within = let h : p.weight ≤ w = p.first.within in omega arith; number = p.first.number; past =
-        p.first.past; first = p.first.first };
+    first = record {
+      some = p.first.some;
+      within = let h : p.weight ≤ w = p.first.within in omega arith;
+      number = p.first.number;
+      past =
+          p.first.past;
+      first = p.first.first;
+    };
   })
   limit_next w (inr q) = by_count (dec_lt n (count_through T (suc w)))
     where

@@ -1,6 +1,30 @@
 -- The words of a weight: their numbers in the list.
-use Rattle.std.proofs.Common.{ℕ, zero, suc, ◌+◌, ◌-◌, ◌<◌, ◌≤◌, ◌≡◌, [], ◌∷◌, ◌++◌, length, map, get_or, Bool, true, false, cond, refl, sym, ap, ◌∙◌, subst,
-    arith}
+use Rattle.std.proofs.Common.{
+  ℕ,
+  zero,
+  suc,
+  ◌+◌,
+  ◌-◌,
+  ◌<◌,
+  ◌≤◌,
+  ◌≡◌,
+  [],
+  ◌∷◌,
+  ◌++◌,
+  length,
+  map,
+  get_or,
+  Bool,
+  true,
+  false,
+  cond,
+  refl,
+  sym,
+  ap,
+  ◌∙◌,
+  subst,
+  arith,
+}
 use Rattle.std.specs.List.{filter}
 use Rattle.std.specs.Prelude.{drop, nat_le, nat_lt, nat_eq, not}
 use Rattle.std.proofs.lemmas.List.{length-append, get_or_append_left, get_or-append-add, length-map, length-drop, get_or-drop, get_or-map}
@@ -31,7 +55,7 @@ module _ (K : Field) (T : Table K) where
           get_or (word_lists T w ++ (joined (length T.basis) (words_begun T (word_lists T w) (suc w)) ∷ [])) v [] ≡ get_or (word_lists T v) v []
       by_last (yes e) h = let same : v ≡ suc w = omega arith in
           subst (λ v. get_or (word_lists T w ++ (joined (length T.basis) (words_begun T (word_lists T w) (suc w)) ∷ [])) v []
-              ≡ get_or (word_lists T v) v []) (sym same) refl
+          ≡ get_or (word_lists T v) v []) (sym same) refl
       by_last (no e) h =
           get_or_append_left (word_lists T w) _ [] v (let s : length (word_lists T w) ≡ suc w = lists_length w in omega arith) ∙ h (omega arith)
 
@@ -214,7 +238,7 @@ module _ (K : Field) (T : Table K) (weights : IsWeighted T) where
       by_weight : Dec (suc w < weight_at T i) → Parts w k i
       by_weight (yes d) =
           absurd (let e : head_count T (suc w) (suc i) ≡ head_count T (suc w) i + 0 = head_next (suc w) i
-              ∙ ap (λ us. head_count T (suc w) i + length us) (begun_none (suc w) i d) in omega arith)
+          ∙ ap (λ us. head_count T (suc w) i + length us) (begun_none (suc w) i d) in omega arith)
       by_weight (no d) = record {
         rest = skipped T (suc w - weight_at T i) i + (k - head_count T (suc w) i);
         letter_in = l;

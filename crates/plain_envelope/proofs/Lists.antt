@@ -1,6 +1,31 @@
 -- Lists in a row: where an element of them stands, and tests that are the same for all of a list.
-use Rattle.std.proofs.Common.{ℕ, zero, suc, ◌+◌, ◌-◌, ◌<◌, ◌≤◌, ◌≡◌, List, [], ◌∷◌, ◌++◌, length, map, get_or, Bool, true, false, cond, refl, sym, ap₂, ◌∙◌,
-    subst, arith}
+use Rattle.std.proofs.Common.{
+  ℕ,
+  zero,
+  suc,
+  ◌+◌,
+  ◌-◌,
+  ◌<◌,
+  ◌≤◌,
+  ◌≡◌,
+  List,
+  [],
+  ◌∷◌,
+  ◌++◌,
+  length,
+  map,
+  get_or,
+  Bool,
+  true,
+  false,
+  cond,
+  refl,
+  sym,
+  ap₂,
+  ◌∙◌,
+  subst,
+  arith,
+}
 use Rattle.std.specs.List.{filter}
 use Rattle.std.specs.Prelude.{drop}
 use Rattle.std.proofs.lemmas.List.{length-append, get_or_append_left, get_or-append-add, drop-append-le, drop_all}
@@ -67,8 +92,14 @@ located (suc n) f p l = by_last (dec_lt p (length (joined n f))) (λ e. located 
   where
     by_last : Dec (p < length (joined n f)) → (p < length (joined n f) → Located n f p) → Located (suc n) f p
     by_last (yes e) h =
-        record { list = (h e).list; place = (h e).place; list_in = let q : (h e).list < n = (h e).list_in in omega arith; place_in = (h e).place_in; is =
-            (h e).is }
+        record {
+          list = (h e).list;
+          place = (h e).place;
+          list_in = let q : (h e).list < n = (h e).list_in in omega arith;
+          place_in = (h e).place_in;
+          is =
+              (h e).is;
+        }
     by_last (no e) h = record {
       list = n;
       place = p - length (joined n f);
@@ -102,7 +133,7 @@ filter_joined p (suc n) a f below above l = by_last (dec_lt n a) (λ e. filter_j
         filter p (joined n f ++ f n) ≡ drop (length (joined a f)) (joined n f ++ f n)
     by_last (yes e) h = let same : a ≡ suc n = omega arith in
         filter_below p (suc n) f (λ i l. below i l (omega arith))
-            ∙ sym (subst (λ a. drop (length (joined a f)) (joined (suc n) f) ≡ []) (sym same) (drop-length (joined (suc n) f)))
+        ∙ sym (subst (λ a. drop (length (joined a f)) (joined (suc n) f) ≡ []) (sym same) (drop-length (joined (suc n) f)))
     by_last (no e) h =
         filter-append p (joined n f) (f n) ∙ ap₂ (λ xs ys. xs ++ ys) (h (omega arith)) (above n (omega arith) (omega arith))
         ∙ sym (drop-append-le (length (joined a f)) (joined n f) (f n) (joined_grows a n f (omega arith)))

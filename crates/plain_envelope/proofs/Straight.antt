@@ -151,7 +151,7 @@ module _ (K : Field) (T : Table K) (weights : IsWeighted T) where
               ((words_are_listed K T weights a.weight).ascending a.place b.place
               (let p : k ≡ length (joined a.weight (words_of T)) + a.place = a.number in
               let q : l ≡ length (joined a.weight (words_of T)) + b.place = b.number ∙ ap (λ v. length (joined v (words_of T)) + b.place) (sym e) in
-                  omega arith)
+              omega arith)
               (subst (λ v. b.place < length (words_of T v)) (sym e) b.place_in)))
 
           by_order : Dec (a.weight < b.weight) → Dec (b.weight < a.weight) → IsBefore T (get_or (words_through T d) k []) (get_or (words_through T d) l [])
@@ -159,10 +159,10 @@ module _ (K : Field) (T : Table K) (weights : IsWeighted T) where
               let q : word_weight T (get_or (words_through T d) l []) ≡ b.weight = b.weight_is in omega arith)
           by_order (no m) (yes e) =
               absurd (let g : length (joined b.weight (words_of T)) + length (words_of T b.weight) ≤ length (joined a.weight (words_of T)) =
-                  joined_fits a.weight b.weight (words_of T) e in
+              joined_fits a.weight b.weight (words_of T) e in
               let p : k ≡ length (joined a.weight (words_of T)) + a.place = a.number in
               let q : l ≡ length (joined b.weight (words_of T)) + b.place = b.number in let m : b.place < length (words_of T b.weight) = b.place_in in
-                  omega arith)
+              omega arith)
           by_order (no m) (no e) = let e : a.weight ≡ b.weight = omega arith in inr (a.weight_is ∙ e ∙ sym b.weight_is, same e)
 
   before_apart : (w u : Word) → IsBefore T w u → w ≡ u → ⊥

@@ -47,4 +47,4 @@ module _ (K : Field) (P : Presentation K.Carrier) (T : Table K) (law : ObeysLaw 
       by_steps (yes e) = e
       by_steps (no n) =
           absurd (h (action_in K P T law (λ x. x (at_word K z) ≡ K.nought) (vanishing z) i u l (head_in K T o).2 (λ v f. f v)
-            (λ v r. apart z v (λ e. n (subst (λ v. steps T j v ≤ length u) (sym e) (reached v r r.size))))))
+          (λ v r. apart z v (λ e. n (subst (λ v. steps T j v ≤ length u) (sym e) (reached v r r.size))))))

@@ -8,8 +8,19 @@ use Rattle.math_words.specs.Words.IsOrdered.{ordered_none, ordered_more}
 use Rattle.math_words.specs.Words.IsLess.{less_letter, less_rest}
 use Rattle.plain_envelope.specs.Listing.{IsWeighted, words_of, begun, head_count, skipped}
 use Rattle.plain_envelope.specs.Laws.{WordsAreListed}
-use Rattle.plain_envelope.proofs.Listing.{no_letters, Parts, Begins, begins, begun_length, word_begun, head_next, heads_all, heads_grow, stands_from,
-    stops_below}
+use Rattle.plain_envelope.proofs.Listing.{
+  no_letters,
+  Parts,
+  Begins,
+  begins,
+  begun_length,
+  word_begun,
+  head_next,
+  heads_all,
+  heads_grow,
+  stands_from,
+  stops_below,
+}
 
 module _ (K : Field) (T : Table K) (weights : IsWeighted T) where
   one_word : (k : ℕ) → k < length (words_of T 0) → k ≡ 0
@@ -35,7 +46,7 @@ module _ (K : Field) (T : Table K) (weights : IsWeighted T) where
                 (stands_from K T weights (suc w - weight_at T b.letter) b.letter b.parts.rest b.parts.letter_in b.parts.rest_in b.parts.rest_from) rest.0,
             (let f : weight_at T b.letter ≤ suc w = b.parts.fits in
                 let e : word_weight T (get_or (words_of T (suc w - weight_at T b.letter)) b.parts.rest []) ≡ suc w - weight_at T b.letter = rest.1 in
-                    omega arith),
+                omega arith),
           )
         where
           rest : OrderedOf (suc w - weight_at T b.letter) (get_or (words_of T (suc w - weight_at T b.letter)) b.parts.rest [])
@@ -70,7 +81,7 @@ module _ (K : Field) (T : Table K) (weights : IsWeighted T) where
       Numbered (i ∷ u) (suc w)
   numbered_more i w u l m s rest =
       subst (λ x. Numbered (i ∷ x) (suc w)) rest.is
-          (numbered_front i w rest.number l m rest.within (from (dec_lt rest.number (skipped T (suc w - weight_at T i) i))))
+      (numbered_front i w rest.number l m rest.within (from (dec_lt rest.number (skipped T (suc w - weight_at T i) i))))
     where
       from : Dec (rest.number < skipped T (suc w - weight_at T i) i) → skipped T (suc w - weight_at T i) i ≤ rest.number
       from (yes d) = absurd (differ (sym s ∙ ap (may_stand T i) (sym rest.is) ∙ stops_below K T weights (suc w - weight_at T i) i rest.number l rest.within d))
@@ -113,7 +124,7 @@ module _ (K : Field) (T : Table K) (weights : IsWeighted T) where
           by_order (yes d) e =
               subst (λ x. IsLess x (get_or (words_of T (suc w)) l [])) (sym a.parts.word)
               (subst (λ x. IsLess (a.letter ∷ get_or (words_of T (suc w - weight_at T a.letter)) a.parts.rest []) x) (sym b.parts.word)
-                  (less_letter a.letter b.letter _ _ d))
+              (less_letter a.letter b.letter _ _ d))
           by_order (no d) (yes e) =
               absurd (let g : head_count T (suc w) (suc b.letter) ≤ head_count T (suc w) a.letter = heads_grow K T weights (suc w) (suc b.letter) a.letter e in
               let x : l < head_count T (suc w) (suc b.letter) = b.high in let y : head_count T (suc w) a.letter ≤ k = a.low in omega arith)

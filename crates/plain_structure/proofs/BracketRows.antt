@@ -146,5 +146,5 @@ module _ (T : PlainTable) (listed : IsField T.kind) (has : HasRows T) where
         at : (r : Formed) → bracket_of T (unit_row (size T) u.0) (get_or rows u.1 []) ≡ r → Spanned (field_of T.kind) (IsFormed T.kind (bracket_rows T rows)) v
         at (Ok z) e =
             subst (Spanned (field_of T.kind) (IsFormed T.kind (bracket_rows T rows))) (sym (u.5 ∙ sym (stands u.0 u.1 z u.2 u.4 e).1))
-                (put z e (lead_of z) refl)
+            (put z e (lead_of z) refl)
         at (Err w) e = absurd (ok_not_err (sym (fit (Err w) (in_list (Err w) (subst (λ x. Among (if_formed x) (Err w)) (sym e) (inl refl)))).1))

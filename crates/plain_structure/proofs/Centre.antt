@@ -70,7 +70,7 @@ module _ (T : PlainTable) (listed : IsField T.kind) (has : HasRows T) where
     entry_element : (a b : ℕ) → IsPairOf T i j a b → Dec (weight T i + weight T j ≤ T.weight) → IsElement T.kind (entry_number T a b t)
     entry_element a b p (yes h) =
         subst (IsElement T.kind) (sym (entry_within a b t (let w = p.weights in omega arith)))
-            (number_element (entry_row T a b) t (λ s d l. (pair_row T has i j a b p h).elements s d l))
+        (number_element (entry_row T a b) t (λ s d l. (pair_row T has i j a b p h).elements s d l))
     entry_element a b p (no h) = subst (IsElement T.kind) (sym (entry_past a b t (let w = p.weights in omega arith))) nought_is
 
     in_element : (pr : Pairing) → IsPaired T i j pr → IsElement T.kind (number_in T pr t)
@@ -92,7 +92,7 @@ module _ (T : PlainTable) (listed : IsField T.kind) (has : HasRows T) where
     within_value (minus a b) p h =
         ((kind_reads T.kind listed).negative (entry_number T a b t) (entry_element a b p (yes h))).1
         ∙ ap (field_of T.kind).minus (ap (number_of T.kind) (entry_within a b t (let w = p.weights in omega arith)) ∙
-            number_value (entry_row T a b) t) ∙ sym (minus_at (entry a b))
+        number_value (entry_row T a b) t) ∙ sym (minus_at (entry a b))
 
     past_value : (pr : Pairing) → IsPaired T i j pr → T.weight < weight T i + weight T j → number_of T.kind (number_in T pr t) ≡ (field_of T.kind).nought
     past_value nothing p h = nought_value
@@ -100,7 +100,7 @@ module _ (T : PlainTable) (listed : IsField T.kind) (has : HasRows T) where
     past_value (minus a b) p h =
         ((kind_reads T.kind listed).negative (entry_number T a b t) (entry_element a b p (no (λ l. (let k = l in omega arith))))).1
         ∙ ap (field_of T.kind).minus (ap (number_of T.kind) (entry_past a b t (let w = p.weights in omega arith)) ∙ nought_value) ∙
-            minus-nought (field_of T.kind)
+        minus-nought (field_of T.kind)
 
     pub bracket_value : i < size T → j < size T → number_of T.kind (bracket_number T i j t) ≡ product (field_of T.kind) (table_in T.kind T) i j t
     bracket_value l m = go (dec_le (weight T i + weight T j) T.weight)
@@ -151,7 +151,7 @@ module _ (T : PlainTable) (listed : IsField T.kind) (has : HasRows T) where
       go None e =
           subst (Spanned (field_of T.kind) (IsFormed T.kind (centre_rows T)))
           (sym (all_nought T.kind (field_of T.kind) (number_of T.kind) (kind_reads T.kind listed) (centre_row T r.0 r.1)
-              (row_is_row r.0 r.1 r.2).elements e)) span_none
+          (row_is_row r.0 r.1 r.2).elements e)) span_none
       go (Some s) e =
           span_kind _
           (is_formed T.kind (centre_rows T) (centre_row T r.0 r.1)
@@ -159,7 +159,7 @@ module _ (T : PlainTable) (listed : IsField T.kind) (has : HasRows T) where
           (acting_among (acts T r.0) (joined (size T) (λ t. if_any (centre_row T r.0 t))) (Ok (centre_row T r.0 r.1)) r.3
           (joined_among (size T) (λ t. if_any (centre_row T r.0 t)) (Ok (centre_row T r.0 r.1)) r.1 r.4
           (subst (λ o. Among {X = Result (List Num) Unfit} (cond (is_some o) (Ok (centre_row T r.0 r.1) ∷ []) []) (Ok (centre_row T r.0 r.1))) (sym e)
-              (inl refl))))))
+          (inl refl))))))
 
   pub centre_is : IsEnough T.kind T → (rows : Rows) → centre_of T ≡ Ok rows → AreRowsOf T.kind T rows (IsCentral (field_of T.kind) (table_in T.kind T))
   centre_is enough rows e =

@@ -75,7 +75,7 @@ module _ (p : ℕ) (T : PlainTable) (prime : T.kind ≡ Prime p) where
   rounds_fit (suc n) rows =
       then_fits (after_round (rounds_from T n) rows) (round_of T rows)
       (span_fits (map Ok rows ++ bracket_rows T rows) (all_append (map Ok rows) (bracket_rows T rows) (all_formed_map Ok rows (λ r. (r, refl)))
-          (brackets_formed rows)))
+      (brackets_formed rows)))
       (λ next. if_fits (nat_eq (length next) (length rows)) (Ok next) (rounds_from T n next) (next, refl) (rounds_fit n next))
 
   pub ideal_fits : (es : List (Tree Num)) → (rows : Rows) × (ideal_of T es ≡ Ok rows)

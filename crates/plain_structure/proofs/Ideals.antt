@@ -88,7 +88,7 @@ module _ (T : PlainTable) (listed : IsField T.kind) (has : HasRows T) (enough : 
         further x k =
             let f = formed_is T.kind (bracket_rows T rows) x k in
             subst (IsFormed T.kind (map Ok rows ++ bracket_rows T rows)) (sym f.2) (is_formed T.kind _ f.0
-                (among_right (map Ok rows) (bracket_rows T rows) _ f.1))
+            (among_right (map Ok rows) (bracket_rows T rows) _ f.1))
 
     module _ (next : Rows) (e : round_of T rows ≡ Ok next) where
       pub next_span : (v : Vector (field_of T.kind)) → InSpanOf T.kind next v ↔ Spanned (field_of T.kind) (IsRound (length rows) (row_in T.kind rows)) v
@@ -105,8 +105,8 @@ module _ (T : PlainTable) (listed : IsField T.kind) (has : HasRows T) (enough : 
       rows_in_next v s =
           (next_span v).1
           (spanned_more (field_of T.kind) _ _ (λ x r. inl r) v (span_of_kind (field_of T.kind)
-              (IsRowOf (field_of T.kind) (length rows) (row_in T.kind rows)) (length rows) (row_in T.kind rows)
-              (rows_span (field_of T.kind) (length rows) (row_in T.kind rows)) v s))
+          (IsRowOf (field_of T.kind) (length rows) (row_in T.kind rows)) (length rows) (row_in T.kind rows)
+          (rows_span (field_of T.kind) (length rows) (row_in T.kind rows)) v s))
 
       pub next_within : IsWithinIdeal next
       next_within = record {
@@ -126,23 +126,23 @@ module _ (T : PlainTable) (listed : IsField T.kind) (has : HasRows T) (enough : 
       pub stopped : length next ≡ length rows → AreRowsOf T.kind T next (InIdeal (field_of T.kind) (table_in T.kind T) (IsRowOf (field_of T.kind) m start))
       stopped same =
           let b : IsClosed (field_of T.kind) (length rows) (row_in T.kind next) (pivot_in next) =
-                subst (λ n. IsClosed (field_of T.kind) n (row_in T.kind next) (pivot_in next)) same next_closed.closed in
+          subst (λ n. IsClosed (field_of T.kind) n (row_in T.kind next) (pivot_in next)) same next_closed.closed in
           let spans : (v : Vector (field_of T.kind)) → InSpan (field_of T.kind) (length rows) (row_in T.kind next) v ↔
-                Spanned (field_of T.kind) (IsRound (length rows) (row_in T.kind rows)) v =
+          Spanned (field_of T.kind) (IsRound (length rows) (row_in T.kind rows)) v =
           subst (λ n. (v : Vector (field_of T.kind)) → InSpan (field_of T.kind) n (row_in T.kind next) v ↔
-              Spanned (field_of T.kind) (IsRound (length rows) (row_in T.kind rows)) v) same next_span in
+          Spanned (field_of T.kind) (IsRound (length rows) (row_in T.kind rows)) v) same next_span in
           let ideal : (v : Vector (field_of T.kind)) → InSpan (field_of T.kind) (length rows) (row_in T.kind rows) v ↔ Ideal v =
           enough.rounds m start (length rows) (row_in T.kind rows) h.holds h.within
           (λ u a.
-              equal_counts (field_of T.kind) (length rows) (row_in T.kind rows) (row_in T.kind next) (pivot_in rows) (pivot_in next) h.closed.closed b
-              (λ x t. subst (λ n. InSpan (field_of T.kind) n (row_in T.kind next) x) same (rows_in_next x t)) u ((spans u).1 (span_kind u (inr a)))) in
+          equal_counts (field_of T.kind) (length rows) (row_in T.kind rows) (row_in T.kind next) (pivot_in rows) (pivot_in next) h.closed.closed b
+          (λ x t. subst (λ n. InSpan (field_of T.kind) n (row_in T.kind next) x) same (rows_in_next x t)) u ((spans u).1 (span_kind u (inr a)))) in
           record {
             closed = next_closed;
             span = λ v. (
               (λ s. (ideal v).0
                   (equal_counts (field_of T.kind) (length rows) (row_in T.kind rows) (row_in T.kind next) (pivot_in rows) (pivot_in next) h.closed.closed b
                   (λ u t. subst (λ n. InSpan (field_of T.kind) n (row_in T.kind next) u) same (rows_in_next u t)) v
-                      (subst (λ n. InSpan (field_of T.kind) n (row_in T.kind next) v) same s))),
+                  (subst (λ n. InSpan (field_of T.kind) n (row_in T.kind next) v) same s))),
               (λ s. rows_in_next v ((ideal v).1 s)),
             );
           }
@@ -152,7 +152,7 @@ module _ (T : PlainTable) (listed : IsField T.kind) (has : HasRows T) (enough : 
       AreRowsOf T.kind T out (InIdeal (field_of T.kind) (table_in T.kind T) (IsRowOf (field_of T.kind) m start))
   rounds_give zero rows out h l e =
       let b = count_bounded (field_of T.kind) (size T) (length rows) (row_in T.kind rows) (pivot_in rows) h.closed.closed
-            (λ i k s past. short rows h i s k past) in
+      (λ i k s past. short rows h i s k past) in
       absurd (omega arith)
     where
       short : (rows : Rows) → IsWithinIdeal rows → (i s : ℕ) → i < length rows → size T ≤ s → row_in T.kind rows i s ≡ (field_of T.kind).nought
@@ -164,7 +164,7 @@ module _ (T : PlainTable) (listed : IsField T.kind) (has : HasRows T) (enough : 
     where
       go : (next : Rows) → round_of T rows ≡ Ok next → Dec (length next ≡ length rows) → after_round (rounds_from T fuel) rows next ≡ Ok out →
           ((next : Rows) → IsWithinIdeal next → size T < fuel + length next → rounds_from T fuel next ≡ Ok out →
-              AreRowsOf T.kind T out (InIdeal (field_of T.kind) (table_in T.kind T) (IsRowOf (field_of T.kind) m start))) →
+          AreRowsOf T.kind T out (InIdeal (field_of T.kind) (table_in T.kind T) (IsRowOf (field_of T.kind) m start))) →
           AreRowsOf T.kind T out (InIdeal (field_of T.kind) (table_in T.kind T) (IsRowOf (field_of T.kind) m start))
       go next is (yes d) f further =
           let t : nat_eq (length next) (length rows) ≡ true = grind arith in
@@ -202,7 +202,7 @@ module _ (T : PlainTable) (listed : IsField T.kind) (has : HasRows T) (enough : 
             let a = map_among (value_of T) es none k (omega arith) in
             let f = span_fits T.kind (size T) (map (value_of T) es) rows e (value_of T (get_or es k none)) a in
             subst (IsFormed T.kind (map (value_of T) es)) (values k f.0 l f.1).1 (is_formed T.kind (map (value_of T) es) f.0
-                (subst (Among (map (value_of T) es)) f.1 a))
+            (subst (Among (map (value_of T) es)) f.1 a))
 
         of_start : (x : Vector (field_of T.kind)) → (row : List Num) × Among {X = Result (List Num) Unfit} (map (value_of T) es) (Ok row) ×
             (x ≡ vector_in T.kind row) → IsRowOf (field_of T.kind) m start x

@@ -54,8 +54,8 @@ module _ (T : PlainTable) (listed : IsField T.kind) (has : HasRows T) (enough : 
       absurd
       ((field_of T.kind).unit≢nought
       (sym (h.closed.closed.leads 0 (omega arith)) ∙
-          ap (λ v. v (pivot_in (r ∷ rs) 0)) (z (row_in T.kind (r ∷ rs) 0)
-          ((h.span _).0 (in_span (field_of T.kind) (length (r ∷ rs)) (row_in T.kind (r ∷ rs)) 0 (omega arith))))
+      ap (λ v. v (pivot_in (r ∷ rs) 0)) (z (row_in T.kind (r ∷ rs) 0)
+      ((h.span _).0 (in_span (field_of T.kind) (length (r ∷ rs)) (row_in T.kind (r ∷ rs)) 0 (omega arith))))
       ∙ zero_at (field_of T.kind) _))
 
   not_empty : (r : List Num) (rs : Rows) → r ∷ rs ≡ [] → ⊥
@@ -75,12 +75,12 @@ module _ (T : PlainTable) (listed : IsField T.kind) (has : HasRows T) (enough : 
       (not_empty r rs
       (no_rows (r ∷ rs) (term (field_of T.kind) (table_in T.kind T) i) h
       (subst (λ k. (v : Vector (field_of T.kind)) → term (field_of T.kind) (table_in T.kind T) k v → v ≡ vzero (field_of T.kind))
-          (let d : T.weight ≡ i = omega arith in d) (series_ends (field_of T.kind) (table_in T.kind T) weights))))
+      (let d : T.weight ≡ i = omega arith in d) (series_ends (field_of T.kind) (table_in T.kind T) weights))))
   series_terms weights (suc n) i (r ∷ rs) terms l h e =
       let p = part_fits (before (r ∷ rs)) (and_then (series_from T n) (next_term T (r ∷ rs))) terms e in
       let q = first_fits (series_from T n) (next_term T (r ∷ rs)) p.0 p.1.0 in
       subst (AreTerms T.kind T i) (sym p.1.1) (more_terms i r rs p.0 h (series_terms weights n (suc i) q.0 p.0 (omega arith)
-          (next_is i (r ∷ rs) q.0 h q.1.0) q.1.1))
+      (next_is i (r ∷ rs) q.0 h q.1.0) q.1.1))
 
   -- the unit rows are closed, and span all vectors
   more_units : (xs : Rows) (y : List Num) → length (xs ++ y ∷ []) ≡ suc (length xs)
@@ -121,7 +121,7 @@ module _ (T : PlainTable) (listed : IsField T.kind) (has : HasRows T) (enough : 
       go (yes e) h =
           let t : nat_eq i s ≡ true = grind arith in
           ap (λ c. cond (is_nought c) (lead_below (unit_row n i) s) (Some (suc s))) (at ∙ ap (λ b. cond b (residue 1) (residue 0)) t) ∙
-              ap (λ w. Some (suc w)) (sym e)
+          ap (λ w. Some (suc w)) (sym e)
       go (no e) h =
           let t : nat_eq i s ≡ false = grind arith in
           ap (λ c. cond (is_nought c) (lead_below (unit_row n i) s) (Some (suc s))) (at ∙ ap (λ b. cond b (residue 1) (residue 0)) t) ∙ h (omega arith)
@@ -162,11 +162,11 @@ module _ (T : PlainTable) (listed : IsField T.kind) (has : HasRows T) (enough : 
       pivot_is i l =
           ap pivot_of (units_at (size T) (size T) i [] l)
           ∙ ap (λ o. unwrap_or o 1 - 1) (ap (lead_below (unit_row (size T) i)) (numbers_length (size T)
-              (λ s. cond (nat_eq i s) (residue 1) (residue 0))) ∙ unit_lead (size T) i (size T) l (omega arith)) ∙ (let e : suc i - 1 ≡ i = omega arith in e)
+          (λ s. cond (nat_eq i s) (residue 1) (residue 0))) ∙ unit_lead (size T) i (size T) l (omega arith)) ∙ (let e : suc i - 1 ≡ i = omega arith in e)
 
 pub series_means : (p : Presentation) → SeriesMeans p
 series_means p T holds terms e =
     subst (λ k. AreTerms k T 0 terms) holds.kind
     (series_terms T (held_field p T holds) (rows_of_shape T holds.shape) (is_enough p T holds) (held_weights p T holds) T.weight 0
-        (units_to (size T) (size T)) terms
+    (units_to (size T) (size T)) terms
     (omega arith) (first_is T (held_field p T holds) (rows_of_shape T holds.shape) (is_enough p T holds)) e)
