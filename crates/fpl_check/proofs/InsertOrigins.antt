@@ -4,7 +4,6 @@ use mathlib.Core.Path.{refl, sym, ap, ◌∙◌, subst}
 use native.Mathlib.Omega.{arith}
 use Rattle.std.proofs.lemmas.Option.{slice_get_within}
 use Rattle.std.proofs.lemmas.List.{length-append, get_or_append_left, get_or-map}
-use Rattle.math_fields.specs.Field.{Field}
 use Rattle.math_linear.specs.Vector.{Vector, vzero, scale}
 use Rattle.math_linear.proofs.Span.{span_vzero, span_vplus, span_scale, in_span}
 use Rattle.fpl_numbers.specs.declared.number.Num.{Num}
@@ -52,15 +51,6 @@ use Rattle.fpl_check.proofs.StepOrigins.{back, divided, ClosedBy, closed_by, is_
 
 module _ (T : PlainTable) (p : Presentation) (s : Section) (rows : List (List Num)) (holds : Holds p T) (section : IsSectionFor T s)
     (tested : AreTested T p s rows) (closed : IsClosedList T.kind (length (symbols_in T)) rows) (all_closed : are_closed s.steps 1 s.steps ≡ true) where
-  abbrev K : Field
-  K = field_of T.kind
-
-  abbrev n : ℕ
-  n = length (symbols_in T)
-
-  abbrev all : List (List Num)
-  all = tested.conclusions
-
   abbrev InClosed : Vector (field_of T.kind) → Type 0
   InClosed v = InSpanOf T.kind rows v
 

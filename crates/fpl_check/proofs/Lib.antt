@@ -19,3 +19,4 @@ mod InsertOrigins
 pub mod Fitting
 pub mod LawsPassed
 pub mod AcceptedSections
+pub mod Late

@@ -82,7 +82,7 @@ zero_is spot row e = go (lead_of row) e
     go None f = refl
     go (Some s) f = absurd (let z : ⊥ = cc in z)
 
-each_origin : (T : PlainTable) (p : Presentation) (rows : List (List Num)) (os : List Origin) → test_origins T p rows os ≡ Ok tt → (o : Origin) →
+pub each_origin : (T : PlainTable) (p : Presentation) (rows : List (List Num)) (os : List Origin) → test_origins T p rows os ≡ Ok tt → (o : Origin) →
     Contains os o → test_origin T p rows o ≡ Ok tt
 each_origin T p rows [] e o c = absurd (let l = c.1 in omega (arith, l))
 each_origin T p rows (x ∷ os) e o c = at c.0 c.1 c.2 (passing_first (test_origin T p rows x) (test_origins T p rows os) tt e)

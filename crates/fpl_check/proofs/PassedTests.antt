@@ -3,7 +3,6 @@ use Rattle.std.specs.Prelude.{◌≡◌, ℕ, ◌+◌, ◌-◌, ◌<◌, List, [
 use mathlib.Core.Path.{refl, sym, ap, subst, ◌∙◌}
 use native.Mathlib.Omega.{arith}
 use Rattle.std.proofs.lemmas.List.{get_or-map}
-use Rattle.math_fields.specs.Field.{Field}
 use Rattle.math_linear.specs.Vector.{Vector, vzero, scale}
 use Rattle.math_linear.specs.Span.{Spanned}
 use Rattle.math_linear.specs.Span.Spanned.{span_kind, span_none, span_sum, span_multiple}
@@ -56,9 +55,6 @@ ok_is e = cc
 
 -- rows of conclusions
 module _ (kind : Kind) (listed : IsField kind) where
-  K : Field
-  K = field_of kind
-
   reads : Reads kind (field_of kind) (number_of kind)
   reads = kind_reads kind listed
 

@@ -17,11 +17,11 @@ use Rattle.fpl_rows.proofs.Fits.{none_some, some_same, all_cons, all_head, all_t
 use Rattle.fpl_log.specs.declared.closed.Coefficient.{Coefficient}
 use Rattle.fpl_log.proofs.TermsTaken.{drop_next, past_end}
 use Rattle.fpl_table.specs.Value.{zero_row}
-use Rattle.plain_tables.proofs.Pushed.{zero_element}
 use Rattle.fpl_check.specs.Premises.{AreCoefficientsOf}
 use Rattle.fpl_check.specs.ClosedRows.{is_formed, stored_in, stored_row}
 use Rattle.fpl_check.specs.Filled.{least_of, symbol_of, number_if}
 use Rattle.fpl_check.proofs.Loops.{IsCoefficient, formed_cons, formed_again}
+use Rattle.fpl_table.proofs.NewNumbers.{nought_element}
 
 pub length-stored : (numbers : List Num) (row : List Coefficient) → length (stored_in numbers row) ≡ length numbers
 length-stored numbers [] = refl
@@ -39,7 +39,7 @@ pub stored_is_row : (kind : Kind) → IsField kind → (n : ℕ) (row : List Coe
 stored_is_row kind listed n row all = record {
   elements = stored_elements kind (zero_row n) row
       (λ i d l. subst (IsElement kind) (sym (get_or-replicate n i (residue 0) d (omega (arith, l, length-replicate n (residue 0)))))
-      (zero_element kind listed)) all;
+      (nought_element kind listed)) all;
   length_is = length-stored (zero_row n) row ∙ length-replicate n (residue 0);
 }
 

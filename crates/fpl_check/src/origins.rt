@@ -13,6 +13,7 @@ ghost use Rattle.fpl_check.specs.Closing.{shows, AreTested};
 ghost use Rattle.fpl_check.specs.Check.{test_count, test_origin, test_origins};
 
 use crate::closing::{inserts, shows};
+use crate::reach::{is_late, reach_of};
 use crate::remainder::{fault_of, test_work_zero};
 use crate::{CheckFault, Spot, Why};
 use fpl_echelon::{Leads, sweep_work_by};
@@ -161,7 +162,8 @@ fn first_step<F: Field>(
 /// tests pass.
 ///
 /// Steps stand mostly in the order of their origins, so these are met one beside the other; the
-/// row of an origin whose step isn't met is formed and swept.
+/// row of an origin whose step isn't met is formed and swept. Over a prime other than 3 the triples
+/// behind the last generator follow from the others, and aren't looked at.
 pub fn test_origins<F: Field>(
     alloc: Global,
     table: &Table<F>,
@@ -187,11 +189,15 @@ pub fn test_origins<F: Field>(
         Ok(step) => step,
         Err(_) => return Err(CheckFault::NoMemory),
     };
+    let bound = reach_of(table);
     let mut origins = Origins::start(table, p, table.weight() + 1);
     'origins: loop {
         match origins.next(table, p) {
             None => return Ok(()),
             Some(origin) => {
+                if is_late(bound, origin) {
+                    return Ok(());
+                }
                 match test_next(
                     alloc, table, p, guide, section, rows, &leads, step, origin, work,
                 ) {

@@ -15,9 +15,6 @@ module _ (T : PlainTable) (shape : HasShape T) where
   abbrev pub weight : ℕ → ℕ
   weight i = (plain_basis T i).weight
 
-  abbrev n : ℕ
-  n = length T.basis
-
   -- the basis elements of a weight
   module _ (w : ℕ) (positive : 1 ≤ w) where
     single_none : (i : ℕ) → weight i ≢ w → single_cell T w i ≡ []

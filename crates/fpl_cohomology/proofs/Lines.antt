@@ -7,7 +7,6 @@ use Rattle.fpl_log.proofs.TermsTaken.{drop_next, past_end}
 use Rattle.fpl_table.specs.Plain.{PlainTable}
 use Rattle.plain_cohomology.specs.Plain.{Low, is_pivot, chosen}
 use Rattle.fpl_cohomology.specs.Text.{form_name, name_at, form_line, form_lines, low_lines, lows_lines}
-use Rattle.fpl_cohomology.proofs.Putting.{drop_none}
 
 next_of : {X : Type 0} (xs : List X) (k : ℕ) (x : X) → Some x ≡ slice_get xs k → drop k xs ≡ x ∷ drop (k + 1) xs
 next_of xs k x is = drop_next xs k x is ∙ ap (λ j. x ∷ drop j xs) (sym (add-one k))
@@ -19,9 +18,6 @@ module _ (tuples : List (List ℕ)) (start out : List ℕ) (rows : List (List Nu
       ap (λ o. o ++ form_lines tuples (drop (k + 1) rows)) more ∙ append_assoc out (form_line tuples row) (form_lines tuples (drop (k + 1) rows))
       ∙ ap (λ rs. out ++ form_lines tuples rs) (sym (next_of rows k row is)) ∙ so_far
 
-  pub lines_done : length rows ≤ k → out ≡ start
-  lines_done l = sym (append-nil out) ∙ ap (λ rs. out ++ form_lines tuples rs) (sym (drop_none rows k l)) ∙ so_far
-
 module _ (T : PlainTable) (start out : List ℕ) (lows : List Low) (w : ℕ) (so_far : out ++ lows_lines T (w + 1) (drop w lows) ≡ start) where
   pub low_next : (next : List ℕ) (low : Low) → Some low ≡ slice_get lows w → next ≡ out ++ low_lines T (w + 1) low →
       next ++ lows_lines T (w + 1 + 1) (drop (w + 1) lows) ≡ start
@@ -30,9 +26,6 @@ module _ (T : PlainTable) (start out : List ℕ) (lows : List Low) (w : ℕ) (so
       ∙ append_assoc out (low_lines T (w + 1) low) (lows_lines T (w + 1 + 1) (drop (w + 1) lows))
       ∙ ap (λ v. out ++ (low_lines T (w + 1) low ++ lows_lines T v (drop (w + 1) lows))) (add-one (w + 1))
       ∙ ap (λ ls. out ++ lows_lines T (w + 1) ls) (sym (next_of lows w low is)) ∙ so_far
-
-  pub lows_done : length lows ≤ w → out ≡ start
-  lows_done l = sym (append-nil out) ∙ ap (λ ls. out ++ lows_lines T (w + 1) ls) (sym (drop_none lows w l)) ∙ so_far
 
 -- pivots
 module _ (rows : List (List Num)) (k : ℕ) (row : List Num) (q : ℕ) (is : Some row ≡ slice_get rows k)

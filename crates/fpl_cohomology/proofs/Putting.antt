@@ -1,6 +1,6 @@
 -- Rows that are formed, and put in, one after the other.
 use Rattle.std.specs.Prelude.{◌≡◌, ℕ, zero, suc, ◌+◌, ◌<◌, ◌≤◌, List, [], ◌∷◌, ◌++◌, length, map, drop, get_or, Result, Ok, Err, IsErrOf}
-use Rattle.std.proofs.Common.{refl, sym, ap, subst, ◌∙◌, arith, append-nil, append_assoc, add-one}
+use Rattle.std.proofs.Common.{refl, sym, ap, subst, ◌∙◌, arith, append-nil, append_assoc, add-one, drop_of_length-le}
 use native.Mathlib.Decide.{ℕ_discrete}
 use Rattle.fpl_numbers.specs.declared.number.Num.{Num}
 use Rattle.fpl_numbers.specs.declared.number.Kind.{Kind}
@@ -41,12 +41,6 @@ drop_at {X} xs k x d l e = go xs k l e ∙ ap (λ j. x ∷ drop j xs) (sym (add-
     go (y ∷ ys) zero l e = ap (λ z. z ∷ ys) (sym e)
     go (y ∷ ys) (suc k) l e = go ys k (omega arith) e
 
-pub drop_none : {X : Type 0} (xs : List X) (k : ℕ) → length xs ≤ k → drop k xs ≡ []
-drop_none [] zero l = refl
-drop_none [] (suc k) l = refl
-drop_none (x ∷ xs) zero l = absurd (omega arith)
-drop_none (x ∷ xs) (suc k) l = drop_none xs k (omega arith)
-
 module _ {X : Type 0} (f : X → Result (List Num) Unfit) (xs : List X) where
   abbrev pub rest : ℕ → List (Result (List Num) Unfit)
   rest k = map f (drop k xs)
@@ -72,7 +66,7 @@ module _ {X : Type 0} (f : X → Result (List Num) Unfit) (xs : List X) where
       go (Err u) = refl
 
   pub formed_last : (rows : List (List Num)) (k : ℕ) → length xs ≤ k → after_all rows (all_of (rest k)) ≡ Ok rows
-  formed_last rows k l = ap (λ ys. after_all rows (all_of (map f ys))) (drop_none xs k l) ∙ ap Ok (append-nil rows)
+  formed_last rows k l = ap (λ ys. after_all rows (all_of (map f ys))) (drop_of_length-le xs l) ∙ ap Ok (append-nil rows)
 
   all_stops : (k : ℕ) (x d : X) (fault : Fault) → k < length xs → x ≡ get_or xs k d → IsFault fault (f x) → IsFault fault (all_of (rest k))
   all_stops k x d fault l e h =
@@ -99,7 +93,7 @@ module _ {X : Type 0} (f : X → Result (List Num) Unfit) (xs : List X) where
       }
 
   pub left_last : (k : ℕ) → length xs ≤ k → IsLeft k → AreAllFormed (map f xs)
-  left_last k l h = h.formed (subst (λ ys. AreAllFormed (map f ys)) (sym (drop_none xs k l)) tt)
+  left_last k l h = h.formed (subst (λ ys. AreAllFormed (map f ys)) (sym (drop_of_length-le xs l)) tt)
 
   pub left_stops : (k : ℕ) (x d : X) (fault : Fault) → k < length xs → x ≡ get_or xs k d → IsFault fault (f x) → IsLeft k → IsFault fault (all_of (map f xs))
   left_stops k x d fault l e h left = left.fault fault (all_stops k x d fault l e h)
@@ -125,7 +119,7 @@ module _ {X : Type 0} (f : X → Result (List Num) Unfit) (xs : List X) where
         (fault_first (λ row. map_ok (λ x. with_held e x.held) (insert_of e row (Row 0))) fault (f x) h))
 
     pub put_last : length xs ≤ k → start ≡ Ok e
-    put_last l = so_far ∙ ap (λ ys. put_rows (map f ys) e) (drop_none xs k l)
+    put_last l = so_far ∙ ap (λ ys. put_rows (map f ys) e) (drop_of_length-le xs l)
 
 -- the weights one after the other
 module _ (T : PlainTable) (w : ℕ) (lows : List Low) (so_far : lows_of T w ≡ Ok lows) where

@@ -1,8 +1,8 @@
 -- The pairs of a weight stand behind its generators.
-use Rattle.std.proofs.Common.{◌≡◌, ◌≤◌, ◌<◌, ◌+◌, ◌++◌, ℕ, zero, suc, List, [], ◌∷◌, length, drop, get_or, cond, Bool, true, false, nat_eq, refl, ap, ◌∙◌, arith}
+use Rattle.std.proofs.Common.{◌≡◌, ◌≤◌, ◌+◌, ◌++◌, ℕ, zero, suc, List, [], ◌∷◌, length, drop, cond, Bool, true, false, nat_eq, refl, ap, ◌∙◌, arith}
 use Rattle.math_linear.specs.Lists.{joined}
 use Rattle.math_algebra.specs.Table.{Symbol, of_generator, of_pair}
-use Rattle.math_algebra.specs.Symbols.{symbols_of, generators_of, pairs_of, is_pair_of, place_of, no_symbol}
+use Rattle.math_algebra.specs.Symbols.{symbols_of, generators_of, pairs_of, is_pair_of, place_of}
 use Rattle.math_algebra.specs.Tree.{generator}
 use Rattle.fpl_table.specs.Plain.{PlainTable, table_in, shell_in}
 use Rattle.plain_cohomology.specs.Plain.{pairs}
@@ -19,24 +19,6 @@ split_leads (of_pair i j ∷ xs) = record { within = omega arith; places = λ i 
 split_leads (of_generator g ∷ xs) =
     let r = split_leads xs in
     record { within = (let l = r.within in omega arith); places = λ i j. one_more xs (leading_generators xs) g i j (r.places i j) }
-
--- where the next symbol is a generator, and where it is a pair
-pub leads_generator : (xs : List Symbol) (s g : ℕ) → s < length xs → get_or xs s no_symbol ≡ of_generator g →
-    leading_generators (drop s xs) ≡ suc (leading_generators (drop (suc s) xs))
-leads_generator [] s g l e = absurd (omega arith)
-leads_generator (x ∷ xs) zero g l e = ap leading_generators (ap (λ y. y ∷ xs) e)
-leads_generator (x ∷ xs) (suc s) g l e = leads_generator xs s g (omega arith) e
-
-pub leads_pair : (xs : List Symbol) (s i j : ℕ) → s < length xs → get_or xs s no_symbol ≡ of_pair i j → leading_generators (drop s xs) ≡ 0
-leads_pair [] s i j l e = absurd (omega arith)
-leads_pair (x ∷ xs) zero i j l e = ap leading_generators (ap (λ y. y ∷ xs) e)
-leads_pair (x ∷ xs) (suc s) i j l e = leads_pair xs s i j (omega arith) e
-
-pub leads_end : (xs : List Symbol) (s : ℕ) → length xs ≤ s → leading_generators (drop s xs) ≡ 0
-leads_end [] zero l = refl
-leads_end [] (suc s) l = refl
-leads_end (x ∷ xs) zero l = absurd (omega arith)
-leads_end (x ∷ xs) (suc s) l = leads_end xs s (omega arith)
 
 -- lists that begin with no generator
 no_lead_append : (xs ys : List Symbol) → leading_generators xs ≡ 0 → leading_generators ys ≡ 0 → leading_generators (xs ++ ys) ≡ 0
@@ -91,9 +73,3 @@ pub length_behind : (xs : List Symbol) (k : ℕ) → k ≤ length xs → k + len
 length_behind xs zero l = omega arith
 length_behind [] (suc k) l = absurd (omega arith)
 length_behind (x ∷ xs) (suc k) l = (let e = length_behind xs k (omega arith) in omega arith)
-
-pub at_behind : (xs : List Symbol) (k s : ℕ) → get_or (drop k xs) s no_symbol ≡ get_or xs (k + s) no_symbol
-at_behind xs zero s = (let e : s ≡ 0 + s = omega arith in ap (λ n. get_or xs n no_symbol) e)
-at_behind [] (suc k) zero = refl
-at_behind [] (suc k) (suc s) = refl
-at_behind (x ∷ xs) (suc k) s = at_behind xs k s ∙ (let e : suc (k + s) ≡ suc k + s = omega arith in ap (λ n. get_or (x ∷ xs) n no_symbol) e)

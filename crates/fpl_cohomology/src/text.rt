@@ -1,9 +1,8 @@
 //! The text of the view cohomology.
-ghost use Rattle.std.specs.Prelude.{◌≡◌, ◌≤◌, ◌<◌, ◌+◌, ◌++◌, ℕ, List, length, IfOk, OnOk, All, unsigned_abs};
+ghost use Rattle.std.specs.Prelude.{◌≡◌, ◌≤◌, ◌<◌, ◌+◌, ◌++◌, ℕ, List, length, IfOk, OnOk, All};
 ghost use Rattle.fpl_numbers.specs.Numbers.{IsElement};
 ghost use Rattle.fpl_scalar.specs.Vectors.{AreElements};
-ghost use Rattle.fpl_spelling.specs.Spelling.{sign_text, is_below_nought};
-ghost use Rattle.fpl_print.specs.Combinations.{factor_text, none_after, term_or_nothing, combination_text};
+ghost use Rattle.fpl_print.specs.Combinations.{none_after, term_or_nothing, combination_text};
 ghost use Rattle.plain_cohomology.specs.Plain.{Low};
 ghost use Rattle.plain_cohomology.specs.Means.{HasElements};
 ghost use Rattle.fpl_cohomology.specs.Rows.{low_as};
@@ -12,11 +11,10 @@ ghost use Rattle.fpl_cohomology.specs.Text.{form_name, name_at, form_line, form_
 use crate::listing::forms;
 use crate::represented::{Low, Lows};
 use crate::tuple::{Forms, Tuple};
-use fpl_numbers::Num;
-use fpl_print::{push_count, push_head_line};
+use fpl_print::{push_coefficient, push_count, push_head_line};
 use fpl_rows::{Row, Rows};
 use fpl_scalar::Field;
-use fpl_spelling::{is_below_nought, push_magnitude, push_number, push_sign};
+use fpl_spelling::push_number;
 use fpl_table::Table;
 use std::alloc::{AllocError, Global};
 
@@ -43,24 +41,6 @@ fn push_name_at(out: &mut Vec<u8>, forms: &Forms, s: u32) -> Result<(), AllocErr
         Some(tuple) => push_name(out, tuple),
         None => Ok(()),
     }
-}
-
-fn push_factor(out: &mut Vec<u8>, c: Num) -> Result<(), AllocError>
-    ensures { OnOk result (out.new.items ≡ out.old.items ++ factor_text c) }
-{
-    if c.numerator.unsigned_abs() == 1 && c.denominator.unsigned_abs() == 1 {
-        return Ok(());
-    }
-    push_magnitude(out, c)?;
-    out.extend_from_slice(b"*")
-}
-
-/// Appends all of a term but its name.
-fn push_coefficient(out: &mut Vec<u8>, first: bool, c: Num) -> Result<(), AllocError>
-    ensures { OnOk result (out.new.items ≡ out.old.items ++ (sign_text first (is_below_nought c) ++ factor_text c)) }
-{
-    push_sign(out, first, is_below_nought(c))?;
-    push_factor(out, c)
 }
 
 /// Appends one term of a combination of forms, where its number isn't 0, and says whether none

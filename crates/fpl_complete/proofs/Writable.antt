@@ -33,7 +33,6 @@ use Rattle.fpl_table.specs.Plain.{PlainTable, symbols_in}
 use Rattle.math_linear.specs.Lists.{joined}
 use Rattle.fpl_model.specs.Degrees.{is_exactly}
 use Rattle.fpl_rewrite.specs.Origins.{relation_weight, relations_from, relations_of, is_triple, triples_of, is_cube, is_three, cubes_of, origins_of}
-use Rattle.plain_tables.proofs.Pushed.{zero_element}
 use Rattle.plain_weights.specs.Weight.{put_of, gather, close_weight}
 use Rattle.plain_weights.specs.Section.{coefficients_from}
 use Rattle.plain_weights.proofs.Gathered.{ReadsRows, first_of, rest}
@@ -41,6 +40,7 @@ use Rattle.plain_weights.proofs.Recorded.{put_parts, run_parts}
 use Rattle.std.proofs.lemmas.List.Elements.{All-nil, All-append}
 use Rattle.fpl_section_bytes.specs.Stored.{IsWritableOrigin, AreWritableTerms, IsWritableStep, IsWritableRow}
 use Rattle.fpl_complete.specs.State.{IsStorableStep}
+use Rattle.fpl_table.proofs.NewNumbers.{nought_element}
 
 module _ (kind : Kind) where
   abbrev AreFactors : List Term → Type 0
@@ -142,7 +142,7 @@ module _ (kind : Kind) (listed : IsField kind) (n : ℕ) where
         All (IsStorableStep kind) g.steps
     keep_writable h g origin x None a l terms from all e =
         subst (λ g. All (IsStorableStep kind) g.steps) (ok_same e)
-        (all_more (IsStorableStep kind) h.steps (Insert origin x.terms (residue 0)) all (from, zero_element kind listed, terms))
+        (all_more (IsStorableStep kind) h.steps (Insert origin x.terms (residue 0)) all (from, nought_element kind listed, terms))
     keep_writable h g origin x (Some s) a l terms from all e =
         let c = inverse_of kind (get_or x.row (s - 1) (residue 0)) in
         let f = part_fits _ (scale_of kind c x.row) g e in

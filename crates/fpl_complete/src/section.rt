@@ -60,7 +60,7 @@ fn coefficients_at<F: Field>(
     requires elements { AreElements (F.kind_of field.now) (map F.number numbers.now) }
     ensures { IfOk result (λ kept. kept ≡ by_cell coefficient_at 0 places.now (map F.number numbers.now)) }
 {
-    let mut kept = ClosedRow::new(alloc);
+    let mut kept = ClosedRow::with_capacity(alloc, places.len())?;
     for k in 0..places.len() {
         match put_cell(field, places[k], numbers[k], &mut kept) {
             Ok(()) => {}
@@ -92,7 +92,7 @@ fn list_of<F: Field>(alloc: Global, field: &F, rows: &Rows<F>) -> Result<ClosedL
     requires { All (AreElements (F.kind_of field.now)) rows.now }
     ensures { IfOk result (λ list. list ≡ closed_list rows.now) }
 {
-    let mut list = ClosedList::new(alloc);
+    let mut list = ClosedList::with_capacity(alloc, rows.len())?;
     for i in 0..rows.len() {
         match rows.get(i) {
             None => {}

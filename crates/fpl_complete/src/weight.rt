@@ -1,4 +1,4 @@
-ghost use Rattle.std.specs.Prelude.{◌≡◌, ◌≤◌, ◌<◌, ◌+◌, length, Ok, IfOk, IfErr, OnOk, Contains};
+ghost use Rattle.std.specs.Prelude.{◌≡◌, ◌≤◌, ◌<◌, ◌+◌, length, Ok, IfOk, IfErr, OnOk, IfSome, OnSome, Contains};
 ghost use Rattle.fpl_numbers.specs.Results.{Gives, GivesBy, map_ok, and_then};
 ghost use Rattle.fpl_rows.specs.Meaning.{IsClosedList};
 ghost use Rattle.plain_elimination.specs.Plain.{Held, rows_of, sweep_rows};
@@ -8,6 +8,9 @@ ghost use Rattle.fpl_echelon.specs.Leads.{IsLeadIndex};
 ghost use Rattle.fpl_table.specs.Plain.{symbols_in};
 ghost use Rattle.plain_tables.specs.Holds.{Holds};
 ghost use Rattle.fpl_rewrite.specs.Origins.{origins_of};
+ghost use Rattle.fpl_rewrite.specs.Cursor.{to_come};
+ghost use Rattle.fpl_model.specs.Sound.{IsSound};
+ghost use Rattle.fpl_table.specs.Shape.{Agrees};
 ghost use Rattle.plain_weights.specs.Weight.{begun, again, close_weight};
 ghost use Rattle.fpl_rewrite.specs.Filling.{empty_for};
 ghost use Rattle.plain_weights.specs.Lean.{put_lean, gather_lean, close_lean};
@@ -16,6 +19,7 @@ ghost use Rattle.fpl_complete.specs.State.{weighed_as};
 
 use crate::section::section_of;
 use crate::weighed::Weighed;
+use fpl_check::{is_late, reach_of};
 use fpl_echelon::{Closed, Echelon, Leads, sweep_work_by};
 use fpl_log::Origin;
 use fpl_model::Presentation;
@@ -42,6 +46,7 @@ struct ClosedWeight<F: Field> {
 }
 
 /// Forms the row of an origin in an empty row in work, and inserts it.
+#[inline(always)]
 fn put<F: Field, L: Ledger>(
     alloc: Global,
     table: &Table<F>,
@@ -90,8 +95,34 @@ fn empty_work<F: Field>(
     }
 }
 
-/// Gathers the rows of all origins of the weight after the table's. To list 2^64 origins takes
-/// more memory than there is.
+/// Passes over all origins that are still to come, each of them a step, and counts on from `passed`,
+/// up to 2^64 - 1.
+fn pass_over<F: Field, L: Ledger>(
+    table: &Table<F>,
+    p: &Presentation,
+    at: &mut Origins,
+    passed: u64,
+    steps: &mut Steps<L>,
+) -> Option<u64>
+    requires sound { IsSound p.now }
+    requires agrees { Agrees table.now p.now }
+    requires weight { at.old.weight ≡ table.now.weight + 1 }
+    ensures some { IfSome result (λ count. count ≡ passed + length (to_come table.now p.now at.old)) }
+    ensures step { OnSome result (steps.new ≡ steps.old + length (to_come table.now p.now at.old)) }
+    ensures most { (steps.old ≤ steps.new) × (steps.new ≤ steps.old + length (to_come table.now p.now at.old)) }
+{
+    for count in passed..u64::MAX {
+        match at.next(table, p) {
+            None => return Some(count),
+            Some(_) => steps.tick(),
+        }
+    }
+    None
+}
+
+/// Gathers the rows of all origins of the weight after the table's; those of triples behind the
+/// last generator add nothing over a prime other than 3, and aren't formed. To list 2^64 origins
+/// takes more memory than there is.
 fn gather<F: Field, L: Ledger>(
     alloc: Global,
     table: &Table<F>,
@@ -113,11 +144,19 @@ fn gather<F: Field, L: Ledger>(
         Ok(echelon) => echelon,
         Err(_) => return Err(Fault::NoMemory),
     };
+    let bound = reach_of(table);
     let mut at = Origins::start(table, p, table.weight() + 1);
     for origins in 0..u64::MAX {
         match at.next(table, p) {
             None => return Ok(Gathered { echelon, origins }),
             Some(origin) => {
+                if is_late(bound, origin) {
+                    steps.tick();
+                    return match pass_over(table, p, &mut at, origins + 1, steps) {
+                        Some(origins) => Ok(Gathered { echelon, origins }),
+                        None => Err(Fault::NoMemory),
+                    };
+                }
                 match put(
                     alloc,
                     table,
@@ -138,6 +177,7 @@ fn gather<F: Field, L: Ledger>(
 }
 
 /// Forms the row of an origin again in an empty row in work, and sweeps it by closed rows.
+#[inline(always)]
 fn sweep_one<F: Field>(
     alloc: Global,
     table: &Table<F>,

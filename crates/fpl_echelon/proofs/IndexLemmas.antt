@@ -10,13 +10,6 @@ use Rattle.fpl_rows.proofs.Fits.{some_same}
 use Rattle.plain_elimination.specs.Plain.{PivotRow, stands_at}
 use Rattle.fpl_echelon.specs.Index.{place_at, noted_by, noted_at, IsIndex}
 
--- no row at a new place
-pub place_at-more : (places : List (Option ℕ)) (s : ℕ) → place_at (places ++ None ∷ []) s ≡ place_at places s
-place_at-more [] zero = refl
-place_at-more [] (suc s) = refl
-place_at-more (o ∷ places) zero = refl
-place_at-more (o ∷ places) (suc s) = place_at-more places s
-
 place_at-set : (places : List (Option ℕ)) (s t : ℕ) (o : Option ℕ) → s ≢ t → place_at (slice_set places s o) t ≡ place_at places t
 place_at-set [] s t o d = refl
 place_at-set (p ∷ places) zero zero o d = absurd (d refl)

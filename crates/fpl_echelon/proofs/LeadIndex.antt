@@ -1,8 +1,8 @@
 -- The index of closed rows by lead: one row more, from the last back.
-use Rattle.std.specs.Prelude.{◌≡◌, ◌≢◌, ℕ, zero, suc, ◌+◌, ◌-◌, ◌≤◌, List, [], ◌∷◌, length, replicate, drop, slice_get, slice_set, Option, Some, None, Bool, true, false, cond}
+use Rattle.std.specs.Prelude.{◌≡◌, ◌≢◌, ℕ, suc, ◌+◌, ◌-◌, ◌≤◌, List, ◌∷◌, length, drop, slice_get, slice_set, Option, Some, None, Bool, true, false, cond}
 use Rattle.std.specs.Option.{option_and_then}
 use Rattle.std.specs.List.{find}
-use mathlib.Core.Path.{refl, sym, ap, ◌∙◌}
+use mathlib.Core.Path.{sym, ap, ◌∙◌}
 use native.Mathlib.Omega.{arith}
 use native.Mathlib.Decide.{ℕ_discrete}
 use Rattle.std.proofs.lemmas.Bool.Decides.{nat_tests}
@@ -12,17 +12,6 @@ use Rattle.fpl_rows.specs.Positions.{lead_of}
 use Rattle.fpl_log.proofs.TermsTaken.{drop_next}
 use Rattle.fpl_echelon.specs.Index.{place_at}
 use Rattle.fpl_echelon.specs.Leads.{is_at, leads_at, IsIndexFrom}
-
-none_at : (n s : ℕ) → place_at (replicate n None) s ≡ None
-none_at zero s = refl
-none_at (suc n) zero = refl
-none_at (suc n) (suc s) = none_at n s
-
-past_all : (rows : List (List Num)) (k : ℕ) → length rows ≤ k → drop k rows ≡ []
-past_all [] zero l = refl
-past_all [] (suc k) l = refl
-past_all (u ∷ us) zero l = absurd (omega (arith, l))
-past_all (u ∷ us) (suc k) l = past_all us k (omega (arith, l))
 
 module _ (rows : List (List Num)) (places : List (Option ℕ)) (j k : ℕ) (row : List Num) (next : j ≡ suc k) (got : Some row ≡ slice_get rows k)
     (h : IsIndexFrom j rows places) where

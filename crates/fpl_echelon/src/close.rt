@@ -5,7 +5,7 @@ ghost use Rattle.plain_elimination.specs.Plain.{IsPivotRow, close_at, close_to};
 
 use crate::pivots::{Pivot, Pivots};
 use crate::working::{gathered, sweep_work};
-use fpl_log::{Step, StepList, Terms};
+use fpl_log::{Step, StepList, Term, Terms};
 use fpl_rows::{Rows, Work};
 use fpl_scalar::{Fault, Field};
 use std::alloc::Global;
@@ -18,7 +18,7 @@ pub struct Closed<F: Field> {
 }
 
 /// Sweeps the pivot row at position `s + 1` by the closed rows below, in an empty row in work,
-/// and adds it to these.
+/// and adds it to these. What stands in `taken` is lost.
 pub fn close_place<F: Field>(
     alloc: Global,
     field: &F,
@@ -27,6 +27,7 @@ pub fn close_place<F: Field>(
     closed: &mut Pivots<F>,
     steps: &mut StepList,
     work: &mut Work<F>,
+    taken: &mut Vec<Term>,
 ) -> Result<(), Fault>
     requires kind { work.old.kind ≡ F.kind_of field.now }
     requires zeros { work.old.row ≡ replicate (length work.old.row) (residue 0) }
@@ -42,8 +43,12 @@ pub fn close_place<F: Field>(
         None => Ok(()),
         Some(pivot) => {
             work.load(pivot.row());
-            let mut terms = Terms::new(alloc);
-            sweep_work(field, closed, s, work, &mut terms)?;
+            taken.clear();
+            match sweep_work(field, closed, s, work, taken) {
+                Ok(()) => {}
+                Err(fault) => return Err(fault),
+            }
+            let terms = Terms::of(alloc, taken)?;
             let row = gathered(alloc, field, work)?;
             work.clear();
             let step = steps.len() as u64 + 1;
@@ -69,8 +74,18 @@ pub fn close_all<F: Field>(
 {
     let mut closed = Pivots::new(alloc);
     let mut work = Work::new(alloc, *field, size)?;
+    let mut taken = Vec::new(alloc);
     for s in 0..size {
-        match close_place(alloc, field, pivots, s, &mut closed, steps, &mut work) {
+        match close_place(
+            alloc,
+            field,
+            pivots,
+            s,
+            &mut closed,
+            steps,
+            &mut work,
+            &mut taken,
+        ) {
             Ok(()) => {}
             Err(fault) => return Err(fault),
         }

@@ -13,7 +13,7 @@ use crate::keep::put_in;
 use crate::outcome::Outcome;
 use crate::pivots::Pivots;
 use crate::putting::{put_lean, put_work};
-use fpl_log::{Origin, StepList};
+use fpl_log::{Origin, StepList, Term};
 use fpl_rows::{Row, Work};
 use fpl_scalar::{Fault, Field};
 use fpl_steps::Steps;
@@ -29,6 +29,8 @@ pub struct Echelon<F: Field> {
     size: u32,
     pivots: Pivots<F>,
     steps: StepList,
+    // room for the terms that are taken off a row
+    taken: Vec<Term>,
 }
 
 impl<F: Field> Model for Echelon<F> {
@@ -53,6 +55,7 @@ impl<F: Field> Echelon<F> {
             size: n,
             pivots: Pivots::new(alloc),
             steps: StepList::new(alloc),
+            taken: Vec::new(alloc),
         })
     }
 
@@ -112,6 +115,7 @@ impl<F: Field> Echelon<F> {
             &mut self.pivots,
             &mut self.steps,
             work,
+            &mut self.taken,
             origin,
         );
         work.clear();
@@ -119,6 +123,7 @@ impl<F: Field> Echelon<F> {
     }
 
     /// As `insert_work`, but that nothing is recorded of a dependent row.
+    #[inline(always)]
     pub fn insert_lean<L: Ledger>(
         &mut self,
         row: &mut Work<F>,
@@ -143,6 +148,7 @@ impl<F: Field> Echelon<F> {
             &mut self.pivots,
             &mut self.steps,
             row,
+            &mut self.taken,
             origin,
         );
         row.clear();

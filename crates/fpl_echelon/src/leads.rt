@@ -54,6 +54,7 @@ impl Leads {
     }
 
     /// The first row with this lead.
+    #[inline(always)]
     pub fn row<'a, F: Field>(&self, rows: &'a Rows<F>, lead: u32) -> Option<&'a Row<F>>
         requires lead { 1 ≤ lead }
         requires leads { IsLeadIndex rows.now self.now }

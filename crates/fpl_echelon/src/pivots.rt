@@ -82,6 +82,7 @@ impl<F: Field> Pivots<F> {
     }
 
     /// The first row whose lead this is.
+    #[inline(always)]
     pub fn find(&self, lead: u32) -> Option<&Pivot<F>>
         requires { 1 ≤ lead }
         ensures { option_copied result ≡ find (stands_at lead) self.now }

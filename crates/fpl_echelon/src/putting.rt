@@ -7,7 +7,7 @@ ghost use Rattle.fpl_echelon.specs.Outcomes.{lead_in};
 use crate::outcome::Outcome;
 use crate::pivots::{Pivot, Pivots};
 use crate::working::{Monic, normalized, sweep_work};
-use fpl_log::{Origin, Step, StepList, Terms};
+use fpl_log::{Origin, Step, StepList, Term, Terms};
 use fpl_rows::Work;
 use fpl_scalar::{Fault, Field, Num};
 use std::alloc::{AllocError, Global};
@@ -42,13 +42,16 @@ fn record<F: Field>(
     }
 }
 
-/// As `put_work`, but that the step of a dependent row is not recorded.
+/// As `put_work`, but that the step of a dependent row is not recorded. What stands in `taken` is
+/// lost: it is the room for the terms that are taken off.
+#[inline(always)]
 pub fn put_lean<F: Field>(
     alloc: Global,
     field: &F,
     pivots: &mut Pivots<F>,
     steps: &mut StepList,
     work: &mut Work<F>,
+    taken: &mut Vec<Term>,
     origin: Origin,
 ) -> Result<Outcome, Fault>
     requires kind { work.old.kind ≡ F.kind_of field.now }
@@ -59,8 +62,8 @@ pub fn put_lean<F: Field>(
     ensures length { length work.new.row ≡ length work.old.row }
 {
     let size = work.len();
-    let mut terms = Terms::new(alloc);
-    match sweep_work(field, pivots, size, work, &mut terms) {
+    taken.clear();
+    match sweep_work(field, pivots, size, work, taken) {
         Ok(()) => {}
         Err(fault) => return Err(fault),
     }
@@ -68,6 +71,7 @@ pub fn put_lean<F: Field>(
         None => Ok(Outcome::Dependent),
         Some(lead) => match normalized(alloc, field, work, lead) {
             Ok(pivot) => {
+                let terms = Terms::of(alloc, taken)?;
                 record(pivots, steps, lead, pivot, origin, terms)?;
                 Ok(Outcome::Pivot(lead))
             }
@@ -76,13 +80,15 @@ pub fn put_lean<F: Field>(
     }
 }
 
-/// Sweeps a row by the pivot rows, and keeps what is left or finds the row dependent.
+/// Sweeps a row by the pivot rows, and keeps what is left or finds the row dependent. What stands
+/// in `taken` is lost: it is the room for the terms that are taken off.
 pub fn put_work<F: Field>(
     alloc: Global,
     field: &F,
     pivots: &mut Pivots<F>,
     steps: &mut StepList,
     work: &mut Work<F>,
+    taken: &mut Vec<Term>,
     origin: Origin,
 ) -> Result<Outcome, Fault>
     requires kind { work.old.kind ≡ F.kind_of field.now }
@@ -95,8 +101,8 @@ pub fn put_work<F: Field>(
     ensures length { length work.new.row ≡ length work.old.row }
 {
     let size = work.len();
-    let mut terms = Terms::new(alloc);
-    match sweep_work(field, pivots, size, work, &mut terms) {
+    taken.clear();
+    match sweep_work(field, pivots, size, work, taken) {
         Ok(()) => {}
         Err(fault) => return Err(fault),
     }
@@ -106,6 +112,7 @@ pub fn put_work<F: Field>(
                 numerator: 0,
                 denominator: 1,
             };
+            let terms = Terms::of(alloc, taken)?;
             steps.push(Step::Insert {
                 origin,
                 terms,
@@ -115,6 +122,7 @@ pub fn put_work<F: Field>(
         }
         Some(lead) => match normalized(alloc, field, work, lead) {
             Ok(pivot) => {
+                let terms = Terms::of(alloc, taken)?;
                 record(pivots, steps, lead, pivot, origin, terms)?;
                 Ok(Outcome::Pivot(lead))
             }

@@ -69,6 +69,7 @@ pub fn sweep_by<F: Field>(
 }
 
 /// Takes `other`, if there is one, off as often as the row has position `s`.
+#[inline(always)]
 fn take_work<F: Field>(
     field: &F,
     other: Option<&Row<F>>,

@@ -5,12 +5,13 @@ ghost use Rattle.fpl_scalar.specs.Vectors.{AreElements, axpy_of, scale_of};
 ghost use Rattle.plain_elimination.specs.Plain.{IsPivotRow, sweep_at, sweep_of};
 
 use crate::pivots::Pivots;
-use fpl_log::{Term, Terms};
+use fpl_log::Term;
 use fpl_rows::{Row, Work};
 use fpl_scalar::{Fault, Field, Num, Unfit};
 use std::alloc::Global;
 
 /// Takes `other` off as often as the row has position `s`, and says how often that is.
+#[inline(always)]
 fn take_off<F: Field>(field: &F, row: &mut Work<F>, s: u32, other: &Row<F>) -> Result<Num, Unfit>
     requires kind { row.old.kind ≡ F.kind_of field.now }
     requires place { (1 ≤ s) × (s ≤ length row.old.row) }
@@ -30,20 +31,21 @@ fn take_off<F: Field>(field: &F, row: &mut Work<F>, s: u32, other: &Row<F>) -> R
 }
 
 /// Takes the pivot row at position `s + 1` off, if there is one.
+#[inline(always)]
 fn sweep_work_place<F: Field>(
     field: &F,
     pivots: &Pivots<F>,
     s: u32,
     row: &mut Work<F>,
-    terms: &mut Terms,
+    terms: &mut Vec<Term>,
 ) -> Result<(), Fault>
     requires kind { row.old.kind ≡ F.kind_of field.now }
     requires place { s < length row.old.row }
     requires fits { s + 1 < 2 ^ 32 }
     requires nonzero { is_nought (slice_index_or row.old.row s (residue 0)) ≡ false }
     requires pivots { All (IsPivotRow (F.kind_of field.now) (length row.old.row)) pivots.now }
-    ensures value { Gives result (record { row = row.new.row; terms = terms.new }) (sweep_at (F.kind_of field.now) pivots.now s
-        (record { row = row.old.row; terms = terms.old })) }
+    ensures value { Gives result (record { row = row.new.row; terms = terms.new.items }) (sweep_at (F.kind_of field.now) pivots.now s
+        (record { row = row.old.row; terms = terms.old.items })) }
     ensures kind { row.new.kind ≡ F.kind_of field.now }
     ensures length { length row.new.row ≡ length row.old.row }
 {
@@ -51,11 +53,11 @@ fn sweep_work_place<F: Field>(
         None => Ok(()),
         Some(pivot) => match take_off(field, row, s + 1, pivot.row()) {
             Ok(factor) => {
-                terms.push(Term {
-                    step: pivot.step(),
-                    factor,
-                })?;
-                Ok(())
+                let step = pivot.step();
+                match terms.push(Term { step, factor }) {
+                    Ok(()) => Ok(()),
+                    Err(_) => Err(Fault::NoMemory),
+                }
             }
             Err(u) => Err(Fault::Unfit(u)),
         },
@@ -63,18 +65,19 @@ fn sweep_work_place<F: Field>(
 }
 
 /// Takes pivot rows off at the positions from `from` down.
+#[inline(always)]
 pub fn sweep_work<F: Field>(
     field: &F,
     pivots: &Pivots<F>,
     from: u32,
     row: &mut Work<F>,
-    terms: &mut Terms,
+    terms: &mut Vec<Term>,
 ) -> Result<(), Fault>
     requires kind { row.old.kind ≡ F.kind_of field.now }
     requires place { from ≤ length row.old.row }
     requires pivots { All (IsPivotRow (F.kind_of field.now) (length row.old.row)) pivots.now }
-    ensures value { Gives result (record { row = row.new.row; terms = terms.new }) (sweep_of (F.kind_of field.now) pivots.now from
-        (record { row = row.old.row; terms = terms.old })) }
+    ensures value { Gives result (record { row = row.new.row; terms = terms.new.items }) (sweep_of (F.kind_of field.now) pivots.now from
+        (record { row = row.old.row; terms = terms.old.items })) }
     ensures kind { row.new.kind ≡ F.kind_of field.now }
     ensures length { length row.new.row ≡ length row.old.row }
 {

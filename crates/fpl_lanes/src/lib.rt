@@ -5,4 +5,7 @@ mod kernels;
 #[cfg(test)]
 mod tests;
 
-pub use kernels::{axpy, first_nonzero, less_once, remainder, scale, share_of, sum_below};
+pub use kernels::{
+    axpy, first_nonzero, less_once, remainder, scale, share_of, sum_below, wide_remainder,
+    wide_share_of,
+};

@@ -14,7 +14,7 @@ use Rattle.fpl_lex.specs.declared.lexing.Advance.{Advance}
 use Rattle.fpl_lex.specs.declared.lexing.Advance.TheVariants.{Into, Ends, Fault}
 use Rattle.fpl_lex.specs.Cut.{joined}
 use Rattle.fpl_lex.specs.Machine.{class_of, finished, begun, after, with_digit, step_of, chained, lex, ends_before, begun_by, lengthened, advance_of, IsWithin}
-use Rattle.fpl_lex.proofs.Cutting.{rest_of, lex_step, ends, goes}
+use Rattle.fpl_lex.proofs.MachineSteps.{rest_of, lex_step, ends, goes}
 
 module _ (text : List ℕ) (from at : ℕ) (inside : at < length text) where
   abbrev byte : ℕ

@@ -1,13 +1,11 @@
 -- The terms and the steps that are left to look at.
-use Rattle.std.specs.Prelude.{◌≡◌, ℕ, zero, suc, ◌≤◌, List, [], ◌∷◌, ◌++◌, length, drop, slice_get, Option, Some, None, Bool, true, false}
+use Rattle.std.specs.Prelude.{◌≡◌, ℕ, suc, List, [], ◌∷◌, ◌++◌, length, drop, slice_get, Option, Some, None, Bool, true, false}
 use mathlib.Core.Path.{sym, refl, ap, ap₂, ◌∙◌, subst}
-use native.Mathlib.Omega.{arith}
 use Rattle.std.proofs.Common.{append_assoc, append-nil}
 use Rattle.std.proofs.lemmas.List.{length-append}
 use Rattle.fpl_log.specs.declared.terms.Term.{Term}
 use Rattle.fpl_log.specs.declared.step.Step.{Step}
-use Rattle.fpl_log.specs.declared.step.Step.TheVariants.{Insert, Close}
-use Rattle.fpl_log.specs.Slim.{is_left_out, new_number, next_number, next_count, slim_term, slim_terms, slim_step, kept_if, slim_steps, CitesEarlier, AreInOrder, NamesEarlier, AllNameEarlier}
+use Rattle.fpl_log.specs.Slim.{is_left_out, new_number, next_number, next_count, slim_term, slim_terms, slim_step, kept_if, slim_steps, NamesEarlier, AllNameEarlier}
 use Rattle.fpl_log.proofs.TermsTaken.{drop_next}
 
 term-first : (o : Option ℕ) (t : Term) (ts : List Term) → slim_term o t ts ≡ slim_term o t [] ++ ts
@@ -61,22 +59,3 @@ steps_next steps j i numbers after kept more s is e h f g =
 
     count : length (kept ++ kept_if (is_left_out s) (slim_step numbers s) []) ≡ next_count (is_left_out s) (length kept)
     count = count-next (is_left_out s) (slim_step numbers s) kept
-
-drop-all : {X : Type 0} (xs : List X) (i : ℕ) → length xs ≤ i → drop i xs ≡ []
-drop-all [] zero l = refl
-drop-all [] (suc i) l = refl
-drop-all (x ∷ xs) zero l = absurd (omega arith)
-drop-all (x ∷ xs) (suc i) l = drop-all xs i (omega arith)
-
--- steps in order name earlier steps
-names_of : (numbers : List (Option ℕ)) (s : Step) → CitesEarlier numbers s → NamesEarlier (length numbers) s
-names_of numbers (Insert origin terms scale) h = h
-names_of numbers (Close of terms) h = (h.0, h.2)
-
-pub order_names : (numbers : List (Option ℕ)) (count : ℕ) (ss : List Step) → AreInOrder numbers count ss → AllNameEarlier (length numbers) ss
-order_names numbers count [] h = tt
-order_names numbers count (s ∷ ss) h = (
-  names_of numbers s h.0,
-  subst (λ n. AllNameEarlier n ss) (length-append numbers _) (order_names (numbers ++ (next_number (is_left_out s) count) ∷ [])
-      (next_count (is_left_out s) count) ss h.1),
-)

@@ -132,6 +132,15 @@ impl ClosedList {
         }
     }
 
+    /// No rows, with room for `count` of them.
+    pub fn with_capacity(alloc: Global, count: usize) -> Result<Self, AllocError>
+        ensures { IfOk result (λ l. l ≡ []) }
+    {
+        Ok(ClosedList {
+            items: Vec::with_capacity(alloc, count)?,
+        })
+    }
+
     pub fn len(&self) -> usize
         ensures value { result ≡ length self.now }
         ensures range { length self.now < 2 ^ 63 }

@@ -73,6 +73,17 @@ impl Terms {
         })
     }
 
+    /// These terms, with room for no more.
+    pub fn of(alloc: Global, items: &[Term]) -> Result<Self, AllocError>
+        ensures { IfOk result (λ l. l ≡ items.now) }
+    {
+        let mut terms = Terms::with_capacity(alloc, items.len())?;
+        for i in 0..items.len() {
+            terms.push(items[i])?;
+        }
+        Ok(terms)
+    }
+
     pub fn len(&self) -> usize
         ensures value { result ≡ length self.now }
         ensures range { length self.now < 2 ^ 63 }

@@ -18,20 +18,14 @@ use Rattle.fpl_matrices.specs.declared.fault.MapError.{MapError}
 use Rattle.fpl_matrices.specs.Matrices.{Assigned, IsShape, IsAssignment, prime_in}
 use Rattle.fpl_matrices.specs.MapText.{Read, start_of, sized, is_size, judged, matrix_with, assigned, read_word, read_number, read_even, read_odd, read_entry, read_entries, read_matrix, read_matrices, read_end, map_of}
 use Rattle.fpl_matrices.proofs.Steps.{passed, mapped, test_passed, ok_value, no_err}
+use Rattle.std.proofs.lemmas.Bool.{and_parts}
+use Rattle.math_algebra.proofs.Degrees.{either_true}
 
 pub same_is : (s t : Parity) → same_parity s t ≡ true → s ≡ t
 same_is even even e = refl
 same_is even odd e = absurd (let k : ⊥ = cc in k)
 same_is odd even e = absurd (let k : ⊥ = cc in k)
 same_is odd odd e = refl
-
-either_true : (a b : Bool) → (a || b) ≡ true → (a ≡ true) ⊎ (b ≡ true)
-either_true true b e = inl refl
-either_true false b e = inr e
-
-both_true : (a b : Bool) → (a && b) ≡ true → (a ≡ true) × (b ≡ true)
-both_true true b e = (refl, e)
-both_true false b e = absurd (let k : ⊥ = cc in k)
 
 module _ (p m n : ℕ) (t : Parity) where
   abbrev Stands : (s x : ℕ) → Type 0
@@ -53,7 +47,8 @@ module _ (p m n : ℕ) (t : Parity) where
       inside false f l e = absurd (no_err e)
 
       go : (b : Bool) → nat_lt x.value p ≡ b →
-          (if b then (if nat_eq x.value 0 || same_parity (block m (s / n) (s % n)) t then Ok x else Err (MapError.Parity place)) else Err (MapError.Number place)) ≡ Ok y →
+          (if b then (if nat_eq x.value 0 || same_parity (block m (s / n) (s % n)) t then Ok x else Err (MapError.Parity place)) else Err
+          (MapError.Number place)) ≡ Ok y →
           (y.value < p) × Stands s y.value
       go true f e = inside (nat_eq x.value 0 || same_parity (block m (s / n) (s % n)) t) refl (grind arith) e
       go false f e = absurd (no_err e)
@@ -72,7 +67,8 @@ module _ (p m n : ℕ) (t : Parity) where
       size = length-append xs (x ∷ [])
 
       last : get_or (xs ++ x ∷ []) (length xs) 0 ≡ x
-      last = get_or-append_right xs (x ∷ []) (length xs) (length xs) 0 refl (omega arith) ∙ ap (λ w. get_or (x ∷ []) w 0) (let e : length xs - length xs ≡ 0 = omega arith in e)
+      last = get_or-append_right xs (x ∷ []) (length xs) (length xs) 0 refl (omega arith) ∙
+          ap (λ w. get_or (x ∷ []) w 0) (let e : length xs - length xs ≡ 0 = omega arith in e)
 
       at : (P : ℕ → ℕ → Type 0) → ((s : ℕ) → s < length xs → P s (get_or xs s 0)) → P (length xs) x → (s : ℕ) → s < length (xs ++ x ∷ []) →
           P s (get_or (xs ++ x ∷ []) s 0)
@@ -184,8 +180,8 @@ module _ (p m n : ℕ) where
 size_is : (m : ℕ) (place : ℕ) (x y : Read ℕ) → m ≤ 32 → sized place (is_size m) x ≡ Ok y → IsShape m (m + y.value)
 size_is m place x y h e =
     let f = test_passed (is_size m x.value) x (MapError.Size place) y e in
-    let b = both_true (nat_le x.value 32 && nat_le 1 (m + x.value)) (nat_le (m + x.value) 32) f.0 in
-    let c = both_true (nat_le x.value 32) (nat_le 1 (m + x.value)) b.0 in
+    let b = and_parts (nat_le x.value 32 && nat_le 1 (m + x.value)) (nat_le (m + x.value) 32) f.0 in
+    let c = and_parts (nat_le x.value 32) (nat_le 1 (m + x.value)) b.0 in
     let some : 1 ≤ m + x.value = grind arith in
     let most : m + x.value ≤ 32 = grind arith in
     subst (λ z. IsShape m (m + z.value)) f.1 (record { even = omega arith; some = some; most = most })

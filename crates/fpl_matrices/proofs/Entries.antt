@@ -19,7 +19,8 @@ module _ (bytes : List ℕ) (p m n : ℕ) (t : Parity) (before : List ℕ) (coun
   entries_step x e =
       sym (ap (and_then (λ x. read_entries bytes p m n t (before ++ x.value ∷ []) (count - (s + 1)) x.next)) e) ∙ entries_next
 
-  pub entries_fault : {A B : Type 0} (f : A → Read ℕ) (g : B → Read (List ℕ)) (e : MapError) → Gives f (Err e) (read_entry bytes p m n t s at) → Gives g (Err e) all
+  pub entries_fault : {A B : Type 0} (f : A → Read ℕ) (g : B → Read (List ℕ)) (e : MapError) → Gives f (Err e) (read_entry bytes p m n t s at) →
+      Gives g (Err e) all
   entries_fault f g e h =
       subst (Gives g (Err e)) entries_next
       (fault_then f g (λ x. read_entries bytes p m n t (before ++ x.value ∷ []) (count - (s + 1)) x.next) e (read_entry bytes p m n t s at) h)

@@ -1,7 +1,7 @@
 mod Digits
 mod Steps
 mod Assigned
-mod Sound
+pub mod Sound
 mod Faults
 mod Entries
 mod Meant

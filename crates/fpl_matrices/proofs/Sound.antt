@@ -32,7 +32,8 @@ listed_least p h =
 
 pub listed_most : (p : ℕ) → IsListed p → p ≤ 65521
 listed_most p h =
-    let t : nat_le p 65521 ≡ true = All-contains (λ q. nat_le q 65521 ≡ true) accepted_primes p (AllPass-from_list_all (λ q. nat_le q 65521) accepted_primes refl) h in
+    let t : nat_le p 65521 ≡ true = All-contains (λ q. nat_le q 65521 ≡ true) accepted_primes p
+    (AllPass-from_list_all (λ q. nat_le q 65521) accepted_primes refl) h in
     grind arith
 
 -- rows
@@ -49,7 +50,8 @@ turned_sound x some s = record {
     listed = s.matrix.listed;
     square = record {
       places = length_turned x.prime x.even (size_of x) x.numbers (size_of x * size_of x);
-      below = turned_below x.prime x.even (size_of x) x.numbers (size_of x * size_of x) some s.matrix.square.below (let e = s.matrix.square.places in omega arith);
+      below = turned_below x.prime x.even (size_of x) x.numbers (size_of x * size_of x) some s.matrix.square.below
+          (let e = s.matrix.square.places in omega arith);
     };
   };
   shape = s.shape;
@@ -57,7 +59,11 @@ turned_sound x some s = record {
 
 pub bracket_sound : (x y : PlainMatrix) → IsSound x → IsSound y → AreAlike x y → IsSound (bracket_of x y)
 bracket_sound x y s t a = record {
-  matrix = record { listed = s.matrix.listed; square = (brackets_mean (Prime x.prime) x.prime x.even (size_of x) refl s.matrix.listed x.numbers y.numbers s.matrix.square other).0 };
+  matrix = record {
+    listed = s.matrix.listed;
+    square = (brackets_mean (Prime x.prime) x.prime x.even
+        (size_of x) refl s.matrix.listed x.numbers y.numbers s.matrix.square other).0;
+  };
   shape = s.shape;
 }
   where

@@ -90,7 +90,8 @@ fn bracket_row(
     requires alike { AreAlike x.now y.now }
     requires alike_turned { AreAlike x.now turned.now }
     requires within { r < size_of x.now }
-    ensures { IfOk result (λ out. out.items ≡ bracket_row x.now.prime x.now.even (size_of x.now) x.now.numbers turned.now.numbers y.now.numbers r (size_of x.now)) }
+    ensures { IfOk result (λ out. out.items ≡ bracket_row x.now.prime x.now.even (size_of x.now) x.now.numbers turned.now.numbers y.now.numbers r
+        (size_of x.now)) }
 {
     let size = x.size();
     let mut out = zeros_of(alloc, size)?;

@@ -68,7 +68,8 @@ fn sum_of(
       prime = prime_in p.now.field;
       even = a.now.even;
       odd = a.now.odd;
-      numbers = numbers_from (prime_in p.now.field) a.now.even (a.now.even + a.now.odd) (numbers_in a.now) (trees (map plain members.now)) (zeros (a.now.even + a.now.odd));
+      numbers = numbers_from (prime_in p.now.field) a.now.even (a.now.even + a.now.odd) (numbers_in a.now) (trees (map plain members.now))
+          (zeros (a.now.even + a.now.odd));
     }) }
     ensures sound { IfOk result (λ x. IsSound x) }
 {

@@ -13,7 +13,7 @@ use Rattle.math_fields.specs.Gcd.{gcd}
 use Rattle.fpl_numbers.specs.Numbers.{IsLowest, divided, fraction_product}
 use Rattle.fpl_numbers.specs.Kinds.{up_part, down_part}
 use Rattle.math_fields.proofs.Gcd.{gcd_is}
-use Rattle.fpl_numbers.proofs.Integers.{abs-mul, abs-divided, up_times, down_times, up-mul, down-mul, int_same}
+use Rattle.fpl_numbers.proofs.Integers.{abs-mul, up_times, down_times, up-mul, down-mul, int_same}
 use Rattle.fpl_numbers.proofs.Fractions.{size, below, below_positive}
 
 module _ (a b : Num) (is_a : IsLowest a) (is_b : IsLowest b) where
@@ -50,10 +50,6 @@ module _ (a b : Num) (is_a : IsLowest a) (is_b : IsLowest b) where
   own_apart n d g h is p q = divisor_apart (n / g) n (d / h) (part_dvd n g p) (IsGcd-swap _ _ 1
       (divisor_apart (d / h) d n (part_dvd d h q) (IsGcd-swap n d 1 is)))
 
-  above_is : unsigned_abs cancelled_above ≡ (size a / left_gcd) * (size b / right_gcd)
-  above_is = abs-mul (divided a.numerator left_gcd) (divided b.numerator right_gcd) ∙ ap₂ (λ x y. x * y) (abs-divided a.numerator left_gcd)
-      (abs-divided b.numerator right_gcd)
-
   parts_apart : IsGcd ((size a / left_gcd) * (size b / right_gcd)) cancelled_below 1
   parts_apart =
       apart-mul _ (below a / right_gcd) (below b / left_gcd)
@@ -61,10 +57,6 @@ module _ (a b : Num) (is_a : IsLowest a) (is_b : IsLowest b) where
       (IsGcd-swap _ _ 1 (quotients_apart _ _ right_gcd some_right is_right))))
       (IsGcd-swap _ _ 1 (apart-mul _ _ _ (IsGcd-swap _ _ 1 (quotients_apart _ _ left_gcd some_left is_left))
       (IsGcd-swap _ _ 1 (own_apart _ _ _ _ is_b.lowest is_right.0 is_left.1))))
-
-  -- the greatest common divisor of the whole products
-  whole : ℕ
-  whole = gcd (unsigned_abs (a.numerator *ℤ b.numerator)) (below a * below b)
 
   is_whole : IsGcd (unsigned_abs (a.numerator *ℤ b.numerator)) (below a * below b) (gcd (unsigned_abs (a.numerator *ℤ b.numerator)) (below a * below b))
   is_whole = gcd_is (unsigned_abs (a.numerator *ℤ b.numerator)) (below a * below b)

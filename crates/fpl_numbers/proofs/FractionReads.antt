@@ -8,7 +8,8 @@ use native.Mathlib.Nat.{div-mul_cancel, mul-pos, pos_of_dvd_of_pos, eq_of_mul-eq
 use Rattle.std.proofs.lemmas.Nat.Gcd.{IsGcd-swap}
 use Rattle.math_fields.proofs.Divisors.{quotients_apart, quotient_positive, lowest_equal}
 use Rattle.math_fields.specs.Ratios.{Alike, lowest, ratio_plus, ratio_times, ratio_minus}
-use Rattle.math_fields.proofs.Fractions.{alike_by, alike_of_lowest, by_product, lowest_same_of}
+use Rattle.math_fields.proofs.Fractions.{alike_by, by_product}
+use Rattle.math_fields.proofs.LowestTerms.{alike_of_lowest, lowest_same_of}
 use Rattle.math_fields.proofs.FromNormal.{number_same, right-plus, right-times}
 use Rattle.fpl_numbers.specs.declared.number.Num.{Num}
 use Rattle.fpl_numbers.specs.declared.number.Kind.TheVariants.{Rational}

@@ -7,7 +7,7 @@ use native.Mathlib.Decide.{dec_le}
 use native.Mathlib.Nat.{div-mul_cancel, mod-lt, pos_of_dvd_of_pos}
 use Rattle.math_fields.proofs.Divisors.{quotients_apart, quotient_positive}
 use Rattle.math_fields.specs.Ratios.{Ratio, Alike}
-use Rattle.math_fields.proofs.Fractions.{lowest_same_of}
+use Rattle.math_fields.proofs.LowestTerms.{lowest_same_of}
 use Rattle.math_fields.proofs.FromNormal.{number_same, of_raw_itself}
 use Rattle.fpl_numbers.specs.declared.number.Num.{Num}
 use Rattle.fpl_numbers.specs.declared.number.Kind.{Kind}

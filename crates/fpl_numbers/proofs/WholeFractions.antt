@@ -21,7 +21,7 @@ times-one z = int_same (z *ℤ pos 1) z (omega (arith, up-mul z (pos 1), down-mu
 pub divided-one : (z : ℤ) → divided z 1 ≡ z
 divided-one z = int_same (divided z 1) z (ap₂ (λ u v. u + v) (up-divided z 1 ∙ div-one (up_part z)) (sym (down-divided z 1 ∙ div-one (down_part z))))
 
-num_same : {n n' d d' : ℤ} → n ≡ n' → d ≡ d' → Path Num (record { numerator = n; denominator = d }) (record { numerator = n'; denominator = d' })
+pub num_same : {n n' d d' : ℤ} → n ≡ n' → d ≡ d' → Path Num (record { numerator = n; denominator = d }) (record { numerator = n'; denominator = d' })
 num_same p q i = record { numerator = p i; denominator = q i }
 
 pub within_true : (n : ℕ) → n ≤ most_number → nat_le n most_number ≡ true

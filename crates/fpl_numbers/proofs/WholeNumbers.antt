@@ -4,7 +4,7 @@ use mathlib.Core.Path.{refl, sym, ap, ap₂, ◌∙◌, subst}
 use native.Mathlib.Omega.{arith}
 use native.Mathlib.Nat.{one-dvd, dvd_refl, mod-lt, mod-mod, mod-add-mod, add-mod, add-mul-mod_self_left, div-add-mod}
 use Rattle.math_fields.specs.Ratios.{lowest, ratio_plus}
-use Rattle.math_fields.proofs.Fractions.{lowest_same_of}
+use Rattle.math_fields.proofs.LowestTerms.{lowest_same_of}
 use Rattle.math_fields.proofs.FromNormal.{number_same, right-plus}
 use Rattle.fpl_numbers.specs.declared.number.Num.{Num}
 use Rattle.fpl_numbers.specs.declared.number.Kind.{Kind}

@@ -15,7 +15,8 @@ use Rattle.math_fields.specs.Primes.{IsPrime}
 use Rattle.math_fields.specs.Ratios.{Ratio, lowest, ratio_plus, ratio_times, ratio_minus, ratio_inverse}
 use Rattle.math_fields.proofs.FromNormal.{number_same, right-plus, right-times}
 use Rattle.math_fields.proofs.Residues.{residue_inverse, residue_plus-minus, residue_is_inverse, one_not_zero, two_not_zero}
-use Rattle.math_fields.proofs.Fractions.{lowest_alike, lowest_same_of, plus_alike, times_alike, minus_alike, plus_assoc as ratio-plus_assoc, plus_comm as ratio-plus_comm, plus-nought, plus-minus, times_assoc, times_comm, times-unit, times-plus, times-inverse, unit≢nought, two≢nought}
+use Rattle.math_fields.proofs.LowestTerms.{lowest_alike, lowest_same_of}
+use Rattle.math_fields.proofs.Fractions.{plus_alike, times_alike, minus_alike, plus_assoc as ratio-plus_assoc, plus_comm as ratio-plus_comm, plus-nought, plus-minus, times_assoc, times_comm, times-unit, times-plus, times-inverse, unit≢nought, two≢nought}
 
 module _ (N : Normal) where
   unfoldable pub field_of_normal : Field

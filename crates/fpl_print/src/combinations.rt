@@ -22,8 +22,8 @@ fn push_factor(out: &mut Vec<u8>, c: Num) -> Result<(), AllocError>
     out.extend_from_slice(b"*")
 }
 
-/// Appends all of a term but its name.
-pub(crate) fn push_coefficient(out: &mut Vec<u8>, first: bool, c: Num) -> Result<(), AllocError>
+/// Appends all of a term but its name: its sign, and its number where that is not 1. The first term of a sum has no sign `+`.
+pub fn push_coefficient(out: &mut Vec<u8>, first: bool, c: Num) -> Result<(), AllocError>
     ensures { OnOk result (out.new.items ≡ out.old.items ++ (sign_text first (is_below_nought c) ++ factor_text c)) }
 {
     push_sign(out, first, is_below_nought(c))?;

@@ -15,7 +15,7 @@ mod steps;
 mod table;
 
 pub use answers::{Answer, Answers};
-pub use combinations::push_combination;
+pub use combinations::{push_coefficient, push_combination};
 pub use equal::equal_text;
 pub use gap::gap_text;
 pub use lines::{push_count, push_head_line};

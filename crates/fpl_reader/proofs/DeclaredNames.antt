@@ -37,7 +37,7 @@ free_of word a b c d e f (suc (suc (suc (suc zero))), inside, same) = unequal wo
 free_of word a b c d e f (suc (suc (suc (suc (suc zero)))), inside, same) = unequal word (codes "equal") f same
 free_of word a b c d e f (suc (suc (suc (suc (suc (suc k))))), inside, same) = omega arith
 
-declared_in-append : (es fs : List Event) → declared_in (es ++ fs) ≡ declared_in es ++ declared_in fs
+pub declared_in-append : (es fs : List Event) → declared_in (es ++ fs) ≡ declared_in es ++ declared_in fs
 declared_in-append [] fs = refl
 declared_in-append (e ∷ es) fs = ap (λ ds. name_in e ++ ds) (declared_in-append es fs) ∙ sym (append_assoc (name_in e) (declared_in es) (declared_in fs))
 

@@ -12,5 +12,7 @@ pub mod Counting
 pub mod Allowed
 pub mod ClaimTerms
 pub mod Nesting
+pub mod ClaimPlaces
+pub mod ClaimSides
 pub mod Soundness
 pub mod OneAnswer

@@ -165,10 +165,6 @@ mutual
 
 -- from the tokens to their terminals
 
-test : {P : Type 0} → (b : Bool) → ((b ≡ true) → P) → ((b ≡ false) → P) → P
-test true f g = f refl
-test false f g = g refl
-
 -- a mark that opens or closes, in either sense
 abbrev Agrees : Terminal → TokenKind → Type 0
 Agrees s k = (n : ℕ) → (up s n ≤ n + opens k) × (n + closes k ≤ down s n)

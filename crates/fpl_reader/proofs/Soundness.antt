@@ -1,9 +1,9 @@
 -- A presentation that is read is sound.
-use Rattle.std.proofs.Common.{◌≡◌, ◌≢◌, ℕ, zero, suc, ◌+◌, ◌<◌, ◌≤◌, ◌^◌, List, [], ◌∷◌, ◌++◌, length, map, sum, get_or, Bool, true, false, IsTrue, if◌then◌else◌, refl, ap, ap₂, sym, ◌∙◌, subst, arith, length-append}
+use Rattle.std.proofs.Common.{◌≡◌, ◌≢◌, ℕ, zero, suc, ◌+◌, ◌<◌, ◌^◌, List, [], ◌∷◌, length, map, get_or, Bool, true, false, IsTrue, if◌then◌else◌, refl, ap, ap₂, sym, ◌∙◌, subst, arith}
 use Rattle.std.specs.Prelude.{None, Some, Result, Ok, Err, IfOk, All, nat_eq}
 use Rattle.fpl_reader.specs.declared.fault.ReaderError.{ReaderError}
 use Rattle.fpl_reader.specs.Reading.{Read}
-use Rattle.std.specs.List.{list_any, fold}
+use Rattle.std.specs.List.{list_any}
 use Rattle.std.specs.Str.{bytes_eq}
 use Rattle.std.specs.declared.option.Option.{Option}
 use Rattle.std.proofs.lemmas.List.{length-map}
@@ -15,37 +15,30 @@ use Rattle.fpl_numbers.specs.declared.number.Kind.{Kind}
 use Rattle.math_algebra.specs.Tree.{Tree, Trees, gen, none, sum_of, multiple, bracket_of, end as last, more}
 use Rattle.math_algebra.specs.Tree as algebra
 use Rattle.math_algebra.specs.Degrees.{Degree, any, exact, mixed, of_both, of_bracket, same_parity, weight_of, weights_of, parity_of, parities_of, weight_of_both, parity_of_both}
-use Rattle.fpl_model.specs.declared.expr.Expr as expr
 use Rattle.fpl_model.specs.declared.presentation.Generator.{Generator}
 use Rattle.fpl_model.specs.declared.presentation.Equation.{Equation}
 use Rattle.fpl_model.specs.declared.presentation.Presentation.{Presentation}
-use Rattle.fpl_model.specs.Meaning.{plain, tree_in, in_field, presentation_in}
-use Rattle.fpl_model.specs.Sound.{IsWithin, IsHomogeneous, IsSoundEquation, IsSoundElement, IsSound, count_tree, count_equation, places, deep}
-use Rattle.fpl_model.proofs.Plain.{plain-Zero}
-use Rattle.fpl_syntax.specs.declared.terminal.Terminal.{Terminal}
-use Rattle.fpl_syntax.specs.declared.terminal.Terminal.TheVariants as mark
+use Rattle.fpl_model.specs.Meaning.{tree_in, in_field, presentation_in}
+use Rattle.fpl_model.specs.Sound.{IsHomogeneous, IsSoundEquation, IsSoundElement, IsSound, places}
 use Rattle.fpl_syntax.specs.declared.terminal.ClaimKind.{ClaimKind}
-use Rattle.fpl_syntax.specs.declared.terminal.ClaimKind.TheVariants.{Relation, Ideal, Equal}
 use Rattle.fpl_syntax.specs.declared.parser.Claim.{Claim}
-use Rattle.fpl_syntax.specs.declared.expression.Scale.{Scale}
-use Rattle.fpl_syntax.specs.declared.expression.Scale.TheVariants.{One, Whole, Quotient}
-use Rattle.fpl_syntax.specs.Grammar.{Scope, Sum, sum as sum_tree, Terms, end, further, term, Factor, name, zero as nought, bracket, group, Statement, field, declare, relation, equation, ideal, equal, rationals, prime, Declaration, plainly, weighted, spell_scale, spell_lead, spell_sum, spell_terms, spell_factor, spell_declarations, spell_statement, spelling, expression_of, equate, claims_in, claims_of}
-use Rattle.fpl_syntax.specs.Kinds.{is_field}
+use Rattle.fpl_syntax.specs.Grammar.{Scope, name, field, equation, spelling, claims_of}
 use Rattle.fpl_syntax.proofs.Coefficients.{known_field}
 use Rattle.fpl_reader.specs.declared.survey.Event.{Event}
 use Rattle.fpl_reader.specs.declared.survey.DeclaredName.{DeclaredName}
-use Rattle.fpl_reader.specs.Events.{events_scale, events_sum, events_terms, events_factor, events_statement, events_of, fields_in, declared_in}
+use Rattle.fpl_reader.specs.Events.{events_of, fields_in, declared_in}
 use Rattle.fpl_reader.specs.Terminals.{terminal_of, terminals_of}
 use Rattle.fpl_reader.specs.Reading.{name_of, generator_of, kind_of, scope_of, is_relation, is_ideal, is_equal, claimed_as, lefts, with_claims, name_twice, unknown_in, zero_in, is_mixed, mixed_weight_of, mixed_parity_of, first_place, HasPresentation}
 use Rattle.fpl_reader.proofs.Allowed.{have_weights, few_names, known_kind}
-use Rattle.fpl_reader.proofs.ClaimTerms.{within}
 use Rattle.fpl_reader.proofs.Counting.{few_tokens}
 use Rattle.fpl_reader.proofs.DeclaredNames.{AreNames}
-use Rattle.fpl_reader.proofs.Nesting.{nest_sum, deep_sum, IsShallow, sum_passes, tokens_shallow}
+use Rattle.fpl_reader.proofs.Nesting.{IsShallow, tokens_shallow}
 use Rattle.fpl_reader.specs.declared.fault.Reason.TheVariants as reason
 use Rattle.fpl_reader.specs.Reading.{late_refusal}
 use Rattle.fpl_reader.proofs.Readings.{unless_none, early_none_rest, text_names_of}
-use Rattle.fpl_reader.proofs.Terms.{first_place-append, or_else-none, places_sum}
+use Rattle.fpl_reader.proofs.Terms.{or_else-none}
+use Rattle.fpl_reader.proofs.ClaimPlaces.{places_cost}
+use Rattle.fpl_reader.proofs.ClaimSides.{claims_formed, claims_cost}
 
 -- names
 
@@ -122,243 +115,6 @@ unmixed : {A : Type 0} (d : Degree A) → is_mixed d ≡ false → d ≢ mixed
 unmixed any h e = cc
 unmixed (exact a) h e = cc
 unmixed mixed h e = cc
-
--- how long the terminals are
-
-scale_long : (scale : Scale) (after : List Terminal) → length (events_scale scale) + length after ≤ length (spell_scale scale after)
-scale_long One after = omega arith
-scale_long (Whole n) after = omega arith
-scale_long (Quotient n d) after = omega arith
-
-lead_long : (plus negative : Bool) (after : List Terminal) → length after ≤ length (spell_lead plus negative after)
-lead_long plus true after = omega arith
-lead_long true false after = omega arith
-lead_long false false after = omega arith
-
-mutual
-  sum_long : (s : Sum) (after : List Terminal) → length (events_sum s) + length after ≤ length (spell_sum s after)
-  sum_long (sum_tree plus (term negative scale f) ts) after =
-      let a = lead_long plus negative (spell_scale scale (spell_factor f (spell_terms ts after))) in
-      let b = scale_long scale (spell_factor f (spell_terms ts after)) in
-      let c = factor_long f (spell_terms ts after) in
-      let d = terms_long ts after in
-      let x = length-append (events_scale scale) (events_factor f ++ events_terms ts) in
-      let y = length-append (events_factor f) (events_terms ts) in
-      omega arith
-
-  terms_long : (ts : Terms) (after : List Terminal) → length (events_terms ts) + length after ≤ length (spell_terms ts after)
-  terms_long end after = omega arith
-  terms_long (further (term negative scale f) ts) after =
-      let b = scale_long scale (spell_factor f (spell_terms ts after)) in
-      let c = factor_long f (spell_terms ts after) in
-      let d = terms_long ts after in
-      let x = length-append (events_scale scale) (events_factor f ++ events_terms ts) in
-      let y = length-append (events_factor f) (events_terms ts) in
-      omega arith
-
-  factor_long : (f : Factor) (after : List Terminal) → length (events_factor f) + length after ≤ length (spell_factor f after)
-  factor_long (name w) after = omega arith
-  factor_long (nought place) after = omega arith
-  factor_long (bracket a b) after =
-      let c = sum_long a (mark.Comma ∷ spell_sum b (mark.CloseBracket ∷ after)) in
-      let d = sum_long b (mark.CloseBracket ∷ after) in
-      let x = length-append (events_sum a) (events_sum b) in
-      omega arith
-  factor_long (group a) after = let c = sum_long a (mark.CloseGroup ∷ after) in omega arith
-
-declarations_long : (ds : List Declaration) (after : List Terminal) → length after ≤ length (spell_declarations ds after)
-declarations_long [] after = omega arith
-declarations_long (plainly w ∷ ds) after = let h = declarations_long ds after in omega arith
-declarations_long (weighted w n ∷ ds) after = let h = declarations_long ds after in omega arith
-
--- how many places a claim takes
-abbrev cost : Claim → ℕ
-cost c = count_tree (plain c.equation.left) + count_tree (plain c.equation.right) + 1
-
-abbrev costs : List Claim → ℕ
-costs [] = 0
-costs (c ∷ cs) = cost c + costs cs
-
-costs-append : (xs ys : List Claim) → costs (xs ++ ys) ≡ costs xs + costs ys
-costs-append [] ys = omega arith
-costs-append (x ∷ xs) ys = let h = costs-append xs ys in omega arith
-
-fold_from : (a : ℕ) (xs : List ℕ) → fold (λ a x. a + x) a xs ≡ a + fold (λ a x. a + x) 0 xs
-fold_from a [] = omega arith
-fold_from a (x ∷ xs) = let h = fold_from (a + x) xs in let k = fold_from (0 + x) xs in omega arith
-
-sum-cons : (x : ℕ) (xs : List ℕ) → sum (x ∷ xs) ≡ x + sum xs
-sum-cons x xs = let h = fold_from (0 + x) xs in omega arith
-
-first_more : (a r i s n : ℕ) → r + i + s ≤ n → a + r + i + s ≤ a + n
-first_more a r i s n h = omega arith
-
-second_more : (l e r i s n : ℕ) → r + i + s ≤ n → r + (l + 1 + i) + s ≤ l + e + 1 + n
-second_more l e r i s n h = omega arith
-
-third_more : (a r i s n : ℕ) → r + i + s ≤ n → r + i + (a + s) ≤ a + n
-third_more a r i s n h = omega arith
-
-places_more : (kind : Kind) (gs : List Generator) (cs : List Claim) (k : ClaimKind) (q : Equation) (n : ℕ) → places (with_claims kind gs cs) ≤ n
-    → sum (map count_equation (if is_relation k then q ∷ claimed_as is_relation cs else claimed_as is_relation cs))
-    + sum (map (λ e. count_tree (plain e) + 1) (lefts (if is_ideal k then q ∷ claimed_as is_ideal cs else claimed_as is_ideal cs)))
-    + sum (map count_equation (if is_equal k then q ∷ claimed_as is_equal cs else claimed_as is_equal cs)) ≤ count_equation q + n
-places_more kind gs cs Relation q n h =
-    let rs = map count_equation (claimed_as is_relation cs) in
-    let is = sum (map (λ e. count_tree (plain e) + 1) (lefts (claimed_as is_ideal cs))) in
-    let ss = sum (map count_equation (claimed_as is_equal cs)) in
-    subst (λ w. w + is + ss ≤ count_equation q + n) (sym (sum-cons (count_equation q) rs)) (first_more (count_equation q) (sum rs) is ss n h)
-places_more kind gs cs Ideal q n h =
-    let rs = sum (map count_equation (claimed_as is_relation cs)) in
-    let is = map (λ e. count_tree (plain e) + 1) (lefts (claimed_as is_ideal cs)) in
-    let ss = sum (map count_equation (claimed_as is_equal cs)) in
-    subst (λ w. rs + w + ss ≤ count_equation q + n) (sym (sum-cons (count_tree (plain q.left) + 1) is))
-    (second_more (count_tree (plain q.left)) (count_tree (plain q.right)) rs (sum is) ss n h)
-places_more kind gs cs Equal q n h =
-    let rs = sum (map count_equation (claimed_as is_relation cs)) in
-    let is = sum (map (λ e. count_tree (plain e) + 1) (lefts (claimed_as is_ideal cs))) in
-    let ss = map count_equation (claimed_as is_equal cs) in
-    subst (λ w. rs + is + w ≤ count_equation q + n) (sym (sum-cons (count_equation q) ss)) (third_more (count_equation q) rs is (sum ss) n h)
-
-places_cost : (kind : Kind) (gs : List Generator) (cs : List Claim) → places (with_claims kind gs cs) ≤ costs cs
-places_cost kind gs [] = omega arith
-places_cost kind gs (c ∷ cs) = places_more kind gs cs c.kind c.equation (costs cs) (places_cost kind gs cs)
-
--- the sides of claims
-
-module _ (text : List ℕ) (kind : Kind) (gs : List Generator) (known : IsTrue (is_field kind)) where
-  abbrev scope : Scope
-  scope = scope_of text kind gs
-
-  abbrev AllKnown : List Event → Type 0
-  AllKnown es = first_place (unknown_in scope) es ≡ None
-
-  record IsFormed (c : Claim) : Type 0 where
-    left : IsWithin kind (length gs) (plain c.equation.left)
-    left_deep : deep (plain c.equation.left) ≤ 64
-    right : IsWithin kind (length gs) (plain c.equation.right)
-    right_deep : deep (plain c.equation.right) ≤ 64
-    -- an ideal element has no right side
-    alone : IsTrue (is_ideal c.kind) → plain c.equation.right ≡ none
-
-  alone_formed : (claim : ClaimKind) (place : ℕ) (a : Sum) → AllKnown (events_sum a) → nest_sum a ≤ 64 →
-      IsFormed (equate claim place (expression_of scope a) expr.Zero)
-  alone_formed claim place a h deep_enough =
-      let d = deep_sum scope a in
-      record {
-        left = within text kind gs known 0 a h;
-        left_deep = omega arith;
-        right = rw plain-Zero tt;
-        right_deep = rw plain-Zero (omega arith);
-        alone = λ _. plain-Zero;
-      }
-
-  pair_formed : (claim : ClaimKind) (place : ℕ) (a b : Sum) → is_ideal claim ≡ false → AllKnown (events_sum a) → AllKnown (events_sum b) →
-      nest_sum a ≤ 64 → nest_sum b ≤ 64
-      → IsFormed (equate claim place (expression_of scope a) (expression_of scope b))
-  pair_formed claim place a b apart h k l m =
-      let d = deep_sum scope a in
-      let e = deep_sum scope b in
-      record {
-        left = within text kind gs known 0 a h;
-        left_deep = omega arith;
-        right = within text kind gs known 0 b k;
-        right_deep = omega arith;
-        alone = λ i. cc;
-      }
-
-  -- what a statement leaves
-  abbrev Formed : List Claim → List Terminal → Type 0
-  Formed cs after = All IsFormed cs × (o : ℕ) × IsShallow o o after
-
-  balanced : (o c : ℕ) (after : List Terminal) → o ≡ c → IsShallow o c after → (o : ℕ) × IsShallow o o after
-  balanced o c after e h = (o, subst (λ n. IsShallow o n after) (sym e) h)
-
-  one : (c : Claim) → IsFormed c → All IsFormed (c ∷ [])
-  one c h = All-cons IsFormed c [] h (All-nil IsFormed)
-
-  side_formed : (claim : ClaimKind) (place : ℕ) (a : Sum) (o : ℕ) (after : List Terminal) → AllKnown (events_sum a) →
-      IsShallow o o (mark.Claim claim place ∷ spell_sum a (mark.Semicolon ∷ after))
-      → Formed (equate claim place (expression_of scope a) expr.Zero ∷ []) after
-  side_formed claim place a o after h (start, k) =
-      let p = sum_passes a o o (mark.Semicolon ∷ after) (omega arith) k in
-      let b = balanced p.1 p.2 after (omega (arith, p.3)) p.4.1 in
-      (one (equate claim place (expression_of scope a) expr.Zero) (alone_formed claim place a h (omega (arith, p.0))), b.0, b.1)
-
-  sides_formed : (claim : ClaimKind) (place : ℕ) (a b : Sum) (o : ℕ) (after : List Terminal) → is_ideal claim ≡ false → AllKnown (events_sum a ++ events_sum b)
-      → IsShallow o o (mark.Claim claim place ∷ spell_sum a (mark.Equals ∷ spell_sum b (mark.Semicolon ∷ after)))
-      → Formed (equate claim place (expression_of scope a) (expression_of scope b) ∷ []) after
-  sides_formed claim place a b o after apart h (start, k) =
-      let f = first_place-append (unknown_in scope) (events_sum a) (events_sum b) h in
-      let p = sum_passes a o o (mark.Equals ∷ spell_sum b (mark.Semicolon ∷ after)) (omega arith) k in
-      let q = sum_passes b p.1 p.2 (mark.Semicolon ∷ after) (omega (arith, p.3)) p.4.1 in
-      let r = balanced q.1 q.2 after (omega (arith, p.3, q.3)) q.4.1 in (
-        one (equate claim place (expression_of scope a) (expression_of scope b)) (pair_formed claim place a b apart f.0 f.1 (omega (arith, p.0))
-            (omega (arith, p.3, q.0))),
-        r.0,
-        r.1,
-      )
-
-  declared_shallow : (ds : List Declaration) (o : ℕ) (after : List Terminal) → IsShallow o o (spell_declarations ds (mark.Semicolon ∷ after)) →
-      IsShallow o o after
-  declared_shallow [] o after h = h.1
-  declared_shallow (plainly w ∷ ds) o after h = declared_shallow ds o after h.1.1
-  declared_shallow (weighted w n ∷ ds) o after h = declared_shallow ds o after h.1.1.1.1
-
-  statement_formed : (s : Statement) (o : ℕ) (after : List Terminal) → AllKnown (events_statement s) → IsShallow o o (spell_statement s after) →
-      Formed (claims_in scope s) after
-  statement_formed (field place (rationals a b)) o after h k = (All-nil IsFormed, o, k.1.1.1)
-  statement_formed (field place (prime n)) o after h k = (All-nil IsFormed, o, k.1.1.1)
-  statement_formed (declare parity (plainly w) ds) o after h k = (All-nil IsFormed, o, declared_shallow ds o after k.1.1)
-  statement_formed (declare parity (weighted w n) ds) o after h k = (All-nil IsFormed, o, declared_shallow ds o after k.1.1.1.1)
-  statement_formed (relation place a) o after h k = side_formed Relation place a o after h k
-  statement_formed (equation place a b) o after h k = sides_formed Relation place a b o after refl h k
-  statement_formed (ideal place a) o after h k = side_formed Ideal place a o after h k
-  statement_formed (equal place a b) o after h k = sides_formed Equal place a b o after refl h k
-
-  All-append : (xs ys : List Claim) → All IsFormed xs → All IsFormed ys → All IsFormed (xs ++ ys)
-  All-append [] ys h k = k
-  All-append (x ∷ xs) ys h k = All-cons IsFormed x (xs ++ ys) (h 0 x (omega arith)) (All-append xs ys (λ n d l. h (suc n) d (omega arith)) k)
-
-  claims_formed : (ss : List Statement) (o : ℕ) → AllKnown (events_of ss) → IsShallow o o (spelling ss) → All IsFormed (claims_of scope ss)
-  claims_formed [] o h k = All-nil IsFormed
-  claims_formed (s ∷ ss) o h k =
-      let f = first_place-append (unknown_in scope) (events_statement s) (events_of ss) h in
-      let r = statement_formed s o (spelling ss) f.0 k in
-      All-append (claims_in scope s) (claims_of scope ss) r.0 (claims_formed ss r.1 f.1 r.2)
-
-  -- how many places the claims take
-
-  cost_side : (a : Sum) → count_tree (plain (expression_of scope a)) + count_tree (plain expr.Zero) + 1 ≤ length (events_sum a) + 1
-  cost_side a = let h = places_sum scope a in rw plain-Zero (omega arith)
-
-  statement_cost : (s : Statement) (after : List Terminal) → costs (claims_in scope s) + length after ≤ length (spell_statement s after)
-  statement_cost (field place (rationals a b)) after = omega arith
-  statement_cost (field place (prime n)) after = omega arith
-  statement_cost (declare parity (plainly w) ds) after = let h = declarations_long ds (mark.Semicolon ∷ after) in omega arith
-  statement_cost (declare parity (weighted w n) ds) after = let h = declarations_long ds (mark.Semicolon ∷ after) in omega arith
-  statement_cost (relation place a) after = let h = cost_side a in let k = sum_long a (mark.Semicolon ∷ after) in omega arith
-  statement_cost (equation place a b) after =
-      let h = places_sum scope a in
-      let k = places_sum scope b in
-      let l = sum_long a (mark.Equals ∷ spell_sum b (mark.Semicolon ∷ after)) in
-      let m = sum_long b (mark.Semicolon ∷ after) in
-      omega arith
-  statement_cost (ideal place a) after = let h = cost_side a in let k = sum_long a (mark.Semicolon ∷ after) in omega arith
-  statement_cost (equal place a b) after =
-      let h = places_sum scope a in
-      let k = places_sum scope b in
-      let l = sum_long a (mark.Equals ∷ spell_sum b (mark.Semicolon ∷ after)) in
-      let m = sum_long b (mark.Semicolon ∷ after) in
-      omega arith
-
-  claims_cost : (ss : List Statement) → costs (claims_of scope ss) ≤ length (spelling ss)
-  claims_cost [] = omega arith
-  claims_cost (s ∷ ss) =
-      let h = statement_cost s (spelling ss) in
-      let k = claims_cost ss in
-      let l = costs-append (claims_in scope s) (claims_of scope ss) in
-      omega arith
 
 -- homogeneous claims
 

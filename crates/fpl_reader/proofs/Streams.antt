@@ -1,16 +1,11 @@
 -- The tokens that a stream has left.
 use Rattle.std.proofs.Common.{◌≡◌, ℕ, List, [], ◌∷◌, ◌++◌, Result, refl, sym, ap, append_assoc}
-use Rattle.std.specs.Prelude.{Ok, Err, IsOk, None}
+use Rattle.std.specs.Prelude.{Ok, Err, None}
 use Rattle.fpl_lex.specs.declared.token.Token.{Token}
 use Rattle.fpl_lex.specs.declared.fault.LexError.{LexError}
 use Rattle.fpl_lex.specs.Cut.{joined}
 use Rattle.fpl_lex.specs.Machine.{IsNext}
 use Rattle.fpl_reader.specs.Stream.{tokens_or_none, tokens_left}
-
-first_of : (t : Token) (a b : Result (List Token) LexError) → IsOk a → a ≡ joined (Ok (t ∷ [])) b → IsOk b × (tokens_or_none a ≡ t ∷ tokens_or_none b)
-first_of t (Ok ts) (Ok us) ok e = (refl, ap tokens_or_none e)
-first_of t (Ok ts) (Err f) ok e = cc
-first_of t (Err g) b ok e = cc
 
 pub none_left : (text : List ℕ) (at : ℕ) → IsNext text at (Ok None) → tokens_left text at ≡ []
 none_left text at h = ap tokens_or_none h

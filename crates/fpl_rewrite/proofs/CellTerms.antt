@@ -1,5 +1,5 @@
 -- A loop over the cells of a packed row adds what one over its places adds.
-use Rattle.std.proofs.Common.{ℕ, suc, ◌≡◌, ◌+◌, ◌<◌, ◌≤◌, List, [], ◌∷◌, length, drop, get_or, Bool, true, false, if◌then◌else◌, refl, ap, ap₂, ◌∙◌, arith, drop-cons, drop_of_length-le}
+use Rattle.std.proofs.Common.{ℕ, suc, ◌≡◌, ◌+◌, ◌<◌, List, [], ◌∷◌, length, drop, get_or, Bool, true, false, if◌then◌else◌, refl, ap, ap₂, ◌∙◌, arith, drop-cons}
 use Rattle.std.specs.Prelude.{Result, Ok, Err}
 use Rattle.fpl_numbers.specs.declared.number.Num.{Num}
 use Rattle.fpl_numbers.specs.declared.number.Unfit.{Unfit}
@@ -67,6 +67,3 @@ module _ (add : ℕ → Num → List Num → Result (List Num) Unfit) where
       and_then (λ w. add_cells add (drop (suc k) ps) (drop (suc k) xs) w) (add_if add (get_or ps k 0) (get_or xs k (residue 0)) v)
   next_cell ps xs v k l same =
       ap₂ (λ ps xs. add_cells add ps xs v) (drop-cons ps k 0 l) (drop-cons xs k (residue 0) (omega (arith, l, same)))
-
-  pub no_cells : (ps : List ℕ) (xs v : List Num) (k : ℕ) → length ps ≤ k → add_cells add (drop k ps) (drop k xs) v ≡ Ok v
-  no_cells ps xs v k l = ap (λ ps. add_cells add ps (drop k xs) v) (drop_of_length-le ps l)

@@ -7,4 +7,3 @@ pub mod TriplesInOrder
 pub mod SymbolCounts
 pub mod CellTerms
 pub mod Guides
-pub mod Emptied

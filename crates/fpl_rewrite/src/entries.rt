@@ -24,6 +24,7 @@ pub enum Beside {
 }
 
 /// Adds `c` at the symbol of a pair. What is none of the symbols counts as 0.
+#[inline(always)]
 fn add_symbol<F: Field>(
     table: &Table<F>,
     guide: &Guide,
@@ -51,6 +52,7 @@ fn add_symbol<F: Field>(
 }
 
 /// Adds `c` at the bracket of basis elements `i` and `j`, with the sign of its pair.
+#[inline(always)]
 pub fn add_signed<F: Field>(
     table: &Table<F>,
     guide: &Guide,
@@ -78,6 +80,7 @@ pub fn add_signed<F: Field>(
 }
 
 /// Adds the number of one basis element of an entry.
+#[inline(always)]
 fn add_term<F: Field>(
     table: &Table<F>,
     guide: &Guide,
@@ -105,6 +108,7 @@ fn add_term<F: Field>(
 }
 
 /// The same where the number is not 0.
+#[inline(always)]
 fn add_cell<F: Field>(
     table: &Table<F>,
     guide: &Guide,
@@ -131,6 +135,7 @@ fn add_cell<F: Field>(
 }
 
 /// Adds the numbers of an entry at some places, which count from 0, each at its pair.
+#[inline(always)]
 fn add_cells<F: Field>(
     table: &Table<F>,
     guide: &Guide,
@@ -170,6 +175,7 @@ fn add_cells<F: Field>(
 }
 
 /// Adds the numbers of an entry, each at its pair, from one position that is not 0 to the next.
+#[inline(always)]
 fn add_by_position<F: Field>(
     table: &Table<F>,
     guide: &Guide,
@@ -199,6 +205,7 @@ fn add_by_position<F: Field>(
 }
 
 /// Adds the numbers of an entry, each at its pair, by ascending basis element.
+#[inline(always)]
 fn add_terms<F: Field>(
     table: &Table<F>,
     guide: &Guide,
@@ -226,6 +233,7 @@ fn add_terms<F: Field>(
 
 /// Adds the numbers of the entry of `(i, j)` for `i <= j`. There is none for an even element
 /// with itself.
+#[inline(always)]
 pub fn add_entry<F: Field>(
     table: &Table<F>,
     guide: &Guide,

@@ -40,6 +40,7 @@ impl<'a> Guide<'a> {
     }
 
     /// The number of a pair that the hints lead to.
+    #[inline(always)]
     fn guess(&self, i: u32, j: u32) -> Option<u32>
         requires { 1 ≤ i }
         ensures within { IfSome result (λ s. (1 ≤ s) × (s ≤ length self.now.symbols.now.symbols)) }
@@ -60,6 +61,7 @@ impl<'a> Guide<'a> {
     }
 
     /// The number of the symbol of a pair, where it is one of them.
+    #[inline(always)]
     pub fn number<F: Field>(&self, table: &Table<F>, i: u32, j: u32) -> Option<u32>
         requires numbered { (1 ≤ i) × (1 ≤ j) }
         requires symbols { self.now.symbols.now.symbols ≡ symbols_in table.now }

@@ -35,6 +35,7 @@ pub fn zero_row<F: Field>(
 }
 
 /// Whether `-(-1)^(|b_i||b_j|)` is -1.
+#[inline(always)]
 fn is_third_negated<F: Field>(table: &Table<F>, i: u32, j: u32) -> bool
     requires first { (1 ≤ i) × (i ≤ length table.now.basis) }
     requires second { (1 ≤ j) × (j ≤ length table.now.basis) }
@@ -48,6 +49,7 @@ fn is_third_negated<F: Field>(table: &Table<F>, i: u32, j: u32) -> bool
 }
 
 /// Adds `-(-1)^(|b_i||b_j|) [b_j, [b_i, b_k]]`, whose sign is minus where `negated` is true.
+#[inline(always)]
 fn add_third<F: Field>(
     table: &Table<F>,
     guide: &Guide,
@@ -72,6 +74,7 @@ fn add_third<F: Field>(
 
 /// Adds `[b_i, [b_j, b_k]] - [[b_i, b_j], b_k] - (-1)^(|b_i||b_j|) [b_j, [b_i, b_k]]` to an empty
 /// row in work, as `jacobi_row` has it.
+#[inline(always)]
 pub fn fill_jacobi<F: Field>(
     table: &Table<F>,
     guide: &Guide,
@@ -91,10 +94,15 @@ pub fn fill_jacobi<F: Field>(
     ensures whole { length work.new.row ≡ length guide.now.symbols.now.symbols }
 {
     let negated = is_third_negated(table, i, j);
-    add_entry(table, guide, j, k, Beside::After(i), false, work)?;
-    add_entry(table, guide, i, j, Beside::Before(k), true, work)?;
-    add_third(table, guide, i, j, k, negated, work)?;
-    Ok(())
+    match add_entry(table, guide, j, k, Beside::After(i), false, work) {
+        Ok(()) => {}
+        Err(fault) => return Err(fault),
+    }
+    match add_entry(table, guide, i, j, Beside::Before(k), true, work) {
+        Ok(()) => {}
+        Err(fault) => return Err(fault),
+    }
+    add_third(table, guide, i, j, k, negated, work)
 }
 
 /// Adds `[b_i, [b_i, b_i]]` to an empty row in work, as `cube_row` has it.

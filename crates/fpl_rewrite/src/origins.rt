@@ -112,6 +112,7 @@ impl Origins {
     /// The next origin: the relations in order, then the triples of basis elements in
     /// lexicographic order, then the cubes. Needs the table and the presentation that
     /// `start` had.
+    #[inline(always)]
     pub fn next<F: Field>(&mut self, table: &Table<F>, p: &Presentation) -> Option<Origin>
         requires sound { IsSound p.now }
         requires agrees { Agrees table.now p.now }
@@ -128,6 +129,7 @@ impl Origins {
         }
     }
 
+    #[inline(always)]
     fn next_from_relation<F: Field>(
         &mut self,
         table: &Table<F>,
@@ -157,6 +159,7 @@ impl Origins {
         }
     }
 
+    #[inline(always)]
     fn next_from_triple<F: Field>(
         &mut self,
         table: &Table<F>,
@@ -179,6 +182,7 @@ impl Origins {
         }
     }
 
+    #[inline(always)]
     fn next_from_cube<F: Field>(
         &mut self,
         table: &Table<F>,

@@ -45,6 +45,7 @@ pub fn origin_row<F: Field>(
 
 /// Fills an empty row in work with the row of an origin, as `origin_row` has it. After a `Fault`
 /// it has its length and no promised numbers.
+#[inline(always)]
 pub fn fill_row<F: Field>(
     alloc: Global,
     table: &Table<F>,

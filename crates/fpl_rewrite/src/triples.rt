@@ -17,6 +17,7 @@ pub struct Triple {
 }
 
 /// The weight of the basis element at place `i`.
+#[inline(always)]
 pub fn weight_at<F: Field>(table: &Table<F>, i: u32) -> u32
     requires shape { HasShape table.now }
     requires within { i < length table.now.basis }
@@ -27,6 +28,7 @@ pub fn weight_at<F: Field>(table: &Table<F>, i: u32) -> u32
 
 /// The least place from `third` on that makes a triple of the weight after the table's.
 /// Basis elements of one weight stand together.
+#[inline(always)]
 fn next_third<F: Field>(table: &Table<F>, first: u32, second: u32, third: u32) -> Option<u32>
     requires ascending { (first ≤ second) × (second ≤ third) }
     requires shape { HasShape table.now }
@@ -51,6 +53,7 @@ fn next_third<F: Field>(table: &Table<F>, first: u32, second: u32, third: u32) -
 
 /// The next triple of the weight after the table's with this first element, from
 /// `second` and `third` on. The second is at most as heavy as the third.
+#[inline(always)]
 fn next_second<F: Field>(table: &Table<F>, first: u32, second: u32, third: u32) -> Option<Triple>
     requires ascending { (first ≤ second) × (second ≤ third) }
     requires shape { HasShape table.now }
@@ -78,6 +81,7 @@ fn next_second<F: Field>(table: &Table<F>, first: u32, second: u32, third: u32) 
 
 /// The next triple of the weight after the table's, from `t` on.
 /// The first is at most as heavy as the others.
+#[inline(always)]
 pub fn next_triple<F: Field>(table: &Table<F>, t: Triple) -> Option<Triple>
     ensures value { MatchOption result
         (firsts_from table.now t.first t.second t.third ≡ [])

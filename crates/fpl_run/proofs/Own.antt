@@ -61,7 +61,8 @@ marked_front n (suc k) rest l = (omega arith, refl)
 stream_marked : (p : Presentation) (bytes : List ℕ) → IsStreamOf p bytes → IsMarked bytes
 stream_marked p bytes stream = subst IsMarked (sym stream.front) (marked_front _ stream.end _ stream.head)
 
-module _ (c : Command) (p : Presentation) (bytes : List ℕ) (own : IsCheckpointOf p bytes) (reads : IsUnread c.view → ⊥) (range : (c.limit ≤ 1000) × (c.entries ≤ 2000000)) where
+module _ (c : Command) (p : Presentation) (bytes : List ℕ) (own : IsCheckpointOf p bytes) (reads : IsUnread c.view → ⊥)
+    (range : (c.limit ≤ 1000) × (c.entries ≤ 2000000)) where
   held : (h : Head) → HasHead bytes h → h.presentation ≡ p
   held h has = heads_are_of p bytes h own.1 has
 

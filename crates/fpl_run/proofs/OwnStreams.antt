@@ -60,4 +60,5 @@ checkpoints_are_own words c p text r end is made short said a long =
     let kept : IsStreamOf p (take end (stream_text p (sections c p end))) =
     subst (λ x. IsStreamOf p (take end x)) (sym (written_is p (sections c p end)))
     (runs_write_streams p c.entries c.limit end sound canonical range.1 range.0 long) in
-    task_writes c p end kept r (task_reply c text Write made (of_text p) (from_text (written_reads c made) short (plain c p text made said) p said) r (of_words words text c is r a))
+    task_writes c p end kept r (task_reply c text Write made (of_text p) (from_text (written_reads c made) short (plain c p text made said) p said) r
+    (of_words words text c is r a))

@@ -91,8 +91,10 @@ module _ (words : List (List ℕ)) (bytes : List ℕ) (h : IsWithinLimits words 
   plain said (inr m) = no_mark bytes h.presentation said m
 
   command_done : IsInput h.command h.presentation bytes → (r : Reply) → AnswersCommand h.command bytes r → status_of r ≡ Done
-  command_done (as_text reads short said) r a = task_done r (task_reply h.command bytes h.way h.built s (from_text reads short (plain said) h.presentation said) r a)
-  command_done (as_checkpoint reads own) r a = task_done r (built_task h.command h.way h.built s r (alone_of h.command h.presentation bytes own reads range not_check r a))
+  command_done (as_text reads short said) r a = task_done r (task_reply h.command bytes h.way h.built s
+      (from_text reads short (plain said) h.presentation said) r a)
+  command_done (as_checkpoint reads own) r a = task_done r (built_task h.command h.way h.built s r
+      (alone_of h.command h.presentation bytes own reads range not_check r a))
   command_done (as_built_in unread same) r a =
       task_done r (task_reply h.command bytes h.way h.built s (subst (λ p. IsStart h.command bytes (of_text p)) (sym same) (built_in unread)) r a)
 

@@ -1,9 +1,9 @@
 -- The names of the generators: e, and a number from 1 to 64.
-use Rattle.std.proofs.Common.{◌≡◌, ℕ, zero, suc, ◌+◌, ◌<◌, ◌≤◌, ◌⊎◌, inl, inr, List, ◌++◌, length, Bool, true, false, ap, sym, ◌∙◌, subst, arith, refl}
+use Rattle.std.proofs.Common.{◌≡◌, ℕ, zero, suc, ◌+◌, ◌<◌, ◌≤◌, ◌⊎◌, inl, inr, List, ◌++◌, length, Bool, true, ap, sym, ◌∙◌, subst, arith, refl}
 use Rattle.std.specs.Prelude.{get_or, map, codes, nat_le, ◌&&◌, Contains}
 use Rattle.std.proofs.Math.Nat.{eq-or-lt_of_le}
 use Rattle.std.specs.Int.Digits.{digits_of}
-use Rattle.std.proofs.lemmas.Bool.{leb-true}
+use Rattle.std.proofs.lemmas.Bool.{leb-true, and_parts}
 use Rattle.std.proofs.lemmas.Fmt.{decimal-digits_of}
 use Rattle.fpl_alphabet.specs.Bytes.{is_word, reserved, IsName}
 use Rattle.fpl_sample.specs.TypeA.{generator}
@@ -25,16 +25,12 @@ are_fine (suc n) = are_fine n && is_fine (name (suc n))
 all_fine : are_fine 64 ≡ true
 all_fine = refl
 
-both : (a b : Bool) → (a && b) ≡ true → (a ≡ true) × (b ≡ true)
-both true b e = (refl, e)
-both false b e = cc
-
 fine_at : (n i : ℕ) → 1 ≤ i → i ≤ n → are_fine n ≡ true → is_fine (name i) ≡ true
 fine_at zero i l m h = absurd (omega (arith, l, m))
 fine_at (suc n) i l m h = go (λ low. fine_at n i l low parts.0) (eq-or-lt_of_le m)
   where
     parts : (are_fine n ≡ true) × (is_fine (name (suc n)) ≡ true)
-    parts = both (are_fine n) (is_fine (name (suc n))) h
+    parts = and_parts (are_fine n) (is_fine (name (suc n))) h
 
     go : (i ≤ n → is_fine (name i) ≡ true) → (i ≡ suc n) ⊎ (i < suc n) → is_fine (name i) ≡ true
     go again (inl e) = ap (λ k. is_fine (name k)) e ∙ parts.1
@@ -51,8 +47,8 @@ not_reserved word first second (suc (suc (suc (suc (suc (suc k))))), inside, sam
 
 fine_name : (word : List ℕ) → get_or word 0 0 ≡ 101 → is_fine word ≡ true → IsName word
 fine_name word first fine =
-    let a = both (is_word word) (nat_le (length word) 32 && nat_le (get_or word 1 0) 57) fine in
-    let b = both (nat_le (length word) 32) (nat_le (get_or word 1 0) 57) a.1 in
+    let a = and_parts (is_word word) (nat_le (length word) 32 && nat_le (get_or word 1 0) 57) fine in
+    let b = and_parts (nat_le (length word) 32) (nat_le (get_or word 1 0) 57) a.1 in
     record { spelled = a.0; short = leb-true _ _ b.0; free = λ h. not_reserved word first (leb-true _ _ b.1) h }
 
 pub named : (i : ℕ) → 1 ≤ i → i ≤ 64 → IsName (generator i).name

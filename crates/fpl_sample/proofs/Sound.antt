@@ -53,8 +53,10 @@ module _ (n : ℕ) (most : n ≤ 64) where
   long = length_singles (λ i. generator (i + 1)) n
 
   within : (e : Expr) (t : Tree Num) → plain e ≡ t → IsWithin (Prime 65521) n t → deep t ≤ 64 → IsExpression (type_a n) e
-  within e t is inside low =
-      (subst (λ m. IsWithin (Prime 65521) m (plain e)) (sym long) (subst (λ x. IsWithin (Prime 65521) n x) (sym is) inside), subst (λ x. deep x ≤ 64) (sym is) low)
+  within e t is inside low = (
+    subst (λ m. IsWithin (Prime 65521) m (plain e)) (sym long) (subst (λ x. IsWithin (Prime 65521) n x) (sym is) inside),
+    subst (λ x. deep x ≤ 64) (sym is) low,
+  )
 
   -- a bracket of generators has one weight and one parity, as has one of it
   homogeneous : (e : Expr) (t : Tree Num) → plain e ≡ t → (weight_of_both P (in_field (Prime 65521) t) none ≢ mixed) →
@@ -124,7 +126,8 @@ module _ (n : ℕ) (most : n ≤ 64) where
 
   name_of : (i : ℕ) → i < n → name_at (type_a n) i ≡ codes "e" ++ decimal (i + 1)
   name_of i l =
-      get_or-map (λ (g : Generator). g.name) (type_a n).generators i (generator 0) [] (omega (arith, l, long)) ∙ ap (λ (g : Generator). g.name) (get_singles (λ k. generator (k + 1)) n i (generator 0) l)
+      get_or-map (λ (g : Generator). g.name) (type_a n).generators i (generator 0) [] (omega (arith, l, long)) ∙
+      ap (λ (g : Generator). g.name) (get_singles (λ k. generator (k + 1)) n i (generator 0) l)
 
   apart : (i j : ℕ) → i < j → j < length (type_a n).generators → name_at (type_a n) i ≢ name_at (type_a n) j
   apart i j l m e =

@@ -5,7 +5,7 @@ ghost use Rattle.fpl_numbers.proofs.Listed.{listed_is};
 ghost use Rattle.std.proofs.Common.{ap};
 
 use crate::Field;
-use fpl_lanes::{less_once, remainder, share_of, sum_below};
+use fpl_lanes::{less_once, remainder, share_of, sum_below, wide_remainder, wide_share_of};
 use fpl_numbers::{Kind, Num, Unfit, is_listed};
 
 /// The residues modulo an accepted prime. An element is a number from 0 to the prime less 1.
@@ -14,10 +14,12 @@ pub struct Residue {
     p: u32,
     // kept, so that a product is reduced without a division
     share: u32,
+    wide_share: u64,
     ghost listed: { is_listed p ≡ true },
     ghost least: { 3 ≤ p },
     ghost most: { p ≤ 65521 },
     ghost quotient: { share ≡ 2 ^ 32 / p },
+    ghost wide_quotient: { wide_share ≡ 2 ^ 64 / p },
 }
 
 impl Residue {
@@ -30,6 +32,7 @@ impl Residue {
             Some(Residue {
                 p,
                 share: share_of(p),
+                wide_share: wide_share_of(p),
             })
         } else {
             None
@@ -118,7 +121,7 @@ impl Field for Residue {
     }
 
     fn settle(&self, sum: u64) -> u32 {
-        (sum % u64::from(self.p)) as u32
+        wide_remainder(self.p, self.wide_share, sum)
     }
 
     fn axpy(&self, row: &mut [u32], c: u32, other: &[u32]) -> Result<(), Unfit> {

@@ -1,8 +1,8 @@
 -- Rows that are kept where they aren't 0, one list after another.
-use Rattle.std.specs.Prelude.{◌≡◌, ℕ, ◌+◌, List, [], ◌∷◌, ◌++◌, map, None, Result, Ok, Bool, true, false, cond}
+use Rattle.std.specs.Prelude.{◌≡◌, ℕ, ◌+◌, List, [], ◌∷◌, ◌++◌, map, None, Result, Ok, Bool, false, cond}
 use Rattle.std.proofs.Common.{append_assoc, append-nil, add-one}
 use Rattle.std.proofs.lemmas.List.{map-append}
-use mathlib.Core.Path.{sym, refl, ap, ◌∙◌}
+use mathlib.Core.Path.{sym, ap, ◌∙◌}
 use Rattle.math_linear.specs.Lists.{joined}
 use Rattle.fpl_numbers.specs.declared.number.Num.{Num}
 use Rattle.fpl_numbers.specs.declared.number.Unfit.{Unfit}
@@ -30,10 +30,6 @@ begins f start = sym (append-nil start)
 -- where nothing comes
 pub none_more : (start part : Formed) → part ≡ [] → start ≡ start ++ part
 none_more start part e = sym (append-nil start) ∙ ap (λ l. start ++ l) (sym e)
-
-pub acted_rows : (T : PlainTable) (j : ℕ) (start next : Formed) (b : Bool) → b ≡ acts T j → b ≡ true → next ≡ start ++ centre_rows_of T j →
-    next ≡ start ++ centre_rows_at T j
-acted_rows T j start next b is on h = h ∙ ap (λ a. start ++ cond a (centre_rows_of T j) []) (sym on ∙ is)
 
 pub passed_rows : (T : PlainTable) (j : ℕ) (b : Bool) → b ≡ acts T j → b ≡ false → centre_rows_at T j ≡ []
 passed_rows T j b is off = ap (λ a. cond a (centre_rows_of T j) []) (sym is ∙ off)

@@ -1,6 +1,7 @@
 -- What calls give, by the calls below them, and what it means.
-use Rattle.std.specs.Prelude.{◌≡◌, ℕ, List, [], length, map, All, Result, Ok, Err, IfOk}
-use mathlib.Core.Path.{sym, ap, ◌∙◌, subst}
+use Rattle.std.specs.Prelude.{◌≡◌, ℕ, zero, suc, ◌<◌, List, [], ◌∷◌, length, map, drop, get_or, All, Result, Ok, Err, IfOk}
+use mathlib.Core.Path.{sym, refl, ap, ◌∙◌, subst}
+use native.Mathlib.Omega.{arith}
 use Rattle.math_linear.specs.Span.{IsRowOf}
 use Rattle.math_structure.specs.Structure.{IsCentral, InIdeal}
 use Rattle.fpl_numbers.specs.declared.number.Num.{Num}
@@ -16,7 +17,7 @@ use Rattle.fpl_model.specs.Sound.{IsWithin}
 use Rattle.fpl_table.specs.Plain.{PlainTable, table_in}
 use Rattle.plain_elimination.specs.Plain.{Elimination, rows_of}
 use Rattle.plain_elimination.specs.Spans.{ClosesTo}
-use Rattle.plain_spans.specs.Plain.{begin, put_rows, closed_of, span_of, kernel_of}
+use Rattle.plain_spans.specs.Plain.{begin, put_row, put_rows, closed_of, span_of, kernel_of}
 use Rattle.plain_spans.specs.Means.{AreSolutions}
 use Rattle.plain_spans.proofs.Putting.{fault_part, fault_first}
 use Rattle.plain_tables.specs.Holds.{Holds}
@@ -49,6 +50,23 @@ pub span_fault : (kind : Kind) (n : ℕ) (rs : Formed) (b : Elimination) (fault 
 span_fault kind n rs b fault is h =
     fault_part rows_of fault (and_then closed_of (put_rows rs (begin kind n)))
     (fault_first closed_of fault (put_rows rs (begin kind n)) (subst (λ e. IsFault fault (put_rows rs e)) is h))
+
+-- the row of one of the elements doesn't go in
+pub element_stops : {X Y : Type 0} (value : Y → Result (List Num) Unfit) (of : X → Y) (kind : Kind) (n : ℕ) (xs ys : List X) (k : ℕ) (x : X)
+    (row : List Num) (e : Elimination) (fault : Fault) → xs ≡ ys → put_rows (map value (map of xs)) (begin kind n) ≡ put_rows (map value (map of (drop k xs))) e →
+    k < length xs → x ≡ get_or xs k x → value (of x) ≡ Ok row → IsFault fault (put_row (Ok row) e) → IsFault fault (span_of kind n (map value (map of ys)))
+element_stops {X} {Y} value of kind n xs ys k x row e fault same left l at is h =
+    subst (λ (zs : List X). IsFault fault (span_of kind n (map value (map of zs)))) same
+    (span_fault kind n (map value (map of xs)) (begin kind n) fault refl
+    (subst (IsFault fault)
+    (sym (left ∙ ap (λ (zs : List X). put_rows (map value (map of zs)) e) (from xs k l at)
+    ∙ ap (λ (r : Result (List Num) Unfit). put_rows (r ∷ map value (map of (drop (suc k) xs))) e) is))
+    (fault_first (put_rows (map value (map of (drop (suc k) xs)))) fault (put_row (Ok row) e) h)))
+  where
+    from : (xs : List X) (k : ℕ) → k < length xs → x ≡ get_or xs k x → drop k xs ≡ x ∷ drop (suc k) xs
+    from [] k l q = absurd (omega arith)
+    from (y ∷ ys) zero l q = ap (λ z. z ∷ ys) (sym q)
+    from (y ∷ ys) (suc k) l q = from ys k (omega arith) q
 
 pub span_rows : (kind : Kind) (n : ℕ) (e : Elimination) (r : Result Rows Fault) → e.kind ≡ kind → e.size ≡ n → IfOk r (λ rows. ClosesTo e rows) →
     IfOk r (λ rows. AreRows kind n rows)

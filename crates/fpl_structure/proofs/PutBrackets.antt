@@ -1,25 +1,21 @@
 -- Brackets that are put in one after another.
-use Rattle.std.specs.Prelude.{◌≡◌, ℕ, ◌+◌, ◌<◌, List, [], ◌∷◌, ◌++◌, drop, slice_get, Option, Some, None, Result, Ok, Err, Bool, true, false, cond, is_some}
+use Rattle.std.specs.Prelude.{◌≡◌, ℕ, ◌+◌, List, [], ◌∷◌, ◌++◌, drop, slice_get, Option, Some, None, Result, Ok, Bool, true, false, cond, is_some}
 use Rattle.std.proofs.Common.{add-one}
 use mathlib.Core.Path.{sym, refl, ap, ◌∙◌, subst}
 use Rattle.fpl_numbers.specs.declared.number.Num.{Num}
 use Rattle.fpl_numbers.specs.declared.number.Unfit.{Unfit}
 use Rattle.fpl_numbers.specs.declared.number.Fault.{Fault}
-use Rattle.fpl_numbers.specs.declared.number.Fault.TheVariants.{NoMemory}
-use Rattle.fpl_numbers.specs.declared.number.Fault.TheVariants.{Unfit as Unfits}
 use Rattle.fpl_numbers.specs.Results.{and_then, Gives, IsFault}
 use Rattle.fpl_rows.specs.Positions.{lead_of}
 use Rattle.fpl_log.proofs.TermsTaken.{drop_next}
 use Rattle.fpl_table.specs.Plain.{PlainTable}
 use Rattle.fpl_table.specs.Value.{bracket_of}
 use Rattle.plain_elimination.specs.Plain.{Elimination}
-use Rattle.plain_spans.specs.Plain.{put_row, put_rows}
+use Rattle.plain_spans.specs.Plain.{put_rows}
 use Rattle.plain_spans.proofs.Putting.{fault_first, put_more}
 use Rattle.plain_structure.specs.Plain.{size, unit_row, acts, if_any, if_formed, brackets_with, bracket_rows_at}
 
 -- a row that may be 0
-pub any_none : (row : List Num) → lead_of row ≡ None → if_any row ≡ []
-any_none row e = ap (λ o. cond (is_some o) (Ok row ∷ []) []) e
 
 pub any_some : (row : List Num) → (lead_of row ≡ None → ⊥) → if_any row ≡ Ok row ∷ []
 any_some row n = go (lead_of row) refl
@@ -27,23 +23,6 @@ any_some row n = go (lead_of row) refl
     go : (o : Option ℕ) → lead_of row ≡ o → ◌≡◌ {A = List (Result (List Num) Unfit)} (if_any row) (Ok row ∷ [])
     go None e = absurd (n e)
     go (Some s) e = ap (λ o. cond (is_some o) (Ok row ∷ []) []) e
-
-one_gives : {U : Type 0} (row : List Num) (e new : Elimination) (r : Result U Fault) → Gives r new (put_row (Ok row) e) → Gives r new (put_rows (Ok row ∷ []) e)
-one_gives row e new (Ok x) h = ap (and_then (put_rows [])) h
-one_gives row e new (Err fault) h = fault_first (put_rows []) fault (put_row (Ok row) e) h
-
-pub any_gives : {U : Type 0} (row : List Num) (e new : Elimination) (r : Result U Fault) → (lead_of row ≡ None → ⊥) → Gives r new (put_row (Ok row) e) →
-    Gives r new (put_rows (if_any row) e)
-any_gives row e new r n h = subst (λ rs. Gives r new (put_rows rs e)) (sym (any_some row n)) (one_gives row e new r h)
-
--- a bracket that may not fit
-pub formed_gives : {U : Type 0} (x : Result (List Num) Unfit) (row : List Num) (e new : Elimination) (r : Result U Fault) → x ≡ Ok row →
-    Gives r new (put_rows (if_any row) e) → Gives r new (put_rows (if_formed x) e)
-formed_gives x row e new r is h = subst (λ x. Gives r new (put_rows (if_formed x) e)) (sym is) h
-
-pub formed_faults : (x : Result (List Num) Unfit) (e : Elimination) (fault : Fault) → IsFault fault x → IsFault fault (put_rows (if_formed x) e)
-formed_faults x e (Unfits u) h = ap (λ x. put_rows (if_formed x) e) h
-formed_faults x e NoMemory h = tt
 
 module _ (T : PlainTable) (i : ℕ) (rows : List (List Num)) where
   with_next : (k : ℕ) (row : List Num) → Some row ≡ slice_get rows k →
@@ -53,7 +32,8 @@ module _ (T : PlainTable) (i : ℕ) (rows : List (List Num)) where
       ∙ ap (λ j. if_formed (bracket_of T (unit_row (size T) i) row) ++ brackets_with T i (drop j rows)) (sym (add-one k))
 
   pub bracket_next : (k : ℕ) (row : List Num) (unit : List Num) (e new : Elimination) → Some row ≡ slice_get rows k → unit ≡ unit_row (size T) i →
-      put_rows (if_formed (bracket_of T unit row)) e ≡ Ok new → put_rows (brackets_with T i (drop k rows)) e ≡ put_rows (brackets_with T i (drop (k + 1) rows)) new
+      put_rows (if_formed (bracket_of T unit row)) e ≡ Ok new → put_rows (brackets_with T i (drop k rows)) e ≡ put_rows
+      (brackets_with T i (drop (k + 1) rows)) new
   bracket_next k row unit e new is unit_is h =
       let h' = subst (λ u. put_rows (if_formed (bracket_of T u row)) e ≡ Ok new) unit_is h in
       ap (λ rs. put_rows rs e) (with_next k row is)

@@ -1,24 +1,23 @@
 -- Steps of the loops: where an index counts from 1, and what they begin with.
-use Rattle.std.specs.Prelude.{◌≡◌, ℕ, suc, ◌+◌, ◌-◌, ◌<◌, List, [], ◌∷◌, ◌++◌, length, map, All, Result, Ok, Err, IfOk}
+use Rattle.std.specs.Prelude.{◌≡◌, ℕ, suc, ◌+◌, ◌-◌, ◌<◌, List, [], ◌∷◌, ◌++◌, map, All, Ok}
 use Rattle.std.proofs.Common.{add-one}
 use mathlib.Core.Path.{sym, refl, ap, ◌∙◌, subst}
 use native.Mathlib.Omega.{arith}
 use Rattle.math_linear.specs.Lists.{joined}
 use Rattle.fpl_numbers.specs.declared.number.Num.{Num}
 use Rattle.fpl_numbers.specs.declared.number.Kind.{Kind}
-use Rattle.fpl_numbers.specs.declared.number.Unfit.{Unfit}
 use Rattle.fpl_numbers.specs.declared.number.Fault.{Fault}
-use Rattle.fpl_numbers.specs.Results.{and_then, map_ok, IsFault}
+use Rattle.fpl_numbers.specs.Results.{and_then, IsFault}
 use Rattle.fpl_rows.specs.Meaning.{IsRowOf, AreRows}
 use Rattle.fpl_rows.proofs.Fits.{all_more}
 use Rattle.math_algebra.specs.Tree.{Tree}
 use Rattle.fpl_table.specs.Plain.{PlainTable}
 use Rattle.fpl_table.specs.Value.{value_of}
 use Rattle.plain_elimination.specs.Plain.{Elimination}
-use Rattle.plain_spans.specs.Plain.{begin, put_rows, span_of}
+use Rattle.plain_spans.specs.Plain.{put_rows, span_of}
 use Rattle.plain_spans.proofs.Putting.{put_more, put_then, put_stops, put_joined, joined_stops, fault_first}
 use Rattle.plain_structure.specs.Plain.{Rows, size, unit_row, units_to, if_any, centre_row, centre_rows_at, bracket_rows_at, bracket_rows, rounds_from, ideal_of}
-use Rattle.fpl_structure.proofs.KeptRows.{Formed, formed, grown}
+use Rattle.fpl_structure.proofs.KeptRows.{Formed, grown}
 
 pub back : (i : ℕ) → i + 1 - 1 ≡ i
 back i = omega arith
@@ -60,7 +59,8 @@ pub units_next : (n i : ℕ) (rows next : Rows) (row : List Num) → rows ≡ un
 units_next n i rows next row h is e =
     e ∙ ap (λ r. r ++ row ∷ []) h ∙ ap (λ v. units_to n i ++ v ∷ []) (is ∙ ap (unit_row n) (back i)) ∙ ap (units_to n) (sym (add-one i))
 
-pub rows_more : (kind : Kind) (n : ℕ) (rows next : Rows) (row : List Num) → AreRows kind n rows → IsRowOf kind n row → next ≡ rows ++ row ∷ [] → AreRows kind n next
+pub rows_more : (kind : Kind) (n : ℕ) (rows next : Rows) (row : List Num) → AreRows kind n rows → IsRowOf kind n row → next ≡ rows ++ row ∷ [] →
+    AreRows kind n next
 rows_more kind n rows next row h k e = subst (AreRows kind n) (sym e) (all_more (IsRowOf kind n) rows row h k)
 
 pub terms_more : (kind : Kind) (n : ℕ) (terms next : List Rows) (rows : Rows) → All (AreRows kind n) terms → AreRows kind n rows → next ≡ terms ++ rows ∷ [] →
@@ -75,7 +75,8 @@ module _ (T : PlainTable) (rows : Rows) (b : Elimination) where
 
   pub round_first : (fault : Fault) → IsFault fault (put_rows (map Ok rows) b) → IsFault fault (put_rows (map Ok rows ++ bracket_rows T rows) b)
   round_first fault h =
-      subst (IsFault fault) (sym (put_more (map Ok rows) (bracket_rows T rows) b)) (fault_first (put_rows (bracket_rows T rows)) fault (put_rows (map Ok rows) b) h)
+      subst (IsFault fault) (sym (put_more (map Ok rows) (bracket_rows T rows) b))
+      (fault_first (put_rows (bracket_rows T rows)) fault (put_rows (map Ok rows) b) h)
 
   pub round_second : (e : Elimination) (fault : Fault) → put_rows (map Ok rows) b ≡ Ok e → IsFault fault (put_rows (bracket_rows T rows) e) →
       IsFault fault (put_rows (map Ok rows ++ bracket_rows T rows) b)
@@ -85,11 +86,3 @@ pub ideal_begins : (T : PlainTable) (es : List (Tree Num)) (rows : Rows) (n : �
     ideal_of T es ≡ rounds_from T (n + 1 - 0) rows
 ideal_begins T es rows n m h =
     ap (and_then (rounds_from T (suc (size T)))) h ∙ ap (λ k. rounds_from T k rows) (let e : suc (size T) ≡ n + 1 - 0 = omega arith in e)
-
-pub ideal_first : (T : PlainTable) (es : List (Tree Num)) (fault : Fault) → IsFault fault (span_of T.kind (size T) (map (value_of T) es)) → IsFault fault (ideal_of T es)
-ideal_first T es fault h = fault_first (rounds_from T (suc (size T))) fault (span_of T.kind (size T) (map (value_of T) es)) h
-
--- a series begins with no term before
-pub no_terms : (x : Result (List Rows) Unfit) → x ≡ map_ok (λ more. [] ++ more) x
-no_terms (Ok more) = refl
-no_terms (Err u) = refl

@@ -3,7 +3,6 @@ use Rattle.std.specs.Prelude.{◌≡◌, ℕ, suc, ◌+◌, ◌-◌, ◌<◌, Li
 use Rattle.std.proofs.Common.{append_assoc}
 use mathlib.Core.Path.{sym, refl, ap, ◌∙◌, subst}
 use native.Mathlib.Omega.{arith}
-use Rattle.fpl_numbers.specs.declared.number.Num.{Num}
 use Rattle.fpl_numbers.specs.declared.number.Unfit.{Unfit}
 use Rattle.fpl_numbers.specs.declared.number.Fault.{Fault}
 use Rattle.fpl_numbers.specs.Results.{and_then, map_ok, IsFault}
@@ -18,7 +17,8 @@ abbrev pub ended : List Rows → Result (List Rows) Unfit
 ended terms = Ok terms
 
 -- a term more in front
-one_more : (terms : List Rows) (rows : Rows) (x : Result (List Rows) Unfit) → map_ok (after terms) (map_ok (before rows) x) ≡ map_ok (after (terms ++ rows ∷ [])) x
+one_more : (terms : List Rows) (rows : Rows) (x : Result (List Rows) Unfit) →
+    map_ok (after terms) (map_ok (before rows) x) ≡ map_ok (after (terms ++ rows ∷ [])) x
 one_more terms rows (Ok more) = ap ended (sym (append_assoc terms (rows ∷ []) more))
 one_more terms rows (Err u) = refl
 
@@ -33,7 +33,8 @@ module _ (T : PlainTable) where
   series_next w k terms rows next l n is =
       let e : w - k ≡ suc (w - (k + 1)) = omega arith in
       ap (λ m. map_ok (after terms) (series_from T m rows)) e ∙ ap (map_ok (after terms)) (from_next (w - (k + 1)) rows n)
-      ∙ ap (λ x. map_ok (after terms) (map_ok (before rows) (and_then (series_from T (w - (k + 1))) x))) is ∙ one_more terms rows (series_from T (w - (k + 1)) next)
+      ∙ ap (λ x. map_ok (after terms) (map_ok (before rows) (and_then (series_from T (w - (k + 1))) x))) is ∙
+      one_more terms rows (series_from T (w - (k + 1)) next)
 
   pub series_stops : (w k : ℕ) (terms : List Rows) (rows : Rows) (fault : Fault) → k < w → (length rows ≡ 0 → ⊥) → IsFault fault (next_term T rows) →
       IsFault fault (map_ok (after terms) (series_from T (w - k) rows))

@@ -31,7 +31,8 @@ pub fn centre<F: Field, L: Ledger>(
 ) -> Result<Rows<F>, Fault>
     ensures value { GivesBy (λ (rows : List (List Num)). rows) result (centre_of table.now) }
     ensures rows { IfOk result (λ rows. AreRows table.now.kind (length table.now.basis) rows) }
-    ensures means { (p : Presentation) → Holds p table.now → IfOk result (λ rows. AreRowsOf p.field table.now rows (IsCentral (field_of p.field) (table_in p.field table.now))) }
+    ensures means { (p : Presentation) → Holds p table.now →
+        IfOk result (λ rows. AreRowsOf p.field table.now rows (IsCentral (field_of p.field) (table_in p.field table.now))) }
     ensures rises { steps.old ≤ steps.new }
 {
     let rows = centre_rows(alloc, table)?;

@@ -39,7 +39,8 @@ fn spanned<F: Field, L: Ledger>(
     requires weights { HaveWeights p.now.generators }
     requires terms { All (λ e. IsTerm p.now.field (length p.now.generators) (plain e)) elements.now }
     requires few { All (λ e. count_tree (plain e) < 2 ^ 40) elements.now }
-    ensures value { GivesBy (λ (rows : List (List Num)). rows) result (span_of table.now.kind (length table.now.basis) (map (value_of table.now) (map plain elements.now))) }
+    ensures value { GivesBy (λ (rows : List (List Num)). rows) result (span_of table.now.kind (length table.now.basis)
+        (map (value_of table.now) (map plain elements.now))) }
     ensures rows { IfOk result (λ rows. AreRows table.now.kind (length table.now.basis) rows) }
     ensures rises { steps.old ≤ steps.new }
 {
@@ -97,7 +98,9 @@ pub fn ideal<F: Field, L: Ledger>(
     requires few { All (λ e. count_tree (plain e) < 2 ^ 40) elements.now }
     ensures value { GivesBy (λ (rows : List (List Num)). rows) result (ideal_of table.now (map plain elements.now)) }
     ensures rows { IfOk result (λ rows. AreRows table.now.kind (length table.now.basis) rows) }
-    ensures means { Holds p.now table.now → All (IsWithin p.now.field (length p.now.generators)) (map plain elements.now) → IfOk result (λ rows. AreRowsOf p.now.field table.now rows (InIdeal (field_of p.now.field) (table_in p.now.field table.now) (IsAmong (field_of p.now.field) (length (map plain elements.now)) (start_in p.now.field table.now (map plain elements.now))))) }
+    ensures means { Holds p.now table.now → All (IsWithin p.now.field (length p.now.generators)) (map plain elements.now) →
+        IfOk result (λ rows. AreRowsOf p.now.field table.now rows (InIdeal (field_of p.now.field) (table_in p.now.field table.now)
+        (IsAmong (field_of p.now.field) (length (map plain elements.now)) (start_in p.now.field table.now (map plain elements.now))))) }
     ensures rises { steps.old ≤ steps.new }
 {
     let mut rows = match spanned(alloc, table, p, elements, steps) {

@@ -11,7 +11,8 @@ use Rattle.fpl_syntax.specs.declared.parser.Claim.{Claim}
 use Rattle.fpl_syntax.specs.Grammar.{Scope, Statement, spell_statement, spelling, claims_of, IsSentence, Begins, GoesWrong, IsFaultAt, Says}
 use Rattle.fpl_syntax.specs.Machine.{Answer, ended, or_fault, step_state, parse_from, parse_of}
 use Rattle.fpl_syntax.proofs.Running.{run, sentence_runs}
-use Rattle.fpl_syntax.proofs.Sentences.{Tail, between, in_field, field_named, declaring, declared, weighing, weighed, claiming, spell_done, spell_tail, spell_done-spelling, view_tail, Takes_up, takes, complete_tail}
+use Rattle.fpl_syntax.proofs.Tails.{Tail, between, in_field, field_named, declaring, declared, weighing, weighed, claiming, spell_done, spell_tail, spell_done-spelling, complete_tail}
+use Rattle.fpl_syntax.proofs.Sentences.{view_tail, Takes_up, takes}
 
 refused : {A P : Type 0} {x : A} → ◌≡◌ {A = Option A} None (Some x) → P
 refused e = cc

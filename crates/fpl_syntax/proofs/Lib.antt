@@ -1,5 +1,7 @@
 pub mod Coefficients
 pub mod Running
+pub mod StageViews
 pub mod Stages
+pub mod Tails
 pub mod Sentences
 pub mod Faults

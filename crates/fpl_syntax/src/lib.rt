@@ -2,6 +2,7 @@
 #![tactic(auto)]
 
 mod coefficient;
+mod enclosing;
 mod expression;
 mod naming;
 mod parser;

@@ -40,9 +40,6 @@ length-partners : (T : PlainTable) → HasShape T → (rows : List (List Num)) (
 length-partners T shape rows i lt = partners_length T rows shape i lt
 
 module _ (T : PlainTable) (rows : List (List Num)) (shape : HasShape T) (below : T.weight < 1000) (few : length (symbols_in T) ≤ 2000000) where
-  fresh : List Basis
-  fresh = map (new_basis T) (free_of T rows)
-
   pub fresh_length : length (map (new_basis T) (free_of T rows)) ≡ length (free_of T rows)
   fresh_length = length-map (free_of T rows) (new_basis T)
 

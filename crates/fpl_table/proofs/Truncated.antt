@@ -123,10 +123,6 @@ grows ts (b ∷ bs) = let r = grows (ts ++ symbol_tree_in ts b.symbol ∷ []) bs
   r.1 ∙ append_assoc ts (symbol_tree_in ts b.symbol ∷ []) r.0,
 )
 
-grown_none : grown [] [] ≡ []
-unfolding grown
-grown_none = refl
-
 -- the trees of the first basis elements are the first trees
 pub grown_take : (n : ℕ) (bs : List Basis) → n ≤ length bs → grown [] (take n bs) ≡ take n (grown [] bs)
 grown_take n bs le =

@@ -142,6 +142,7 @@ impl<F: Field> Table<F> {
     }
 
     /// Basis element `i`.
+    #[inline(always)]
     pub fn basis(&self, i: u32) -> Basis
         requires { (1 ≤ i) × (i ≤ length self.now.basis) }
         ensures value { basis_in result ≡ plain_basis self.now (i - 1) }
@@ -160,6 +161,7 @@ impl<F: Field> Table<F> {
     }
 
     /// The bracket of basis elements `i` and `j`, by the sign of its regular pair.
+    #[inline(always)]
     pub fn pair(&self, i: u32, j: u32) -> PairSign
         requires left { (1 ≤ i) × (i ≤ length self.now.basis) }
         requires right { (1 ≤ j) × (j ≤ length self.now.basis) }

@@ -1,5 +1,5 @@
 -- One answer more.
-use Rattle.std.proofs.Common.{◌≡◌, ◌∙◌, ℕ, ◌+◌, ◌<◌, List, [], ◌∷◌, ◌++◌, Ok, Err, refl, ap, sym, append_assoc, append-nil, length, drop, get_or, add-one, drop-cons}
+use Rattle.std.proofs.Common.{◌≡◌, ◌∙◌, ℕ, ◌+◌, ◌<◌, List, [], ◌∷◌, ◌++◌, Ok, Err, refl, ap, sym, append_assoc, length, drop, get_or, add-one, drop-cons}
 use Rattle.std.specs.declared.result.Result.{Result}
 use Rattle.fpl_numbers.specs.declared.number.Unfit.{Unfit}
 use Rattle.fpl_numbers.specs.Results.{and_then, map_ok}
@@ -29,14 +29,8 @@ module _ (p : Presentation) (T : PlainTable) where
       go (Ok rest) = ap Ok (sym (append_assoc xs (a ∷ []) rest))
       go (Err u) = refl
 
-  pub no_answer : (xs : List Answer) (q : Equation) (qs : List Equation) (u : Unfit) → answer_of p T q ≡ Err u → after p T xs (q ∷ qs) ≡ Err u
-  no_answer xs q qs u e = ap (λ r. map_ok (λ rest. xs ++ rest) (and_then (λ a. map_ok (λ rest. a ∷ rest) (answers_of p T qs)) r)) e
-
   pub answer_step : (xs next : List Answer) (items : List Equation) (i : ℕ) (q d : Equation) (a : Answer) → i < length items → q ≡ get_or items i d →
       answer_of p T q ≡ Ok a → next ≡ xs ++ a ∷ [] → after p T xs (drop i items) ≡ after p T next (drop (i + 1) items)
   answer_step xs next items i q d a l is e more =
       let here : drop i items ≡ q ∷ drop (i + 1) items = rw (is, add-one) (drop-cons items i d l) in
       ap (after p T xs) here ∙ one_answer xs q (drop (i + 1) items) a e ∙ ap (λ ys. after p T ys (drop (i + 1) items)) (sym more)
-
-  pub to_last : (xs : List Answer) → after p T xs [] ≡ Ok xs
-  to_last xs = ap Ok (append-nil xs)

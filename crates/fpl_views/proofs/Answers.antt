@@ -6,7 +6,7 @@ use Rattle.std.proofs.lemmas.Bool.Decides.{nat_tests}
 use Rattle.std.proofs.lemmas.List.{length-map}
 use Rattle.fpl_numbers.specs.declared.number.Num.{Num}
 use Rattle.fpl_numbers.specs.declared.number.Unfit.{Unfit}
-use Rattle.fpl_numbers.specs.Results.{and_then, map_ok}
+use Rattle.fpl_numbers.specs.Results.{map_ok}
 use Rattle.fpl_numbers.specs.Kinds.{field_of, number_of}
 use Rattle.fpl_numbers.proofs.KindReads.{kind_reads}
 use Rattle.fpl_rows.specs.Meaning.{vector_in}
@@ -75,10 +75,12 @@ module _ (p : Presentation) (T : PlainTable) (sections : List Section) (sound : 
     tops : (d : Degree ℕ) → weight q ≡ d → is_past T.weight d ≡ false →
         (top (presentation_in p) (tree_in p.field q.left) ≤ T.weight) × (top (presentation_in p) (tree_in p.field q.right) ≤ T.weight)
     tops any e f =
-        let r = (weight_bounds_top (field_of p.field) (presentation_in p) (tree_in p.field q.left) (tree_in p.field q.right) (over q.left s.0.0) (over q.right s.1.0)).1 e in
+        let r = (weight_bounds_top (field_of p.field) (presentation_in p) (tree_in p.field q.left) (tree_in p.field q.right) (over q.left s.0.0)
+        (over q.right s.1.0)).1 e in
         (omega (arith, r.0), omega (arith, r.1))
     tops (exact w) e f =
-        let r = (weight_bounds_top (field_of p.field) (presentation_in p) (tree_in p.field q.left) (tree_in p.field q.right) (over q.left s.0.0) (over q.right s.1.0)).0 w e in
+        let r = (weight_bounds_top (field_of p.field) (presentation_in p) (tree_in p.field q.left) (tree_in p.field q.right) (over q.left s.0.0)
+        (over q.right s.1.0)).0 w e in
         let l = not_past T.weight w f in
         (omega (arith, r.0, l), omega (arith, r.1, l))
     tops mixed e f = absurd (s.2.0 e)

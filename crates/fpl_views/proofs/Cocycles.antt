@@ -1,6 +1,6 @@
 -- The text of the view `cohomology` lists what represents H1 and H2; over a prime there is one.
-use Rattle.std.specs.Prelude.{◌≡◌, ℕ, List, length, Result, Ok, Err}
-use mathlib.Core.Path.{sym, refl, ap, ◌∙◌, subst}
+use Rattle.std.specs.Prelude.{◌≡◌, ℕ, List, Result, Ok, Err}
+use mathlib.Core.Path.{refl}
 use Rattle.math_theorems.proofs.StandardLaws.{built_obeys_law}
 use Rattle.fpl_numbers.specs.declared.number.Kind.TheVariants.{Prime}
 use Rattle.fpl_numbers.specs.declared.number.Unfit.{Unfit}

@@ -1,5 +1,5 @@
 -- The sections that raised a table are derivations of it.
-use Rattle.std.proofs.Common.{◌≡◌, List, refl, sym}
+use Rattle.std.proofs.Common.{List, sym}
 use Rattle.fpl_numbers.specs.declared.number.Num.{Num}
 use Rattle.fpl_log.specs.declared.section.Section.{Section}
 use Rattle.fpl_model.specs.declared.presentation.Presentation.{Presentation}

@@ -1,23 +1,20 @@
 -- Whether two rows have the same numbers, place by place.
-use Rattle.std.proofs.Common.{◌≡◌, ◌∙◌, ℕ, ◌+◌, ◌<◌, ◌≤◌, List, [], ◌∷◌, Bool, true, false, ◌&&◌, length, drop, get_or, refl, ap, add-one, drop-cons, drop_of_length-le}
+use Rattle.std.proofs.Common.{◌≡◌, ◌∙◌, ℕ, ◌+◌, ◌<◌, List, [], ◌∷◌, true, false, ◌&&◌, length, drop, get_or, refl, ap, add-one, drop-cons}
 use mathlib.Core.Path.{ap₂}
 use Rattle.fpl_numbers.specs.declared.number.Num.{Num}
 use Rattle.fpl_check.specs.ClosedRows.{same_num}
 use Rattle.fpl_check.proofs.RowLoops.{is_same, same_is}
 use Rattle.fpl_views.specs.Equal.{same_row}
+use Rattle.std.proofs.lemmas.Bool.{and_parts}
 
 bool_no : false ≡ true → ⊥
 bool_no e = cc
-
-both_true : (a b : Bool) → a && b ≡ true → (a ≡ true) × (b ≡ true)
-both_true true b e = (refl, e)
-both_true false b e = absurd (bool_no e)
 
 pub row_is : (xs ys : List Num) → same_row xs ys ≡ true → xs ≡ ys
 row_is [] [] e = refl
 row_is [] (y ∷ ys) e = absurd (bool_no e)
 row_is (x ∷ xs) [] e = absurd (bool_no e)
-row_is (x ∷ xs) (y ∷ ys) e = (let r = both_true (same_num x y) (same_row xs ys) e in ap₂ (λ a b. a ∷ b) (is_same x y r.0) (row_is xs ys r.1))
+row_is (x ∷ xs) (y ∷ ys) e = (let r = and_parts (same_num x y) (same_row xs ys) e in ap₂ (λ a b. a ∷ b) (is_same x y r.0) (row_is xs ys r.1))
 
 pub row_itself : (xs : List Num) → same_row xs xs ≡ true
 row_itself [] = refl
@@ -33,14 +30,3 @@ module _ (xs ys : List Num) (s : ℕ) (x y d : Num) (l : s < length xs) (k : s <
   -- rows that are the same at a place
   pub same_at : x ≡ y → same_row (drop s xs) (drop s ys) ≡ same_row (drop (s + 1) xs) (drop (s + 1) ys)
   same_at e = here ∙ ap (λ b. b && same_row (drop (s + 1) xs) (drop (s + 1) ys)) (same_is x y e)
-
-  -- and rows that aren't
-  pub other_at : (x ≡ y → ⊥) → same_row (drop s xs) (drop s ys) ≡ false
-  other_at differ = here ∙ ap (λ b. b && same_row (drop (s + 1) xs) (drop (s + 1) ys)) (go (same_num x y) refl)
-    where
-      go : (b : Bool) → same_num x y ≡ b → same_num x y ≡ false
-      go true e = absurd (differ (is_same x y e))
-      go false e = e
-
-pub same_past : (xs ys : List Num) (s : ℕ) → length xs ≤ s → length ys ≤ s → same_row (drop s xs) (drop s ys) ≡ true
-same_past xs ys s l k = ap₂ same_row (drop_of_length-le xs l) (drop_of_length-le ys k)

@@ -41,7 +41,12 @@ impl<F: Field> Model for Run<F> {
 
     ghost coded = { Prim.hlevel (codes, e.the_row.coded) };
 
-    ghost view = { λ r. record { presentation = r.state.presentation; version = r.version; stage = record { table = r.state.table; sections = r.state.sections; place = r.place; stored = r.stored } } };
+    ghost view = { λ r. record {
+      presentation = r.state.presentation;
+      version = r.version;
+      stage =
+          record { table = r.state.table; sections = r.state.sections; place = r.place; stored = r.stored };
+    } };
 }
 
 fn stop_for(fault: RaiseFault) -> Stop
@@ -130,7 +135,8 @@ impl<F: Field> Run<F> {
         ensures stop { IfErr result (λ stop. IsStop stop (step_of computes entries self.old.presentation (stored_in self.old bytes.now) self.old.stage)) }
         ensures fractions { (w : ℕ) (op : Op) (a b : Num) → IsErrOf result (Stop.Overflow w op a b) → self.old.presentation.field ≡ Kind.Rational }
         ensures unchanged { OnErr result (self.new ≡ self.old) }
-        ensures most { (steps.old ≤ steps.new) × (steps.new ≤ steps.old + step_cost computes entries self.old.presentation (stored_in self.old bytes.now) self.old.stage) }
+        ensures most { (steps.old ≤ steps.new) × (steps.new ≤ steps.old + step_cost computes entries self.old.presentation
+            (stored_in self.old bytes.now) self.old.stage) }
     {
         let weight = self.state.weight() + 1;
         let count = self.state.next_count();
@@ -186,7 +192,8 @@ impl<F: Field> Run<F> {
         ensures presentation { self.new.presentation ≡ self.old.presentation }
         ensures version { self.new.version ≡ self.old.version }
         ensures step { OnOk result (framed true self.old.presentation (stored_in self.old bytes.now) self.old.stage (Ok (Whole from to)) ≡ Ok self.new.stage) }
-        ensures stop { IfErr result (λ stop. IsStop stop (framed true self.old.presentation (stored_in self.old bytes.now) self.old.stage (Ok (Whole from to)))) }
+        ensures stop { IfErr result (λ stop. IsStop stop (framed true self.old.presentation (stored_in self.old bytes.now) self.old.stage
+            (Ok (Whole from to)))) }
         ensures fractions { (w : ℕ) (op : Op) (a b : Num) → IsErrOf result (Stop.Overflow w op a b) → self.old.presentation.field ≡ Kind.Rational }
         ensures unchanged { OnErr result (self.new ≡ self.old) }
     {

@@ -4,7 +4,7 @@
 ghost use Rattle.std.specs.Prelude.{◌≡◌, ◌<◌, ◌⊎◌, ◌↔◌, List, ℕ, IfSome};
 ghost use Rattle.std.specs.Io.KnownBytes.{IsAtEnd};
 ghost use Rattle.fpl_outside.specs.Outside.{Rose, Takes};
-ghost use Rattle.fpl_reply.specs.Reply.{Reply, status_of, line_of};
+ghost use Rattle.fpl_reply.specs.Reply.{Reply, no_memory, status_of, line_of};
 ghost use Rattle.fpl_reply.specs.Leaves.{Says, IsAnswered};
 ghost use Rattle.fpl_views.specs.declared.shown.Shown.{Shown};
 ghost use Rattle.fpl_run.specs.declared.words.Command.{Command};
@@ -15,7 +15,7 @@ ghost use Rattle.fpl_run.specs.Answer.{Answers, Fronts};
 ghost use Rattle.fpl_run.specs.Run.{ReadsNothing, Means, MayPut};
 
 use fpl_outside::{Sink, Source, StdSink, StdSource};
-use fpl_reply::Status;
+use fpl_reply::{Outcome, Status, put_line};
 use fpl_run::run;
 use fpl_steps::Steps;
 use std::alloc::{AllocError, Global};
@@ -61,15 +61,25 @@ fn collect(alloc: Global, args: env::Args) -> Result<Vec<String>, AllocError> {
     Ok(words)
 }
 
+// Answers as `run` does where memory runs out, for want of it before.
+fn want_memory<E: Sink>(err: &mut E) -> Status
+    ensures status { result ≡ Status.NoMemory }
+    ensures line { Says (E.taken err.old) (E.taken err.new) (E.faults err.old) (E.faults err.new) (line_of no_memory) }
+{
+    let _ = put_line(err, &Outcome::NoMemory);
+    Status::NoMemory
+}
+
 fn main(rt: HostRuntime) -> ExitCode {
+    let mut err = StdSink::new(rt.stderr());
     let words = match env::args(&rt) {
         Ok(args) => match collect(rt.alloc(), args) {
             Ok(words) => words,
-            Err(_) => return ExitCode::from(Status::NoMemory.number()),
+            Err(_) => return ExitCode::from(want_memory(&mut err).number()),
         },
         Err(error) => {
             if error.kind() == io::ErrorKind::OutOfMemory {
-                return ExitCode::from(Status::NoMemory.number());
+                return ExitCode::from(want_memory(&mut err).number());
             }
             // A word that isn't text leaves no words, which is no command.
             Vec::new(rt.alloc())
@@ -77,7 +87,6 @@ fn main(rt: HostRuntime) -> ExitCode {
     };
     let mut input = StdSource::new(rt.reader());
     let mut out = StdSink::new(rt.stdout());
-    let mut err = StdSink::new(rt.stderr());
     let status = run_uncounted::<Brand, _, _, _>(
         Blank::new(1),
         rt.alloc(),

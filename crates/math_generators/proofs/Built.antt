@@ -54,7 +54,7 @@ module _ (K : Field) (P : Presentation K.Carrier) where
   grows T _ (standard_start tree e) = λ i j k l s. absurd (omega (arith, l, e.basis))
   grows T' _ (standard_next {T = T} {tree = tree} {tree' = tree'} h next) = grows_next T T' tree tree' (grows T tree h) next
 
-  whole_generated : (T : Table K) → Whole K P T → IsGenerated K T
+  pub whole_generated : (T : Table K) → Whole K P T → IsGenerated K T
   unfolding val
   whole_generated T w = record { pairs = λ i j k l e. at i j k l (grows T w.tree w.standard i j k l e) }
     where

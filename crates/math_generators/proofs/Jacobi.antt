@@ -18,7 +18,7 @@ use Rattle.math_generators.specs.Generated.{IsGenerator, IsGenerated}
 
 module _ (K : Field) where
   -- the last member of a sum, on the other side
-  less : (s : K.Carrier) (a b c : Vector K) → a ≡ vplus K b (scale K s c) → b ≡ vplus K a (scale K (K.minus s) c)
+  pub less : (s : K.Carrier) (a b c : Vector K) → a ≡ vplus K b (scale K s c) → b ≡ vplus K a (scale K (K.minus s) c)
   less s a b c e =
       sym
       (ap (λ w. vplus K w (scale K (K.minus s) c)) e ∙ vplus_assoc K _ _ _

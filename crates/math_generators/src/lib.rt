@@ -5,6 +5,7 @@
 
 ghost use Rattle.fpl_numbers.specs.declared.number.Kind.{Kind};
 ghost use Rattle.fpl_numbers.specs.Kinds.{field_of};
+ghost use Rattle.math_generators.specs.Triples.{LateTriplesFollow};
 ghost use Rattle.math_generators.specs.Laws.{AllFromGenerators, BuiltIsGenerated, CentreByGenerators, CentreIsKernelOf, ClosedByGenerators, GeneratorRoundsStay, GeneratorRoundsStop, IdealByGeneratorRounds, IdealByGenerators, TermByGeneratorRows, TermByGenerators};
 
 /// The generators: each other basis element of a built table is the bracket of two before it, and brackets with them give all vectors of the table.
@@ -28,4 +29,9 @@ pub fn generator_rows_suffice()
     ensures rounds { (k : Kind) → IdealByGeneratorRounds (field_of k) }
     ensures stay { (k : Kind) → GeneratorRoundsStay (field_of k) }
     ensures stop { (k : Kind) → GeneratorRoundsStop (field_of k) }
+{}
+
+/// Triples of basis elements behind the last generator give no source row that the others don't.
+pub fn generators_give_the_rows()
+    ensures { (k : Kind) → LateTriplesFollow (field_of k) }
 {}

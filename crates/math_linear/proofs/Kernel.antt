@@ -13,6 +13,7 @@ use Rattle.math_linear.proofs.Numbers.{nought-plus, plus_left_comm, times-nought
 use Rattle.math_linear.proofs.Vectors.{vplus-vzero, vzero-vplus, place_same, place_other}
 use Rattle.math_linear.proofs.Places.{zero_at}
 use Rattle.math_linear.proofs.Span.{spanned_one, spanned_vplus, spanned_scale, by_span}
+use Rattle.math_linear.proofs.Reduced.{none_not}
 
 module _ (K : Field) where
   pub product-vplus : (n : ℕ) (u x y : Vector K) → product_sum K n u (vplus K x y) ≡ K.plus (product_sum K n u x) (product_sum K n u y)
@@ -64,9 +65,6 @@ module _ (K : Field) where
       go (no e) (yes f) r = ap₂ K.plus (product_one n s u x (omega arith) (λ i o g. h i (omega arith) g (omega arith))) (ap (λ i. K.times (u i) (x i)) (sym f))
       go (no e) (no f) r = ap₂ K.plus (r (omega arith) (omega arith)) (h n (omega arith) (λ g. e (sym g)) (λ g. f (sym g))) ∙ K.plus-nought _
 
-none_some : {X : Type 0} {x : X} → None ≡ Some x → ⊥
-none_some e = cc
-
 module _ (K : Field) (n : ℕ) (at : Pivots K) (reduced : IsReduced K n at) where
   free_none : (f s : ℕ) → at s ≡ None → free_row K at f s ≡ place K f s
   unfolding free_row free_at
@@ -89,7 +87,7 @@ module _ (K : Field) (n : ℕ) (at : Pivots K) (reduced : IsReduced K n at) wher
 
       solves : (u : Vector K) (s : ℕ) → at s ≡ Some u → product_sum K n u (free_row K at f) ≡ K.nought
       solves u s k =
-          product_two K n s f u (free_row K at f) (reduced.echelon.below s u k) l (λ d. none_some (sym e ∙ ap at (sym d) ∙ k))
+          product_two K n s f u (free_row K at f) (reduced.echelon.below s u k) l (λ d. none_not (sym e ∙ ap at (sym d) ∙ k))
           (λ i m a b. rest i a b (at i) refl)
           ∙ ap₂ K.plus (ap₂ K.times (reduced.echelon.has_lead s u k).leads (free_some f s u k) ∙ unit-times K _)
           (ap (K.times (u f)) (free_none f f e ∙ place_same K f) ∙ K.times-unit _)
@@ -154,7 +152,7 @@ module _ (K : Field) (n : ℕ) (at : Pivots K) (reduced : IsReduced K n at) wher
     spanned = p.spanned;
     whole = p.whole;
     solution = p.solution;
-    cleared = λ f k g. elim (ℕ_discrete f m) [ yes d ↦ absurd (none_some (sym g ∙ ap at d ∙ e)) | no d ↦ p.cleared f (omega arith) g ];
+    cleared = λ f k g. elim (ℕ_discrete f m) [ yes d ↦ absurd (none_not (sym g ∙ ap at d ∙ e)) | no d ↦ p.cleared f (omega arith) g ];
   }
   part_next x m l p None e = record {
     left = vplus K (scale K (K.minus (p.left m)) (free_row K at m)) p.left;

@@ -4,6 +4,7 @@ pub mod Linear
 pub mod Places
 pub mod Span
 pub mod Closed
+pub mod AddedRow
 pub mod Closing
 pub mod Echelon
 pub mod Reduced

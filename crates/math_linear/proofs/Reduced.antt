@@ -14,10 +14,10 @@ use Rattle.math_linear.proofs.Places.{zero_at}
 use Rattle.math_linear.proofs.Span.{apart_zero, spanned_one, spanned_vplus, spanned_scale, spanned_through}
 use Rattle.math_linear.proofs.Echelon.{take_off_none, reduce_none, reduce_keeps, reduce_clears, reduce_rest, reduce_spanned}
 
-some_is : {T : Type 0} {x y : T} → Some x ≡ Some y → x ≡ y
+pub some_is : {T : Type 0} {x y : T} → Some x ≡ Some y → x ≡ y
 some_is e = cc
 
-none_not : {T : Type 0} {x : T} → None ≡ Some x → ⊥
+pub none_not : {T : Type 0} {x : T} → None ≡ Some x → ⊥
 none_not e = cc
 
 module _ (K : Field) (at : Pivots K) where

@@ -1,5 +1,5 @@
 -- The rows of a reduced echelon, in the order of their places, are a closed list of the same span.
-use Rattle.std.specs.Prelude.{ℕ, ◌≡◌, ◌≢◌, ◌<◌, ◌↔◌, Some}
+use Rattle.std.specs.Prelude.{ℕ, ◌≢◌, ◌<◌, ◌↔◌}
 use mathlib.Core.Path.{sym, ap, ◌∙◌, subst}
 use native.Mathlib.Omega.{arith}
 use native.Mathlib.Decide.{dec_lt}
@@ -9,9 +9,7 @@ use Rattle.math_linear.specs.Span.{Spanned, InSpan, SpansKind}
 use Rattle.math_linear.specs.Closed.{IsClosed}
 use Rattle.math_linear.specs.Echelon.{Pivots, IsRow, IsReduced, AreRowsOf}
 use Rattle.math_linear.proofs.Span.{kind_span_iff, in_span, spanned_one}
-
-some_is : {T : Type 0} {x y : T} → Some x ≡ Some y → x ≡ y
-some_is e = cc
+use Rattle.math_linear.proofs.Reduced.{some_is}
 
 module _ (K : Field) where
   rows_of_pivots : (at : Pivots K) (count : ℕ) (row : ℕ → Vector K) (pivot : ℕ → ℕ) → AreRowsOf K at count row pivot → SpansKind K (IsRow K at) count row

@@ -43,12 +43,14 @@ module _ (K : Field) where
   alone a b c d e f g = ap₂ K.plus (ap (K.plus a) e ∙ K.plus-nought a) (ap₂ K.plus f g ∙ K.plus-nought _) ∙ K.plus-nought a
 
   first : (u v w z a b : K.Carrier) →
-      K.plus (K.plus (K.times u (K.times a b)) (K.times v (K.times a K.nought))) (K.plus (K.times w (K.times K.nought b)) (K.times z (K.times K.nought K.nought)))
+      K.plus (K.plus (K.times u (K.times a b)) (K.times v (K.times a K.nought)))
+      (K.plus (K.times w (K.times K.nought b)) (K.times z (K.times K.nought K.nought)))
       ≡ K.times a (K.times u b)
   first u v w z a b = alone _ _ _ _ (right_nought v a) (left_nought w b) (left_nought z K.nought) ∙ turn u a b
 
   second : (u v w z a b : K.Carrier) →
-      K.plus (K.plus (K.times u (K.times a K.nought)) (K.times v (K.times a b))) (K.plus (K.times w (K.times K.nought K.nought)) (K.times z (K.times K.nought b)))
+      K.plus (K.plus (K.times u (K.times a K.nought)) (K.times v (K.times a b)))
+      (K.plus (K.times w (K.times K.nought K.nought)) (K.times z (K.times K.nought b)))
       ≡ K.times a (K.times v b)
   second u v w z a b =
       ap (λ x. K.plus x (K.plus (K.times w (K.times K.nought K.nought)) (K.times z (K.times K.nought b)))) (K.plus_comm _ _)
@@ -87,7 +89,8 @@ module _ (K : Field) where
   plain_sums n p q a b =
       all_same (λ s t. product_sum K n (λ k. pick K s (p k) (a k)) (λ k. pick K t (q k) (b k)))
       (λ s t. K.times K.unit (product_sum K n (λ k. pick K s (p k) (a k)) (λ k. pick K t (q k) (b k))))
-      (λ s t. sym (unit-times K (product_sum K n (λ k. pick K s (p k) (a k)) (λ k. pick K t (q k) (b k))))) ∙ sums (λ s t. K.unit) n p q a b ∙ ap (product_sum K n a) (fun_ext (λ k. unit-times K (b k)))
+      (λ s t. sym (unit-times K (product_sum K n (λ k. pick K s (p k) (a k)) (λ k. pick K t (q k) (b k))))) ∙ sums (λ s t. K.unit) n p q a b ∙
+      ap (product_sum K n a) (fun_ext (λ k. unit-times K (b k)))
 
 -- at a place: the product, and less the other product, where each summand has the sign of its two factors
 pub bracket_at : (K : Field) (m n : ℕ) (x y : Matrix K) (r c : ℕ) →

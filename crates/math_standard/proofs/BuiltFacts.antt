@@ -8,7 +8,8 @@ use Rattle.math_linear.specs.Vector.{Vector, vzero, scale}
 use Rattle.math_algebra.specs.Tree.{none, multiple, bracket_of, Presentation, generator, IsOver}
 use Rattle.math_algebra.specs.Tree.IsOver.{over_gen, over_bracket}
 use Rattle.math_algebra.proofs.Within.{derives_within, within_derives, combined_over}
-use Rattle.math_standard.proofs.NextSound.{symbols_over, tree_next, tree_old, tree_new, facts_next, value_is, row_none, free_place, outer_regular}
+use Rattle.math_standard.proofs.NextTrees.{symbols_over, tree_next, tree_old, tree_new}
+use Rattle.math_standard.proofs.NextSound.{facts_next, value_is, row_none, free_place, outer_regular}
 use Rattle.math_algebra.proofs.Freely.{DerivesFreely}
 use Rattle.math_algebra.specs.Derives.{Expression}
 use Rattle.math_algebra.proofs.Freely.DerivesFreely.{same, back, then, multiple_unit}
@@ -28,7 +29,8 @@ use Rattle.math_values.proofs.Steps.{product_filled}
 use Rattle.math_linear.proofs.Closed.{find_pivot}
 use Rattle.math_values.proofs.Weights.{standard}
 use Rattle.math_values.proofs.Facts.{Facts, one_value, of_short}
-use Rattle.math_standard.proofs.Next.{slot_new, longer, linear, step, meaning_weight}
+use Rattle.math_standard.proofs.NewPlaces.{slot_new, longer}
+use Rattle.math_standard.proofs.Next.{linear, step, meaning_weight}
 
 module _ (K : Field) (P : Presentation K.Carrier) where
   -- B ~ -A where A + B ~ 0

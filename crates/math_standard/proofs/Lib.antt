@@ -1,9 +1,12 @@
 pub mod Sweeps
+pub mod NewPlaces
 pub mod Next
+pub mod NextTrees
 pub mod NextSound
 pub mod BuiltFacts
 pub mod NextTables
 pub mod Exists
+pub mod SameCombinations
 pub mod Agreement
 pub mod Main
 pub mod Views

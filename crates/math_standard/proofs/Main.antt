@@ -5,7 +5,7 @@ use native.Mathlib.Omega.{arith}
 use Rattle.math_fields.specs.Field.{Field}
 use Rattle.math_linear.specs.Vector.{Vector, vzero, scale}
 use Rattle.math_algebra.specs.Tree.{Presentation, generator}
-use Rattle.math_standard.proofs.Next.{of_past}
+use Rattle.math_standard.proofs.NewPlaces.{of_past}
 use Rattle.math_algebra.proofs.Freely.{DerivesFreely}
 use Rattle.math_algebra.specs.Derives.{Expression}
 use Rattle.math_algebra.specs.Table.{Table, val, ObeysLaw}

@@ -1,15 +1,13 @@
--- The next table is sound: the trees of its basis, their values, and what its images and entries are derivably equal to.
-use Rattle.std.specs.Prelude.{ℕ, zero, suc, ◌≡◌, ◌≢◌, ◌⊎◌, ◌<◌, ◌≤◌, ◌+◌, ◌-◌, length, cond, nat_lt}
+-- The next table is sound: the values of its trees, and what its images and entries are derivably equal to.
+use Rattle.std.specs.Prelude.{ℕ, zero, suc, ◌≡◌, ◌≢◌, ◌⊎◌, ◌<◌, ◌≤◌, ◌+◌, ◌-◌, length}
 use mathlib.Core.Path.{sym, refl, ap, ap₂, ◌∙◌, subst}
 use mathlib.Core.Logic.{inl, inr}
 use native.Mathlib.Omega.{arith}
 use native.Mathlib.Decide.{dec_le, dec_lt}
 use Rattle.math_fields.specs.Field.{Field}
 use Rattle.math_linear.specs.Vector.{Vector, vplus, scale, place, total, EndsAt}
-use Rattle.math_algebra.specs.Tree.{Tree, gen, none, bracket_of, Presentation, generator, IsOver}
+use Rattle.math_algebra.specs.Tree.{Tree, gen, none, bracket_of, Presentation, generator}
 use Rattle.math_algebra.specs.Degrees.{HasParity}
-use Rattle.math_algebra.specs.Tree.IsOver.{over_gen, over_bracket}
-use Rattle.math_algebra.specs.Degrees.HasParity.{parity_gen, parity_bracket}
 use Rattle.math_algebra.proofs.Freely.{DerivesFreely}
 use Rattle.math_algebra.specs.Derives.{Expression}
 use Rattle.math_algebra.proofs.Freely.DerivesFreely.{back, then, in_multiple, relation, cube}
@@ -18,9 +16,8 @@ use Rattle.math_algebra.specs.SourceRows.{outer_place, row_of, IsSource}
 use Rattle.math_values.proofs.Steps.{Extends, signed_below, signed_itself, outer_within, product_kept, product_filled}
 use Rattle.math_algebra.proofs.Homogeneous.{WeightIs, IsHomogeneous}
 use Rattle.math_algebra.specs.Built.{relabel, meaning_of, slot_of, IsNext}
-use Rattle.math_algebra.proofs.Homogeneous.WeightIs.{weight_gen, weight_bracket}
 use Rattle.math_algebra.specs.Standard.{combined}
-use Rattle.math_algebra.specs.Symbols.{symbols, symbol_at, place_of, pair_number, generator_number, symbol_parity, symbol_tree, IsSymbol}
+use Rattle.math_algebra.specs.Symbols.{symbols, symbol_at, place_of, pair_number, generator_number, symbol_tree, IsSymbol}
 use Rattle.math_algebra.specs.Symbols.IsSymbol.{is_generator, is_pair}
 use Rattle.math_algebra.specs.SourceRows.IsSource.{of_relation, of_triple, of_cube}
 use Rattle.math_linear.proofs.Vectors.{from_places}
@@ -37,7 +34,10 @@ use Rattle.math_values.proofs.Weights.{symbol_sound}
 use Rattle.math_values.proofs.SymbolLists.{place_symbol, place_number}
 use Rattle.math_values.proofs.Facts.{Facts, below, of_short, val_combined}
 use Rattle.math_values.proofs.SourceRows.{numbered, generators_numbered, outer_place_short, outer_vzero, vzero_outer, row_void}
-use Rattle.math_standard.proofs.Next.{relabel_place, longer, trees_same, span_derived, of_none, meaning, linear, split, weight_old, parity_old, weight_new, parity_new, weight_fresh, positive', within', step, entry_of', entry_in', image_of', image_in', jacobis', cubes', relations'}
+use Rattle.math_standard.proofs.NewPlaces.{relabel_place, longer, trees_same, span_derived, of_none}
+use Rattle.math_standard.proofs.Next.{meaning, linear, split, weight_old, weight_fresh, positive', within', step, entry_of', entry_in', image_of', image_in', jacobis', cubes', relations'}
+use Rattle.math_standard.proofs.NextTrees.{tree_old, tree_new, tree_over', tree_parity', tree_weight'}
+use Rattle.math_standard.proofs.NextTrees.{tree_next as new_tree}
 
 module _ (K : Field) (P : Presentation K.Carrier) (hom : IsHomogeneous P) (T T' : Table K) (tree : ℕ → Expression K) (facts : Facts K P T tree)
     (next : IsNext K P T T') where
@@ -59,67 +59,8 @@ module _ (K : Field) (P : Presentation K.Carrier) (hom : IsHomogeneous P) (T T' 
   abbrev symbol' : ℕ → Expression K
   symbol' s = symbol_tree tree (symbol_at P T s)
 
-  pub tree_next : ℕ → Expression K
-  tree_next k = cond (nat_lt k n) (tree k) (symbol' (next.slot (k - n)))
-
-  pub tree_old : (k : ℕ) → k < n → tree_next k ≡ tree k
-  unfolding tree_next
-  tree_old k l = grind arith
-
-  pub tree_new : (i : ℕ) → tree_next (n + i) ≡ symbol' (next.slot i)
-  unfolding tree_next
-  tree_new i = go (n + i) refl
-    where
-      go : (k : ℕ) → k ≡ n + i → cond (nat_lt k n) (tree k) (symbol' (next.slot (k - n))) ≡ symbol' (next.slot i)
-      go k e = let d : k - n ≡ i = omega arith in grind arith
-
-  -- a symbol's tree has its parity and the new weight
-  pub symbol_kind : (x : Symbol) → IsSymbol P T x → (HasParity P (symbol_tree tree x) (symbol_parity P T x)) × (WeightIs P (symbol_tree tree x) (suc T.weight))
-  symbol_kind _ (is_generator g l w) = (parity_gen g l, subst (WeightIs P (gen g)) w (weight_gen g l))
-  symbol_kind _ (is_pair i j l k w r) = (
-    parity_bracket (facts.tree_parity i l) (facts.tree_parity j k),
-    subst (WeightIs P (bracket_of (tree i) (tree j))) w
-        (weight_bracket (facts.tree_weight i l) (facts.tree_weight j k)),
-  )
-
-  pub symbol_over : (x : Symbol) → IsSymbol P T x → IsOver P (symbol_tree tree x)
-  symbol_over _ (is_generator g l w) = over_gen g l
-  symbol_over _ (is_pair i j l k w r) = over_bracket (facts.tree_over i l) (facts.tree_over j k)
-
-  pub symbols_over : (s : ℕ) → s < m → IsOver P (symbol' s)
-  symbols_over s l = symbol_over _ (place_symbol K P T s l)
-
-  tree_over' : (k : ℕ) → k < length T'.basis → IsOver P (tree_next k)
-  tree_over' k l = go (split K P hom T T' tree facts next k l)
-    where
-      go : (k < n) ⊎ ((i : ℕ) × (i < next.count) × (k ≡ n + i)) → IsOver P (tree_next k)
-      go (inl h) = subst (IsOver P) (sym (tree_old k h)) (facts.tree_over k h)
-      go (inr f) = subst (λ k. IsOver P (tree_next k)) (sym f.2) (subst (IsOver P) (sym (tree_new f.0))
-          (symbols_over (next.slot f.0) (next.free.there f.0 f.1).0))
-
-  tree_parity' : (k : ℕ) → k < length T'.basis → HasParity P (tree_next k) (parity_at T' k)
-  tree_parity' k l = go (split K P hom T T' tree facts next k l)
-    where
-      go : (k < n) ⊎ ((i : ℕ) × (i < next.count) × (k ≡ n + i)) → HasParity P (tree_next k) (parity_at T' k)
-      go (inl h) = subst (λ e. HasParity P e (parity_at T' k)) (sym (tree_old k h)) (subst (HasParity P (tree k))
-          (sym (parity_old K P hom T T' tree facts next k h)) (facts.tree_parity k h))
-      go (inr f) =
-          subst (λ k. HasParity P (tree_next k) (parity_at T' k)) (sym f.2)
-          (subst (λ e. HasParity P e (parity_at T' (n + f.0))) (sym (tree_new f.0))
-          (subst (HasParity P (symbol' (next.slot f.0))) (sym (parity_new K P hom T T' tree facts next f.0 f.1))
-          (symbol_kind _ (place_symbol K P T (next.slot f.0) (next.free.there f.0 f.1).0)).0))
-
-  tree_weight' : (k : ℕ) → k < length T'.basis → WeightIs P (tree_next k) (weight_at T' k)
-  tree_weight' k l = go (split K P hom T T' tree facts next k l)
-    where
-      go : (k < n) ⊎ ((i : ℕ) × (i < next.count) × (k ≡ n + i)) → WeightIs P (tree_next k) (weight_at T' k)
-      go (inl h) = subst (λ e. WeightIs P e (weight_at T' k)) (sym (tree_old k h)) (subst (WeightIs P (tree k))
-          (sym (weight_old K P hom T T' tree facts next k h)) (facts.tree_weight k h))
-      go (inr f) =
-          subst (λ k. WeightIs P (tree_next k) (weight_at T' k)) (sym f.2)
-          (subst (λ e. WeightIs P e (weight_at T' (n + f.0))) (sym (tree_new f.0))
-          (subst (WeightIs P (symbol' (next.slot f.0))) (sym (weight_new K P hom T T' tree facts next f.0 f.1))
-          (symbol_kind _ (place_symbol K P T (next.slot f.0) (next.free.there f.0 f.1).0)).1))
+  abbrev tree_next : ℕ → Expression K
+  tree_next = new_tree K P hom T T' tree facts next
 
   -- values of symbols
   tree_val_old : (i : ℕ) → i < n → val K T' (tree i) ≡ place K i
@@ -168,9 +109,10 @@ module _ (K : Field) (P : Presentation K.Carrier) (hom : IsHomogeneous P) (T T' 
   tree_val' k l = go (split K P hom T T' tree facts next k l)
     where
       go : (k < n) ⊎ ((i : ℕ) × (i < next.count) × (k ≡ n + i)) → val K T' (tree_next k) ≡ place K k
-      go (inl h) = ap (val K T') (tree_old k h) ∙ tree_val_old k h
+      go (inl h) = ap (val K T') (tree_old K P hom T T' tree facts next k h) ∙ tree_val_old k h
       go (inr f) =
-          ap (λ k. val K T' (tree_next k)) f.2 ∙ ap (val K T') (tree_new f.0) ∙ value_symbol (next.slot f.0) (next.free.there f.0 f.1).0 ∙
+          ap (λ k. val K T' (tree_next k)) f.2 ∙ ap (val K T') (tree_new K P hom T T' tree facts next f.0) ∙
+          value_symbol (next.slot f.0) (next.free.there f.0 f.1).0 ∙
           means_slot f.0 f.1 ∙ ap (place K) (sym f.2)
 
   -- source rows are derivably 0
@@ -211,7 +153,7 @@ module _ (K : Field) (P : Presentation K.Carrier) (hom : IsHomogeneous P) (T T' 
         omega (arith, f.1, next.basis.more),
         subst (λ s. relabel K (slot_of n next.count next.slot) (place K s) ≡ place K (n + f.0)) f.2
             (relabel_place K n next.count next.slot next.free.ascend f.0 f.1),
-        tree_new f.0 ∙ ap symbol' f.2,
+        (tree_new K P hom T T' tree facts next) f.0 ∙ ap symbol' f.2,
       )
 
   -- a symbol is derivably equal to the combination that it means
@@ -244,7 +186,7 @@ module _ (K : Field) (P : Presentation K.Carrier) (hom : IsHomogeneous P) (T T' 
   old_combined v h =
       back
       (then (of_path K P _ _ (ap (λ w. combined K tree_next w v) next.basis.more))
-      (then (longer K P tree_next n next.count v h) (of_path K P _ _ (trees_same K P tree tree_next n v tree_old))))
+      (then (longer K P tree_next n next.count v h) (of_path K P _ _ (trees_same K P tree tree_next n v (tree_old K P hom T T' tree facts next)))))
 
   images' : (g : ℕ) → g < length P.generators → (generator P g).weight ≤ T'.weight → DerivesFreely K P (gen g)
       (combined K tree_next (length T'.basis) (T'.image g))
@@ -283,7 +225,8 @@ module _ (K : Field) (P : Presentation K.Carrier) (hom : IsHomogeneous P) (T T' 
           (of_path K P _ _ (ap (combined K tree_next (length T'.basis)) (sym (product_filled K T T' (pair_number P T) means linear' step' i j p q e)))))
 
       go : Dec (i < n) → Dec (j < n) → DerivesFreely K P (bracket_of (tree_next i) (tree_next j)) (combined K tree_next (length T'.basis) (product K T' i j))
-      go (yes p) (yes q) = then (of_path K P _ _ (ap₂ bracket_of (tree_old i p) (tree_old j q))) (inside p q (dec_le (weight_at T i + weight_at T j) T.weight))
+      go (yes p) (yes q) = then (of_path K P _ _ (ap₂ bracket_of (tree_old K P hom T T' tree facts next i p) (tree_old K P hom T T' tree facts next j q)))
+          (inside p q (dec_le (weight_at T i + weight_at T j) T.weight))
       go (no p) d = absurd (omega (
         arith,
         w,
@@ -310,9 +253,9 @@ module _ (K : Field) (P : Presentation K.Carrier) (hom : IsHomogeneous P) (T T' 
     jacobis = jacobis' K P hom T T' tree facts next;
     cubes = cubes' K P hom T T' tree facts next;
     relations = relations' K P hom T T' tree facts next;
-    tree_over = tree_over';
-    tree_parity = tree_parity';
-    tree_weight = tree_weight';
+    tree_over = tree_over' K P hom T T' tree facts next;
+    tree_parity = tree_parity' K P hom T T' tree facts next;
+    tree_weight = tree_weight' K P hom T T' tree facts next;
     tree_val = tree_val';
     images = images';
     entries = entries';

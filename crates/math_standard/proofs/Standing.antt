@@ -23,9 +23,11 @@ use Rattle.math_values.proofs.Weights.{swept_stands}
 use Rattle.math_linear.proofs.Span.{span_of_kind}
 use Rattle.math_linear.proofs.Places.{zero_at}
 use Rattle.math_values.proofs.Facts.{Facts, one_value}
-use Rattle.math_standard.proofs.Next.{slot_new, span_derived}
-use Rattle.math_standard.proofs.NextSound.{tree_next, facts_next, value_is, row_none, free_place, source_none}
+use Rattle.math_standard.proofs.NewPlaces.{slot_new, span_derived}
+use Rattle.math_standard.proofs.NextTrees.{tree_next}
+use Rattle.math_standard.proofs.NextSound.{facts_next, value_is, row_none, free_place, source_none}
 use Rattle.math_standard.proofs.BuiltFacts.{built_whole}
+use Rattle.math_standard.proofs.Agreement.{joined_same}
 
 relabel_new : (K : Field) (old count : ℕ) (slot : ℕ → ℕ) (v : Vector K) (i : ℕ) → i < count → relabel K (slot_of old count slot) v (old + i) ≡ v (slot i)
 unfolding relabel
@@ -83,11 +85,6 @@ module _ (K : Field) (P : Presentation K.Carrier) (hom : IsHomogeneous P) (T T' 
 append_none : (xs : List Symbol) → xs ++ [] ≡ xs
 append_none [] = refl
 append_none (x ∷ xs) = ap (λ w. x ∷ w) (append_none xs)
-
-joined_same : (n : ℕ) (f g : ℕ → List Symbol) → ((i : ℕ) → i < n → f i ≡ g i) → joined n f ≡ joined n g
-unfolding joined
-joined_same zero f g h = refl
-joined_same (suc n) f g h = ap₂ (λ a b. a ++ b) (joined_same n f g (λ i l. h i (omega arith))) (h n (omega arith))
 
 joined_none : (n : ℕ) (f : ℕ → List Symbol) → ((i : ℕ) → i < n → f i ≡ []) → joined n f ≡ []
 unfolding joined

@@ -17,7 +17,7 @@ use Rattle.math_algebra.specs.Built.{IsNext, Built}
 use Rattle.math_algebra.specs.Built.Built.{built_start, built_next}
 use Rattle.math_linear.proofs.Vectors.{scale_scale, total_same, total_scale, total_place}
 use Rattle.math_values.proofs.Products.{bracket_places}
-use Rattle.math_standard.proofs.Next.{of_past}
+use Rattle.math_standard.proofs.NewPlaces.{of_past}
 use Rattle.math_standard.proofs.BuiltFacts.{built_whole}
 
 -- a bilinear form at a place on one side is a sum over the other

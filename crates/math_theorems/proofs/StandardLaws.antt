@@ -23,11 +23,12 @@ use Rattle.math_algebra.proofs.Equations.{sound_homogeneous}
 use Rattle.math_algebra.proofs.Degrees.{top_is}
 use Rattle.math_algebra.proofs.Derived.{of_path}
 use Rattle.math_algebra.proofs.Within.{derives_within, within_derives, combined_over, along}
-use Rattle.math_standard.proofs.Next.{trees_same}
+use Rattle.math_standard.proofs.NewPlaces.{trees_same}
 use Rattle.math_standard.proofs.BuiltFacts.{Whole, built_whole}
 use Rattle.math_standard.proofs.NextTables.{next_is}
 use Rattle.math_standard.proofs.Exists.{built_exists, source_closing}
-use Rattle.math_standard.proofs.Agreement.{Twins, standard_twins, symbol_same, symbol_over}
+use Rattle.math_standard.proofs.Agreement.{Twins, standard_twins, symbol_same}
+use Rattle.math_standard.proofs.SameCombinations.{symbol_over}
 use Rattle.math_values.proofs.SymbolLists.{place_symbol}
 use Rattle.math_standard.proofs.Main.{built_past, built_obeys, built_headline, built_expressions, built_unique}
 use Rattle.math_standard.proofs.Standing.{rows_exact, built_symbols}

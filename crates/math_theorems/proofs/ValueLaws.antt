@@ -8,7 +8,8 @@ use Rattle.math_algebra.proofs.Degrees.{is_top, void_top, parity_means, ParityMe
 use Rattle.math_algebra.proofs.Equations.{equation_has, equation_any}
 use Rattle.math_algebra.proofs.Parities.{parity_test, test_parity}
 use Rattle.math_values.proofs.Facts.{weight_top}
-use Rattle.math_values.proofs.Parts.{at_triple, exchange_parts, void_val}
+use Rattle.math_values.proofs.Parts.{exchange_parts, void_val}
+use Rattle.math_values.proofs.Symmetries.{at_triple}
 use Rattle.math_values.proofs.Sound.{jacobi_parts, sound, val_in}
 use Rattle.math_theorems.specs.Values.{WeightBoundsTop, ParityAsWritten, ParityIsTested, DerivesOverP, ValuesRespectDerivation, ValuesInParts, VoidIsZero, ExchangeInParts, JacobiInParts, OrderedTriplesSuffice}
 

@@ -20,7 +20,8 @@ use Rattle.math_algebra.proofs.Homogeneous.TopIs.{top_void, top_gen, top_sum, to
 use Rattle.math_algebra.proofs.Homogeneous.TopsAre.{top_end, top_more}
 use Rattle.math_linear.proofs.Vectors.{vplus-vzero}
 use Rattle.math_values.proofs.Products.{bracket_places}
-use Rattle.math_values.proofs.Parts.{product_exchange, at_triple}
+use Rattle.math_values.proofs.Parts.{product_exchange}
+use Rattle.math_values.proofs.Symmetries.{at_triple}
 use Rattle.math_values.proofs.Sound.{sound}
 use Rattle.math_algebra.proofs.Derived.{of_path}
 

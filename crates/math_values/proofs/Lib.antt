@@ -1,5 +1,6 @@
 pub mod Products
 pub mod Parts
+pub mod Symmetries
 pub mod Sound
 pub mod Soundness
 pub mod Steps

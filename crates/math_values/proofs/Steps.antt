@@ -99,9 +99,6 @@ module _ (K : Field) (T T' : Table K) (number : ℕ → ℕ → ℕ) (meaning : 
       (λ e o. step.filled i i l l (inr (refl, o)) (subst (λ w. weight_at T i + weight_at T w ≡ suc T.weight) (sym e) h))
       ∙ ap meaning (sym (outer_within K T number i j h))
 
-  n : ℕ
-  n = length T.basis
-
   pub bracket_kept : (b c : ℕ) → b + c ≤ T.weight → (x y : Vector K) → IsOf K T b x → IsOf K T c y → bracket K T' x y ≡ bracket K T x y
   bracket_kept b c m =
       bilinear_agree K (length T.basis) (λ i. weight_at T i ≡ b) (λ i. weight_at T i ≡ c) (bracket K T') (bracket K T)

@@ -15,7 +15,7 @@ use Rattle.math_linear.specs.Closed.{IsClosed, swept}
 use Rattle.math_algebra.specs.Built.{at_slot, relabel, meaning_of}
 use Rattle.math_algebra.specs.Standard.{combined}
 use Rattle.math_linear.proofs.Vectors.{place_other, place_same, vplus_comm, minus-vplus}
-use Rattle.math_linear.proofs.Numbers.{times-nought, nought-times}
+use Rattle.math_linear.proofs.Numbers.{times-nought}
 use Rattle.math_linear.specs.Linear.{IsLinear}
 use Rattle.math_linear.proofs.Linear.{linear_vzero, swept_linear}
 use Rattle.math_linear.proofs.Places.{zero_at, less_at, Only, Stands, by_places}
@@ -63,13 +63,6 @@ part_at_zero K even even = refl
 part_at_zero K even odd = refl
 part_at_zero K odd even = refl
 part_at_zero K odd odd = refl
-
-part_at_times : (K : Field) (c x : K.Carrier) (s t : Parity) → K.times c (part_at K x s t) ≡ K.times (part_at K c s t) x
-unfolding part_at
-part_at_times K c x even even = refl
-part_at_times K c x even odd = times-nought K c ∙ sym (nought-times K x)
-part_at_times K c x odd even = times-nought K c ∙ sym (nought-times K x)
-part_at_times K c x odd odd = refl
 
 part_at_same : (K : Field) (x : K.Carrier) (s : Parity) → part_at K x s s ≡ x
 unfolding part_at

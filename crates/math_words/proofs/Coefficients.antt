@@ -11,10 +11,6 @@ use Rattle.math_words.specs.Laws.{CoefficientsDecide}
 use Rattle.math_words.proofs.Orders.{same_itself, same_words}
 
 module _ (K : Field) where
-  more : (m : Word × K.Carrier) (u : Poly K) (f : Form K) → poly_value K (m ∷ u) f ≡ K.plus (K.times m.1 (f m.0)) (poly_value K u f)
-  unfolding poly_value
-  more m u f = refl
-
   nothing : (f : Form K) → poly_value K [] f ≡ K.nought
   unfolding poly_value
   nothing f = refl

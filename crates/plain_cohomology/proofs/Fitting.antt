@@ -1,21 +1,20 @@
 -- Over a prime no operation of the cohomology of a weight is refused.
-use Rattle.std.specs.Prelude.{◌≡◌, ℕ, zero, suc, ◌+◌, ◌++◌, List, [], ◌∷◌, length, map, Bool, false, Result, Ok, Err, if◌then◌else◌}
+use Rattle.std.specs.Prelude.{◌≡◌, ℕ, zero, suc, ◌+◌, ◌++◌, List, [], ◌∷◌, length, map, Bool, false, Result, Ok, Err}
 use mathlib.Core.Path.{refl, sym, subst}
 use Rattle.math_algebra.specs.Table.{Symbol, of_pair}
 use Rattle.math_algebra.specs.Symbols.{place_of}
 use Rattle.fpl_numbers.specs.declared.number.Num.{Num}
 use Rattle.fpl_numbers.specs.declared.number.Kind.TheVariants.{Prime}
 use Rattle.fpl_numbers.specs.declared.number.Unfit.{Unfit}
-use Rattle.fpl_numbers.specs.Numbers.{negative_of, is_nought}
+use Rattle.fpl_numbers.specs.Numbers.{negative_of}
 use Rattle.fpl_numbers.specs.Results.{and_then, map_ok}
 use Rattle.fpl_table.specs.Plain.{PlainTable, Pairing, nothing, plus, minus, pairing}
-use Rattle.fpl_table.specs.Sums.{add_each}
 use Rattle.fpl_table.specs.Value.{zero_row}
 use Rattle.fpl_rewrite.specs.Rows.{entry_if}
 use Rattle.fpl_rewrite.specs.Terms.{signed}
 use Rattle.plain_sources.specs.PrimeLaws.{DoesFit}
 use Rattle.plain_sources.proofs.Fits.{then_fits, map_fits}
-use Rattle.plain_sources.proofs.Fitting.{Always, prime_always, if_fits, add_at_fits}
+use Rattle.plain_sources.proofs.Fitting.{Always, prime_always, add_at_fits, each_fits}
 use Rattle.plain_spans.specs.Plain.{kernel_of, span_of}
 use Rattle.plain_spans.specs.Means.{AreAllFormed}
 use Rattle.plain_spans.proofs.Fitting.{all_formed_map, kernels_fit, spans_fit}
@@ -27,13 +26,6 @@ pub all_of_formed : (rs : List (Result (List Num) Unfit)) → AreAllFormed rs �
 all_of_formed [] h = ([], refl)
 all_of_formed (Ok row ∷ rs) h = map_fits (λ rows. row ∷ rows) (all_of rs) (all_of_formed rs h)
 all_of_formed (Err u ∷ rs) h = absurd h
-
-each_fits : (add : ℕ → Num → List Num → Result (List Num) Unfit) → ((t : ℕ) (c : Num) (v : List Num) → DoesFit (add t c v)) →
-    (t : ℕ) (cs v : List Num) → DoesFit (add_each add t cs v)
-each_fits add each t [] v = (v, refl)
-each_fits add each t (c ∷ cs) v =
-    then_fits (λ w. add_each add (t + 1) cs w) (if is_nought c then Ok v else add t c v)
-    (if_fits (is_nought c) (Ok v) (add t c v) (v, refl) (each t c v)) (λ w. each_fits add each (t + 1) cs w)
 
 module _ (p : ℕ) (T : PlainTable) (prime : T.kind ≡ Prime p) where
   pair_fits : (ps : List Symbol) (q : Pairing) (c : Num) (v : List Num) → DoesFit (add_pair T ps q c v)

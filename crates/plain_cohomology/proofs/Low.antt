@@ -38,6 +38,7 @@ use Rattle.plain_cohomology.proofs.Tuples.{left, right, single_at, singles_numbe
 use Rattle.plain_cohomology.proofs.Triples.{triple_reads}
 use Rattle.plain_cohomology.proofs.Kept.{kept_slots, pivot_among, pivot_not, all_among, among_all}
 use Rattle.plain_cohomology.proofs.Degrees.{h1_is, h1_rows, bounds_are}
+use Rattle.fpl_rows.proofs.Packings.{get_or_default}
 
 -- representatives are read below their count
 sum2_below : (K : Field) (n : ℕ) (c : ℕ → K.Carrier) (f g : ℕ → Two K) → ((k : ℕ) → k < n → f k ≡ g k) → sum2 K n c f ≡ sum2 K n c g
@@ -67,11 +68,6 @@ mapped f [] x h = absurd h
 mapped f (y ∷ ys) x (inl e) = inl (ap f e)
 mapped f (y ∷ ys) x (inr h) = inr (mapped f ys x h)
 
-defaults : {X : Type 0} (xs : List X) (k : ℕ) (d e : X) → k < length xs → get_or xs k d ≡ get_or xs k e
-defaults [] k d e l = absurd (omega arith)
-defaults (x ∷ xs) zero d e l = refl
-defaults (x ∷ xs) (suc k) d e l = defaults xs k d e (omega arith)
-
 not_true : (b : Bool) → not b ≡ true → b ≡ false
 not_true true e = absurd cc
 not_true false e = refl
@@ -82,9 +78,6 @@ module _ (T : PlainTable) (listed : IsField T.kind) (has : HasRows T) (weights :
 
   abbrev Triples : List (Result (List Num) Unfit)
   Triples = map (triple_row T w) (triples T w)
-
-  abbrev no_triple : Triple
-  no_triple = record { first = 0; second = 0; third = 0 }
 
   abbrev Cocycle2 : Vector K → Type 0
   Cocycle2 v = IsCocycleRow2 K (table_in T.kind T) w (pair_place T w) v
@@ -172,7 +165,7 @@ module _ (T : PlainTable) (listed : IsField T.kind) (has : HasRows T) (weights :
       (record {
         first = λ k x m. (h1_rows T listed has w low a.0 a.1.0 k x m).elements;
         second = λ k x m.
-            subst (AreElements T.kind) (sym (defaults (chosen b.0 c.0) k x [] m ∙ s.1.is k m)) (rows (s.0 k) [] (s.1.there k m).0).elements;
+            subst (AreElements T.kind) (sym (get_or_default (chosen b.0 c.0) k x [] m ∙ s.1.is k m)) (rows (s.0 k) [] (s.1.there k m).0).elements;
       })
 
   pub low_is : (P : Abstract K.Carrier) → ObeysLaw K P (table_in T.kind T) → (l : Low) → low_of T w ≡ Ok l → RepresentsLow T.kind T w l

@@ -16,16 +16,13 @@ use Rattle.math_cohomology.specs.Laws.{IsSorted}
 use Rattle.math_cohomology.specs.Tuples.{Singles, Pairs}
 use Rattle.plain_cohomology.specs.Plain.{Triple, single_cell, singles, pairs, is_triple, third_cell, second_cell, first_cell, triples, single_place}
 use Rattle.plain_cohomology.proofs.Lists.{Once, once_joined, once_kept, among_kept, kept_among, member_among, slot_of, slot_there, slot_back}
+use Rattle.std.proofs.lemmas.Bool.{and_parts}
 
 same_is : (x y : ℕ) → nat_eq x y ≡ true → x ≡ y
 same_is x y e = grind arith
 
 same_itself : (x : ℕ) → nat_eq x x ≡ true
 same_itself x = grind arith
-
-both_true : (a b : Bool) → a && b ≡ true → (a ≡ true) × (b ≡ true)
-both_true true b e = (refl, e)
-both_true false b e = absurd cc
 
 true_both : (a b : Bool) → a ≡ true → b ≡ true → a && b ≡ true
 true_both a b e f = ap₂ (λ a b. a && b) e f
@@ -43,7 +40,7 @@ symbol_same : (x y : Symbol) → same_symbol x y ≡ true → x ≡ y
 symbol_same (of_generator g) (of_generator h) e = ap of_generator (same_is g h e)
 symbol_same (of_generator g) (of_pair i j) e = absurd cc
 symbol_same (of_pair i j) (of_generator g) e = absurd cc
-symbol_same (of_pair i j) (of_pair k l) e = (let b = both_true (nat_eq i k) (nat_eq j l) e in ap₂ of_pair (same_is i k b.0) (same_is j l b.1))
+symbol_same (of_pair i j) (of_pair k l) e = (let b = and_parts (nat_eq i k) (nat_eq j l) e in ap₂ of_pair (same_is i k b.0) (same_is j l b.1))
 
 symbol_itself : (x : Symbol) → same_symbol x x ≡ true
 symbol_itself (of_generator g) = same_itself g
@@ -218,9 +215,9 @@ module _ (T : PlainTable) (w : ℕ) where
       let q = among_joined (length T.basis) (second_cell T w r.0) x r.2 in
       let p = among_joined (length T.basis) (third_cell T w r.0 q.0) x q.2 in
       let k = among_kept (is_triple T w r.0 q.0 p.0) (triple_of r.0 q.0 p.0) x p.2 in
-      let b = both_true (nat_eq (weight T r.0 + weight T q.0 + weight T p.0) w)
+      let b = and_parts (nat_eq (weight T r.0 + weight T q.0 + weight T p.0) w)
       (is_regular (table_in T.kind T) r.0 q.0 && is_regular (table_in T.kind T) q.0 p.0) k.0 in
-      let c = both_true (is_regular (table_in T.kind T) r.0 q.0) (is_regular (table_in T.kind T) q.0 p.0) b.1 in
+      let c = and_parts (is_regular (table_in T.kind T) r.0 q.0) (is_regular (table_in T.kind T) q.0 p.0) b.1 in
       subst IsTriple k.1 (record { below = p.1; sorted = (regular_is r.0 q.0 c.0, regular_is q.0 p.0 c.1); sum = same_is _ w b.0 })
 
   pub is_triple_of : (i j k : ℕ) → IsTriple (triple_of i j k) → Among (triples T w) (triple_of i j k)

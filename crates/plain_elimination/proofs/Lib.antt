@@ -1,3 +1,4 @@
+pub mod Fitting
 pub mod Sweeping
 pub mod PivotRows
 pub mod Spans

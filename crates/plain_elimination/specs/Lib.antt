@@ -1,3 +1,4 @@
 pub mod Plain
+pub mod Fitting
 pub mod Spans
 pub mod Steps

@@ -1,2 +1,3 @@
 pub mod Inverting
+pub mod RenumberedSteps
 pub mod Renumbering

@@ -102,7 +102,8 @@ module _ (p : ℕ) (K : Field) (value : ℕ → K.Carrier) (reads : ReadsResidue
         value (get_or (turned p m n xs (n * n)) (k * n + c) 0) ≡ (if is_odd (block m k c) then K.minus (M xs k c) else M xs k c)
     turned_value k c l h =
         ap value (get_turned p m n xs (n * n) (k * n + c) (place_below k c l h))
-        ∙ ap₂ (λ a b. value (if is_odd_place m a b then negated p (get_or xs (k * n + c) 0) else get_or xs (k * n + c) 0)) (place_row n k c h) (place_column n k c h)
+        ∙ ap₂ (λ a b. value (if is_odd_place m a b then negated p (get_or xs (k * n + c) 0) else get_or xs (k * n + c) 0)) (place_row n k c h)
+        (place_column n k c h)
         ∙ go (is_odd (block m k c))
       where
         go : (b : Bool) → value (if b then negated p (get_or xs (k * n + c) 0) else get_or xs (k * n + c) 0) ≡ (if b then K.minus (M xs k c) else M xs k c)
@@ -120,7 +121,8 @@ module _ (p : ℕ) (K : Field) (value : ℕ → K.Carrier) (reads : ReadsResidue
     length_out r (suc k) = length_added p _ _ _ ∙ length_added p (row r k) _ _ ∙ length_out r k
 
     out_below : (r k : ℕ) → AllBelow p (row r k)
-    out_below r zero = all_below p (replicate n 0) (λ i l. subst (λ w. w < p) (sym (get_or-replicate n i 0 0 (omega (arith, length-replicate {A = ℕ} n 0)))) positive)
+    out_below r zero = all_below p (replicate n 0) (λ i l. subst (λ w. w < p)
+        (sym (get_or-replicate n i 0 0 (omega (arith, length-replicate {A = ℕ} n 0)))) positive)
     out_below r (suc k) = added_below p _ _ _ positive (added_below p (row r k) _ _ positive (out_below r k))
 
     abbrev Sum : (r c k : ℕ) → K.Carrier

@@ -43,7 +43,8 @@ module _ (p : ℕ) (K : Field) (value : ℕ → K.Carrier) (reads : ReadsResidue
   pub zeros_good : IsSquare p n (zeros n)
   zeros_good = record {
     places = length-replicate {A = ℕ} (n * n) 0;
-    below = all_below p (zeros n) (λ i l. subst (λ w. w < p) (sym (get_or-replicate (n * n) i 0 0 (omega (arith, length-replicate {A = ℕ} (n * n) 0)))) positive);
+    below = all_below p (zeros n) (λ i l. subst (λ w. w < p) (sym (get_or-replicate (n * n) i 0 0
+        (omega (arith, length-replicate {A = ℕ} (n * n) 0)))) positive);
   }
 
   pub zeros_mean : X (zeros n) ≡ mzero K
@@ -58,7 +59,8 @@ module _ (p : ℕ) (K : Field) (value : ℕ → K.Carrier) (reads : ReadsResidue
   unfolding mplus
   added_means xs ys good also = inside_same (added p xs 1 ys) (λ r c. K.plus (X xs r c) (X ys r c))
       (λ r c a b.
-      ap value (get_added p xs 1 ys (r * n + c) (also.places ∙ sym good.places) (let l = place_below p K value reads n r c a b in let e = good.places in omega arith))
+      ap value (get_added p xs 1 ys (r * n + c) (also.places ∙ sym good.places)
+      (let l = place_below p K value reads n r c a b in let e = good.places in omega arith))
       ∙ reads.fused _ 1 _ (number_below p K value reads n xs good r c a b) reads.past_one (number_below p K value reads n ys also r c a b)
       ∙ ap₂ K.plus (sym (within p K value reads n xs r c a b))
       (ap (λ w. K.times w (value (get_or ys (r * n + c) 0))) reads.one_is ∙ unit-times K _ ∙ sym (within p K value reads n ys r c a b)))
@@ -102,12 +104,17 @@ module _ (p m n : ℕ) (listed : IsListed p) (images : List (List ℕ)) (good : 
   mutual
     unfolding matrix_of
 
-    pub tree_means : (t : Tree Num) → IsTerm (Prime p) (length images) t → Means (numbers_of p m n images t) (matrix_of (field_of (Prime p)) m n I (in_field (Prime p) t))
+    pub tree_means : (t : Tree Num) → IsTerm (Prime p) (length images) t →
+        Means (numbers_of p m n images t) (matrix_of (field_of (Prime p)) m n I (in_field (Prime p) t))
     tree_means (gen g) h = record { square = good (g - 1) [] (omega (arith, h.0, h.1)); same = refl }
     tree_means none h = record { square = zeros_good p K V R n; same = zeros_mean p K V R n }
     tree_means (sum_of es) h =
         let r = trees_mean es (zeros n) h (zeros_good p K V R n) in
-        record { square = r.square; same = r.same ∙ ap (λ w. mplus K w (matrices_of K m n I (all_in_field (Prime p) es))) (zeros_mean p K V R n) ∙ mplus_comm K _ _ ∙ mplus-mzero K _ }
+        record {
+          square = r.square;
+          same = r.same ∙ ap (λ w. mplus K w (matrices_of K m n I (all_in_field (Prime p) es))) (zeros_mean p K V R n) ∙
+              mplus_comm K _ _ ∙ mplus-mzero K _;
+        }
     tree_means (multiple c e) h =
         let r = tree_means e h.1 in
         record {

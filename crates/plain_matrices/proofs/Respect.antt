@@ -32,7 +32,8 @@ pub brackets_mean : BracketMeans
 brackets_mean k p m n e listed xs ys g h = subst Law (sym e) law
   where
     Law : Kind → Type 0
-    Law k = IsSquare p n (bracket_numbers p m n xs ys) × (matrix_in k n (bracket_numbers p m n xs ys) ≡ mbracket (field_of k) m n (matrix_in k n xs) (matrix_in k n ys))
+    Law k = IsSquare p n (bracket_numbers p m n xs ys) × (matrix_in k n (bracket_numbers p m n xs ys) ≡ mbracket (field_of k) m n (matrix_in k n xs)
+        (matrix_in k n ys))
 
     law : Law (Prime p)
     law = (

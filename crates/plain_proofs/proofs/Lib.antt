@@ -1,3 +1,5 @@
 pub mod Tests
 mod Members
+mod Citing
+mod Passing
 mod Instances

@@ -6,13 +6,7 @@ use Rattle.math_fields.specs.Field.{Field}
 use Rattle.math_algebra.specs.Tree.{Tree, Trees, gen, none, sum_of, multiple, bracket_of, end, more, trees}
 use Rattle.math_algebra.specs.Derives.{Expression, sum_all}
 use Rattle.plain_proofs.specs.Checks.{decided, is_number, same_tree, same_trees, same_list, list_of}
-
-pub both : (b c : Bool) → (b && c) ≡ true → (b ≡ true) × (c ≡ true)
-both true c h = (refl, h)
-both false c h = absurd (differ h)
-  where
-    differ : false ≡ true → ⊥
-    differ e = cc
+use Rattle.std.proofs.lemmas.Bool.{and_parts}
 
 pub never : {A : Type 0} → false ≡ true → A
 never h = absurd (differ h)
@@ -66,13 +60,13 @@ module _ (K : Field) where
     tree_means none none q = refl
     tree_means (sum_of es) (sum_of fs) q = ap sum_of (trees_mean es fs q)
     tree_means (multiple c e) (multiple d f) q =
-        ap₂ multiple (number_means K c d (both _ _ q).0) (tree_means e f (both _ _ q).1)
-    tree_means (bracket_of a b) (bracket_of c d) q = ap₂ bracket_of (tree_means a c (both _ _ q).0) (tree_means b d (both _ _ q).1)
+        ap₂ multiple (number_means K c d (and_parts _ _ q).0) (tree_means e f (and_parts _ _ q).1)
+    tree_means (bracket_of a b) (bracket_of c d) q = ap₂ bracket_of (tree_means a c (and_parts _ _ q).0) (tree_means b d (and_parts _ _ q).1)
     tree_means e f q = never q
 
     trees_mean : (es fs : Trees K.Carrier) → same_trees K es fs ≡ true → es ≡ fs
     trees_mean end end q = refl
-    trees_mean (more e es) (more f fs) q = ap₂ more (tree_means e f (both _ _ q).0) (trees_mean es fs (both _ _ q).1)
+    trees_mean (more e es) (more f fs) q = ap₂ more (tree_means e f (and_parts _ _ q).0) (trees_mean es fs (and_parts _ _ q).1)
     trees_mean es fs q = never q
 
 pub listed_trees : {N : Type 0} (es : Trees N) → trees (list_of es) ≡ es
@@ -92,10 +86,10 @@ same_sums K (e ∷ es) [] = refl
 same_sums K (e ∷ es) (f ∷ fs) = ap (λ b. same_tree K e f && b) (same_sums K es fs)
 
 pub all_three : {a b c : Bool} → (a && b && c) ≡ true → (a ≡ true) × (b ≡ true) × (c ≡ true)
-all_three {a} {b} {c} h = let l = both (a && b) c h in let m = both a b l.0 in (m.0, m.1, l.1)
+all_three {a} {b} {c} h = let l = and_parts (a && b) c h in let m = and_parts a b l.0 in (m.0, m.1, l.1)
 
 pub all_four : {a b c d : Bool} → (a && b && c && d) ≡ true → (a ≡ true) × (b ≡ true) × (c ≡ true) × (d ≡ true)
-all_four {a} {b} {c} {d} h = let l = both (a && b && c) d h in let m = all_three l.0 in (m.0, m.1, m.2, l.1)
+all_four {a} {b} {c} {d} h = let l = and_parts (a && b && c) d h in let m = all_three l.0 in (m.0, m.1, m.2, l.1)
 
 pub all_five : {a b c d e : Bool} → (a && b && c && d && e) ≡ true → (a ≡ true) × (b ≡ true) × (c ≡ true) × (d ≡ true) × (e ≡ true)
-all_five {a} {b} {c} {d} {e} h = let l = both (a && b && c && d) e h in let m = all_four l.0 in (m.0, m.1, m.2, m.3, l.1)
+all_five {a} {b} {c} {d} {e} h = let l = and_parts (a && b && c && d) e h in let m = all_four l.0 in (m.0, m.1, m.2, m.3, l.1)

@@ -1,19 +1,19 @@
 -- The rank of a weight is the dimension of the span of the matrices of all its expressions.
-use Rattle.std.specs.Prelude.{ℕ, zero, suc, ◌≡◌, ◌⊎◌, ◌<◌, ◌≤◌, ◌+◌, ◌-◌, ◌*◌, ◌/◌, ◌%◌, ◌↔◌, List, [], ◌∷◌, ◌++◌, length, get_or, map, All, cond, nat_lt, Result, Ok}
-use mathlib.Core.Path.{sym, refl, ap, ap₂, ◌∙◌, subst, fun_ext}
+use Rattle.std.specs.Prelude.{ℕ, zero, suc, ◌≡◌, ◌<◌, ◌≤◌, ◌+◌, ◌-◌, ◌*◌, ◌/◌, ◌%◌, ◌↔◌, List, [], ◌∷◌, ◌++◌, length, get_or, map, Result, Ok}
+use mathlib.Core.Path.{sym, refl, ap, ◌∙◌, subst, fun_ext}
 use mathlib.Core.Logic.{inl, inr}
 use native.Mathlib.Omega.{arith}
 use native.Mathlib.Decide.{dec_lt}
 use Rattle.std.proofs.lemmas.List.{length-map}
 use Rattle.math_fields.specs.Field.{Field}
-use Rattle.math_linear.specs.Vector.{Vector, EndsAt}
+use Rattle.math_linear.specs.Vector.{Vector}
 use Rattle.math_linear.specs.Lists.{vector_of}
-use Rattle.math_linear.specs.Span.{Spanned, InSpan}
+use Rattle.math_linear.specs.Span.{Spanned}
 use Rattle.math_linear.specs.Closed.{IsClosedForm}
 use Rattle.math_linear.proofs.Span.{spanned_one, spanned_more, in_span}
-use Rattle.math_algebra.specs.Tree.{Tree, none, generator}
+use Rattle.math_algebra.specs.Tree.{Tree, none}
 use Rattle.math_algebra.specs.Table.{Symbol, of_generator, of_pair, Basis, no_basis, weight_at}
-use Rattle.math_matrices.specs.Matrices.{Matrix, block, HasBlock, matrix_of, Respects}
+use Rattle.math_matrices.specs.Matrices.{Matrix, matrix_of}
 use Rattle.math_matrices.specs.Ranks.{flat, IsMatrixOfWeight, IsMatrixOfBasis}
 use Rattle.math_matrices.proofs.Ranks.{basis_spans_weight}
 use Rattle.fpl_numbers.specs.declared.number.Num.{Num}
@@ -21,7 +21,7 @@ use Rattle.fpl_numbers.specs.declared.number.Kind.{Kind}
 use Rattle.fpl_numbers.specs.declared.number.Kind.TheVariants.{Prime}
 use Rattle.fpl_numbers.specs.declared.number.Unfit.{Unfit}
 use Rattle.fpl_numbers.specs.Numbers.{IsListed, IsField, residue}
-use Rattle.fpl_numbers.specs.Kinds.{Number, field_of, number_of}
+use Rattle.fpl_numbers.specs.Kinds.{field_of, number_of}
 use Rattle.fpl_numbers.specs.Results.{map_ok}
 use Rattle.fpl_scalar.specs.Vectors.{AreElements}
 use Rattle.fpl_scalar.proofs.ResidueRows.{elements_from_below}
@@ -41,13 +41,12 @@ use Rattle.plain_spans.specs.Plain.{span_of}
 use Rattle.plain_spans.specs.Means.{IsFormed, AreFormed, AreAllFormed}
 use Rattle.plain_spans.proofs.Fitting.{spans_fit}
 use Rattle.plain_spans.proofs.Gathered.{span_means}
-use Rattle.plain_matrices.specs.Plain.{IsSquare, numbers_of}
-use Rattle.plain_matrices.specs.Means.{matrix_by, matrix_in, image_in}
+use Rattle.plain_matrices.specs.Plain.{IsSquare}
+use Rattle.plain_matrices.specs.Means.{matrix_in, image_in}
 use Rattle.plain_matrices.specs.Relations.{AreMatricesOf, AreRespected}
-use Rattle.plain_ranks.specs.Ranks.{basis_numbers, rows_from, dimension_of, rank_of, RankMeans, RankFits}
-use Rattle.plain_matrices.proofs.Residues.{ReadsResidues, reads_prime}
-use Rattle.plain_matrices.proofs.BracketNumbers.{within, below_rows, past_columns, place_below}
-use Rattle.plain_matrices.proofs.Entries.{place_row, place_column}
+use Rattle.plain_ranks.specs.Ranks.{basis_numbers, rows_from, dimension_of, RankMeans, RankFits}
+use Rattle.plain_matrices.proofs.Residues.{ReadsResidues}
+use Rattle.plain_matrices.proofs.BracketNumbers.{within}
 use Rattle.plain_matrices.proofs.Respect.{numbers_mean, respect_means, place_at, reads_kind, image_graded}
 
 -- the vector of a list of residues
@@ -211,7 +210,8 @@ module _ (p : Presentation) (q m n : ℕ) (images : List (List ℕ)) (of : AreMa
           numbers = r.numbers ∙ flat_numbers p.field q m n of.field of.listed (basis_numbers q m n images T r.element) s.0 ∙ ap (flat (field_of p.field) n) s.1;
         }
 
-    of_basis : (v : Vector (field_of p.field)) → IsMatrixOfBasis (field_of p.field) (table_in p.field T) (printed_tree p T) m n (image_in p.field n images) w v →
+    of_basis : (v : Vector (field_of p.field)) → IsMatrixOfBasis (field_of p.field) (table_in p.field T) (printed_tree p T) m n
+        (image_in p.field n images) w v →
         IsFormed p.field rows v
     of_basis v h =
         let f = one_of_weight h.element h.there h.weight in
@@ -255,7 +255,8 @@ module _ (p : Presentation) (q m n : ℕ) (images : List (List ℕ)) (of : AreMa
       ends = λ i l t h. vector_past (field_of p.field) (number_of p.field) (get_or closed i []) t (omega (arith, h, (s.0.are_rows i [] l).length_is));
     }
       where
-        s : IsClosedList p.field (n * n) closed × ((v : Vector (field_of p.field)) → InSpanOf p.field closed v ↔ Spanned (field_of p.field) (IsFormed p.field rows) v)
+        s : IsClosedList p.field (n * n) closed × ((v : Vector (field_of p.field)) → InSpanOf p.field closed v ↔
+            Spanned (field_of p.field) (IsFormed p.field rows) v)
         s = span_means p.field is_field (n * n) rows closed
             (are_formed p.field q m n of.field of.listed images T square (through T (w - 1)) (dimension_of T w) ends) e
 

@@ -7,23 +7,20 @@
 --   RankMeans           where the matrices respect the presentation, that is the dimension of the span of the matrices of all
 --                                   expressions of the weight
 --   RankFits             over a prime every operation fits
-use Rattle.std.specs.Prelude.{ℕ, zero, suc, ◌≡◌, ◌⊎◌, ◌<◌, ◌≤◌, ◌+◌, ◌-◌, ◌*◌, ◌/◌, ◌%◌, ◌↔◌, List, [], ◌∷◌, length, slice_index, get_or, map, All, Result, Ok}
+use Rattle.std.specs.Prelude.{ℕ, zero, suc, ◌≡◌, ◌≤◌, ◌+◌, ◌-◌, ◌*◌, List, [], ◌∷◌, length, get_or, map, Result, Ok}
 use Rattle.math_linear.specs.Vector.{Vector}
 use Rattle.math_linear.specs.Closed.{IsClosedForm}
-use Rattle.math_algebra.specs.Tree.{none, generator}
-use Rattle.math_matrices.specs.Matrices.{block, Respects}
+use Rattle.math_algebra.specs.Tree.{none}
 use Rattle.math_matrices.specs.Ranks.{IsMatrixOfWeight}
 use Rattle.fpl_numbers.specs.declared.number.Num.{Num}
 use Rattle.fpl_numbers.specs.declared.number.Kind.{Kind}
 use Rattle.fpl_numbers.specs.declared.number.Kind.TheVariants.{Prime}
 use Rattle.fpl_numbers.specs.declared.number.Unfit.{Unfit}
-use Rattle.fpl_numbers.specs.Numbers.{IsListed, residue}
+use Rattle.fpl_numbers.specs.Numbers.{residue}
 use Rattle.fpl_numbers.specs.Kinds.{field_of}
 use Rattle.fpl_numbers.specs.Results.{map_ok}
 use Rattle.fpl_model.specs.declared.presentation.Presentation.{Presentation}
-use Rattle.fpl_model.specs.declared.presentation.Equation.{Equation}
-use Rattle.fpl_model.specs.Meaning.{plain, presentation_in}
-use Rattle.fpl_model.specs.Sound.{IsSound}
+use Rattle.fpl_model.specs.Meaning.{presentation_in}
 use Rattle.fpl_table.specs.Plain.{PlainTable, through}
 use Rattle.fpl_table.specs.Shape.{basis_trees}
 use Rattle.plain_tables.specs.Holds.{Holds}

@@ -7,6 +7,7 @@ pub mod NamedOrigins
 pub mod StoredBack
 pub mod ClosedBack
 pub mod Whole
+pub mod Staying
 pub mod Slimming
 pub mod Slimmed
 pub mod Numbered

@@ -22,7 +22,6 @@ use Rattle.fpl_log.specs.declared.step.Step.TheVariants.{Insert, Close}
 use Rattle.plain_elimination.specs.Plain.{PivotRow, IsPivotRow, stands_at, Swept, taken_off, sweep_by, sweep_at, sweep_of, Held, Elimination, Inserted, keep_of, insert_of, close_by, close_to}
 use Rattle.plain_elimination.proofs.Sweeping.{at_reads}
 use Rattle.plain_elimination.proofs.Found.{insert_pivots, close_pivots}
-use Rattle.plain_tables.proofs.Pushed.{zero_element}
 use Rattle.fpl_table.specs.Plain.{PlainTable, symbols_in}
 use Rattle.fpl_rewrite.specs.Origins.{origins_of}
 use Rattle.plain_weights.specs.Weight.{put_of, gather, close_weight}
@@ -30,6 +29,7 @@ use Rattle.plain_weights.proofs.Recorded.{put_parts, run_parts}
 use Rattle.fpl_check.specs.Premises.{AreFactorsOf, HasNumbersOf}
 use Rattle.fpl_check.proofs.ListedOrigins.{contains_rest}
 use Rattle.fpl_check.proofs.Conclusions.{HaveRows}
+use Rattle.fpl_table.proofs.NewNumbers.{nought_element}
 
 module _ (kind : Kind) (listed : IsField kind) (n : ℕ) where
   reads : Reads kind (field_of kind) (number_of kind)
@@ -71,7 +71,7 @@ module _ (kind : Kind) (listed : IsField kind) (n : ℕ) where
   keep_numbers : (h g : Held) (o : Origin) (x : Swept) (lead : Option ℕ) → IsSweep x → lead_of x.row ≡ lead → All (HasNumbersOf kind) h.steps →
       keep_of kind h o x lead ≡ Ok g → All (HasNumbersOf kind) g.steps
   keep_numbers h g o x None is l all e = subst (λ g. All (HasNumbersOf kind) g.steps) (ok_same e)
-      (all_more (HasNumbersOf kind) h.steps (Insert o x.terms (residue 0)) all (is.factors, zero_element kind listed))
+      (all_more (HasNumbersOf kind) h.steps (Insert o x.terms (residue 0)) all (is.factors, nought_element kind listed))
   keep_numbers h g o x (Some s) is l all e =
       let c = get_or x.row (s - 1) (residue 0) in
       let f = part_fits _ (scale_of kind (inverse_of kind c) x.row) g e in

@@ -1,9 +1,8 @@
 -- Steps that are left out, because they conclude zero, change no conclusion of the others, operation by operation.
-use Rattle.std.specs.Prelude.{◌≡◌, ◌≢◌, ℕ, ◌+◌, ◌-◌, ◌<◌, ◌≤◌, List, [], ◌∷◌, ◌++◌, length, drop, get_or, slice_get, Option, Some, None, unwrap_or, Ok, Bool, true, false, All, if◌then◌else◌}
+use Rattle.std.specs.Prelude.{◌≡◌, ◌≢◌, ℕ, ◌+◌, ◌-◌, ◌<◌, List, [], ◌∷◌, ◌++◌, length, drop, get_or, slice_get, Option, Some, None, unwrap_or, Ok, Bool, true, false, All, if◌then◌else◌}
 use mathlib.Core.Path.{refl, sym, ap, ◌∙◌, subst}
 use native.Mathlib.Omega.{arith}
-use native.Mathlib.Decide.{ℕ_discrete}
-use Rattle.std.proofs.lemmas.List.{length-append, get_or_append_left, get_or_push}
+use Rattle.std.proofs.lemmas.List.{length-append, get_or_push}
 use Rattle.math_linear.specs.Vector.{vplus, scale}
 use Rattle.math_linear.specs.Lists.{vector_of}
 use Rattle.math_linear.proofs.Vectors.{vplus-vzero, scale-vzero}
@@ -38,6 +37,7 @@ use Rattle.fpl_check.proofs.StepParts.{all_cited, InsertParts, CloseParts, StepP
 use Rattle.fpl_check.proofs.Conclusions.{Concludes, HaveRows, rows_more}
 use Rattle.plain_sections.proofs.InOrder.{dependent_zero, is_there}
 use Rattle.plain_sections.proofs.StepsMore.{is_sort, named_is, named_sort, cites_all}
+use Rattle.plain_sections.proofs.Staying.{Stays, Agrees, Same, agrees_more, same_more}
 
 module _ (T : PlainTable) (p : Presentation) (listed : IsField T.kind) (n : ℕ) (sources : HaveRows T p n) (steps slim : List Step) where
   reads : Reads T.kind (field_of T.kind) (number_of T.kind)
@@ -56,53 +56,8 @@ module _ (T : PlainTable) (p : Presentation) (listed : IsField T.kind) (n : ℕ)
       (all_nought T.kind (field_of T.kind) (number_of T.kind) reads u b.elements z)
       ∙ ap (vplus (field_of T.kind) (vector_of (field_of T.kind) (number_of T.kind) v)) (scale-vzero (field_of T.kind) _) ∙ vplus-vzero (field_of T.kind) _))
 
-  -- the step i that had the new number m, or was left out
-  record Stays (earlier' : List (List Num)) (i m : ℕ) (row : List Num) : Type 0 where
-    from_one : 1 ≤ m
-    to_end : m ≤ length earlier'
-    is : get_or earlier' (m - 1) [] ≡ row
-    sorts : (sort : Cited) → is_sort sort (slice_get steps i) ≡ true → is_sort sort (slice_get slim (m - 1)) ≡ true
-
-  Agrees : List (List Num) → ℕ → Option ℕ → List Num → Type 0
-  Agrees earlier' i None row = lead_of row ≡ None
-  Agrees earlier' i (Some m) row = Stays earlier' i m row
-
-  record Same (numbers : List (Option ℕ)) (earlier earlier' : List (List Num)) : Type 0 where
-    same_length : length numbers ≡ length earlier
-    each : (i : ℕ) → i < length earlier → Agrees earlier' i (get_or numbers i None) (get_or earlier i [])
-
-  agrees_more : (earlier' : List (List Num)) (x : List Num) (i : ℕ) (o : Option ℕ) (row : List Num) → Agrees earlier' i o row →
-      Agrees (earlier' ++ x ∷ []) i o row
-  unfolding Agrees
-  agrees_more earlier' x i None row h = h
-  agrees_more earlier' x i (Some m) row h = record {
-    from_one = h.from_one;
-    to_end = (let a = h.to_end in let b = length-append earlier' (x ∷ []) in omega (arith, a, b));
-    is = get_or_append_left earlier' (x ∷ []) [] (m - 1) (let a = h.to_end in let b = h.from_one in omega (arith, a, b)) ∙ h.is;
-    sorts = h.sorts;
-  }
-
-  same_more : (numbers : List (Option ℕ)) (earlier earlier' after : List (List Num)) (o : Option ℕ) (row : List Num) → Same numbers earlier earlier' →
-      ((i : ℕ) (o : Option ℕ) (row : List Num) → Agrees earlier' i o row → Agrees after i o row) → Agrees after (length earlier) o row →
-      Same (numbers ++ o ∷ []) (earlier ++ row ∷ []) after
-  same_more numbers earlier earlier' after o row h on new = record {
-    same_length = length-append numbers (o ∷ []) ∙ ap (λ k. k + 1) h.same_length ∙ sym (length-append earlier (row ∷ []));
-    each = λ i l. at i l (ℕ_discrete i (length earlier));
-  }
-    where
-      at : (i : ℕ) → i < length (earlier ++ row ∷ []) → Dec (i ≡ length earlier) →
-          Agrees after i (get_or (numbers ++ o ∷ []) i None) (get_or (earlier ++ row ∷ []) i [])
-      at i l (yes d) =
-          subst (λ w. Agrees after i w (get_or (earlier ++ row ∷ []) i [])) (sym (get_or_push numbers o None i (h.same_length ∙ sym d)))
-          (subst (λ w. Agrees after i o w) (sym (get_or_push earlier row [] i (sym d))) (subst (λ w. Agrees after w o row) (sym d) new))
-      at i l (no d) =
-          let below : i < length earlier = (let k = length-append earlier (row ∷ []) in omega (arith, l, d, k)) in
-          subst (λ w. Agrees after i w (get_or (earlier ++ row ∷ []) i []))
-          (sym (get_or_append_left numbers (o ∷ []) None i (let k = h.same_length in omega (arith, below, k))))
-          (subst (λ w. Agrees after i (get_or numbers i None) w) (sym (get_or_append_left earlier (row ∷ []) [] i below))
-          (on i (get_or numbers i None) (get_or earlier i []) (h.each i below)))
-
-  module _ (numbers : List (Option ℕ)) (earlier earlier' : List (List Num)) (same : Same numbers earlier earlier') (are : AreRows T.kind n earlier) where
+  module _ (numbers : List (Option ℕ)) (earlier earlier' : List (List Num)) (same : Same steps slim numbers earlier earlier')
+      (are : AreRows T.kind n earlier) where
     -- terms that stay cite steps of the same sort
     cites_stay : (sort : Cited) (ts : List Term) → All (λ t. named sort steps (length earlier + 1) t.step ≡ true) ts →
         All (λ t. named sort slim (length earlier' + 1) t.step ≡ true) (slim_terms numbers ts)
@@ -115,7 +70,7 @@ module _ (T : PlainTable) (p : Presentation) (listed : IsField T.kind) (n : ℕ)
         (named_sort sort steps (length earlier + 1) t.step first)
         (cites_stay sort ts (all_tail (λ t. named sort steps (length earlier + 1) t.step ≡ true) t ts all))
       where
-        go : (o : Option ℕ) → Agrees earlier' (t.step - 1) o (get_or earlier (t.step - 1) []) → is_sort sort (slice_get steps (t.step - 1)) ≡ true →
+        go : (o : Option ℕ) → Agrees steps slim earlier' (t.step - 1) o (get_or earlier (t.step - 1) []) → is_sort sort (slice_get steps (t.step - 1)) ≡ true →
             All (λ t. named sort slim (length earlier' + 1) t.step ≡ true) (slim_terms numbers ts) →
             All (λ t. named sort slim (length earlier' + 1) t.step ≡ true) (slim_term o t (slim_terms numbers ts))
         go None h s rest = rest
@@ -139,7 +94,7 @@ module _ (T : PlainTable) (p : Presentation) (listed : IsField T.kind) (n : ℕ)
         (all_tail (IsTermOf T.kind (length earlier)) t ts all) f.1.1 in
         go f.0 (new_number numbers t.step) (same.each (t.step - 1) inside) u a f.1.0 rest
       where
-        go : (x : List Num) (o : Option ℕ) → Agrees earlier' (t.step - 1) o (get_or earlier (t.step - 1) []) →
+        go : (x : List Num) (o : Option ℕ) → Agrees steps slim earlier' (t.step - 1) o (get_or earlier (t.step - 1) []) →
             IsRowOf T.kind n (get_or earlier (t.step - 1) []) → IsTermOf T.kind (length earlier) t →
             axpy_of T.kind v (negative_of T.kind t.factor) (term_row earlier t) ≡ Ok x → terms_off T.kind earlier' x (slim_terms numbers ts) ≡ Ok w →
             terms_off T.kind earlier' v (slim_term o t (slim_terms numbers ts)) ≡ Ok w
@@ -150,8 +105,8 @@ module _ (T : PlainTable) (p : Presentation) (listed : IsField T.kind) (n : ℕ)
             ap (λ y. and_then (λ z. terms_off T.kind earlier' z (slim_terms numbers ts)) (axpy_of T.kind v (negative_of T.kind t.factor) y)) h.is
             ∙ ap (and_then (λ z. terms_off T.kind earlier' z (slim_terms numbers ts))) f ∙ rest
 
-    of_stays : (of : ℕ) (o : Option ℕ) → o ≢ None → Agrees earlier' (of - 1) o (get_or earlier (of - 1) []) →
-        Stays earlier' (of - 1) (unwrap_or o 0) (get_or earlier (of - 1) [])
+    of_stays : (of : ℕ) (o : Option ℕ) → o ≢ None → Agrees steps slim earlier' (of - 1) o (get_or earlier (of - 1) []) →
+        Stays steps slim earlier' (of - 1) (unwrap_or o 0) (get_or earlier (of - 1) [])
     unfolding Agrees
     of_stays of None d h = absurd (d refl)
     of_stays of (Some m) d h = h
@@ -192,7 +147,7 @@ module _ (T : PlainTable) (p : Presentation) (listed : IsField T.kind) (n : ℕ)
 
     -- the step that is kept stands where it should
     new_stays : (s : Step) (ss more : List Step) (row : List Num) → drop (length earlier) steps ≡ s ∷ ss →
-        drop (length earlier') slim ≡ slim_step numbers s ∷ more → Stays (earlier' ++ row ∷ []) (length earlier) (length earlier' + 1) row
+        drop (length earlier') slim ≡ slim_step numbers s ∷ more → Stays steps slim (earlier' ++ row ∷ []) (length earlier) (length earlier' + 1) row
     new_stays s ss more row from from' =
         let here = is_there steps (length earlier) s s ss from in
         let there = is_there slim (length earlier') (slim_step numbers s) s more from' in
@@ -236,13 +191,13 @@ module _ (T : PlainTable) (p : Presentation) (listed : IsField T.kind) (n : ℕ)
   Follows ss =
       (rest earlier earlier' : List (List Num)) (numbers : List (Option ℕ)) (count : ℕ) → length earlier' ≡ count →
       Concludes T p steps earlier ss rest → drop (length earlier) steps ≡ ss → drop count slim ≡ slim_steps numbers count ss →
-      Same numbers earlier earlier' → AreInOrder numbers count ss → AreRows T.kind n earlier → All (HasNumbersOf T.kind) ss →
+      Same steps slim numbers earlier earlier' → AreInOrder numbers count ss → AreRows T.kind n earlier → All (HasNumbersOf T.kind) ss →
       IsSlim earlier' (slim_steps numbers count ss) (close_rows ss rest)
 
   insert_follows : (o : Origin) (ts : List Term) (c : Num) (ss : List Step) → Follows ss →
       (row : List Num) (rest earlier earlier' : List (List Num)) (numbers : List (Option ℕ)) (count : ℕ) → length earlier' ≡ count →
       InsertParts T p steps earlier o ts c row → Concludes T p steps (earlier ++ row ∷ []) ss rest → drop (length earlier) steps ≡ Insert o ts c ∷ ss →
-      Same numbers earlier earlier' → AreRows T.kind n earlier → AreRows T.kind n (earlier ++ row ∷ []) →
+      Same steps slim numbers earlier earlier' → AreRows T.kind n earlier → AreRows T.kind n (earlier ++ row ∷ []) →
       AreFactorsOf T.kind ts → All (HasNumbersOf T.kind) ss → (b : Bool) → is_nought c ≡ b →
       drop count slim ≡ kept_if b (slim_step numbers (Insert o ts c)) (slim_steps (numbers ++ (next_number b count) ∷ []) (next_count b count) ss) →
       AreInOrder (numbers ++ (next_number b count) ∷ []) (next_count b count) ss →
@@ -253,7 +208,8 @@ module _ (T : PlainTable) (p : Presentation) (listed : IsField T.kind) (n : ℕ)
       let here = is_there steps (length earlier) (Insert o ts c) (Insert o ts c) ss from in
       follows rest (earlier ++ row ∷ []) earlier' (numbers ++ None ∷ []) count long h
       (ap (λ k. drop k steps) (length-append earlier (row ∷ [])) ∙ here.after) from'
-      (same_more numbers earlier earlier' earlier' None row same (λ i o r a. a) (dependent_zero (length earlier + 1) c row parts.dependent z)) order more all
+      (same_more steps slim numbers earlier earlier' earlier' None row same (λ i o r a. a)
+      (dependent_zero (length earlier + 1) c row parts.dependent z)) order more all
   insert_follows o ts c ss follows row rest earlier earlier' numbers count long parts h from same are more factors all false z from' order =
       let here = is_there steps (length earlier) (Insert o ts c) (Insert o ts c) ss from in
       let there = is_there slim count (slim_step numbers (Insert o ts c)) (Insert o ts c)
@@ -264,8 +220,8 @@ module _ (T : PlainTable) (p : Presentation) (listed : IsField T.kind) (n : ℕ)
       (follows rest (earlier ++ row ∷ []) (earlier' ++ row ∷ []) (numbers ++ (Some (count + 1)) ∷ []) (count + 1)
       (length-append earlier' (row ∷ []) ∙ ap (λ k. k + 1) long) h
       (ap (λ k. drop k steps) (length-append earlier (row ∷ [])) ∙ here.after) there.after
-      (same_more numbers earlier earlier' (earlier' ++ row ∷ []) (Some (count + 1)) row same (λ i o r a. agrees_more earlier' row i o r a)
-      (subst (λ k. Stays (earlier' ++ row ∷ []) (length earlier) (k + 1) row) long
+      (same_more steps slim numbers earlier earlier' (earlier' ++ row ∷ []) (Some (count + 1)) row same (λ i o r a. agrees_more steps slim earlier' row i o r a)
+      (subst (λ k. Stays steps slim (earlier' ++ row ∷ []) (length earlier) (k + 1) row) long
       (new_stays numbers earlier earlier' same are (Insert o ts c) ss (slim_steps (numbers ++ (Some (count + 1)) ∷ []) (count + 1) ss) row from
       (ap (λ k. drop k slim) long ∙ from')))) order more all)
 
@@ -289,8 +245,8 @@ module _ (T : PlainTable) (p : Presentation) (listed : IsField T.kind) (n : ℕ)
       (all_follow ss rest (earlier ++ row ∷ []) (earlier' ++ row ∷ []) (numbers ++ (Some (count + 1)) ∷ []) (count + 1)
       (length-append earlier' (row ∷ []) ∙ ap (λ k. k + 1) long) h.1
       (ap (λ k. drop k steps) (length-append earlier (row ∷ [])) ∙ here.after) there.after
-      (same_more numbers earlier earlier' (earlier' ++ row ∷ []) (Some (count + 1)) row same (λ i o r a. agrees_more earlier' row i o r a)
-      (subst (λ k. Stays (earlier' ++ row ∷ []) (length earlier) (k + 1) row) long
+      (same_more steps slim numbers earlier earlier' (earlier' ++ row ∷ []) (Some (count + 1)) row same (λ i o r a. agrees_more steps slim earlier' row i o r a)
+      (subst (λ k. Stays steps slim (earlier' ++ row ∷ []) (length earlier) (k + 1) row) long
       (new_stays numbers earlier earlier' same are (Close of ts) ss more row from (ap (λ k. drop k slim) long ∙ from')))) order.1
       (rows_more T p listed n sources steps earlier (Close of ts) row are factors h.0) (all_tail (HasNumbersOf T.kind) (Close of ts) ss all))
 

@@ -12,7 +12,6 @@ use Rattle.fpl_numbers.proofs.KindReads.{kind_reads}
 use Rattle.fpl_scalar.specs.Vectors.{AreElements}
 use Rattle.fpl_rows.specs.Meaning.{IsRowOf, AreRows}
 use Rattle.fpl_rows.proofs.Fits.{all_head, all_tail}
-use Rattle.plain_tables.proofs.Pushed.{zero_element}
 use Rattle.plain_weights.specs.Section.{coefficient, coefficients_from, closed_list}
 use Rattle.fpl_check.specs.declared.fault.Spot.TheVariants.{Closed as AtClosed}
 use Rattle.fpl_check.specs.declared.fault.Why.TheVariants.{RowForm}
@@ -20,6 +19,7 @@ use Rattle.fpl_check.specs.Refusal.{passing, demand}
 use Rattle.fpl_check.proofs.RowLoops.{and_true, below_true}
 use Rattle.plain_sections.proofs.Tests.{most_true}
 use Rattle.fpl_check.specs.ClosedRows.{is_formed, test_forms, stored_in, stored_row}
+use Rattle.fpl_table.proofs.NewNumbers.{nought_element}
 
 set_there : (xs ys : List Num) (z c : Num) → slice_set (xs ++ z ∷ ys) (length xs) c ≡ xs ++ c ∷ ys
 set_there [] ys z c = refl
@@ -49,8 +49,8 @@ module _ (kind : Kind) (listed : IsField kind) where
 
   -- a number that is 0 is written in one way
   one_nought : (c : Num) → IsElement kind c → is_nought c ≡ true → residue 0 ≡ c
-  one_nought c is z = reads.apart (residue 0) c (zero_element kind listed) is
-      (reads.zero_is (residue 0) (zero_element kind listed) refl ∙ sym (reads.zero_is c is z))
+  one_nought c is z = reads.apart (residue 0) c (nought_element kind listed) is
+      (reads.zero_is (residue 0) (nought_element kind listed) refl ∙ sym (reads.zero_is c is z))
 
   stored_from : (before xs : List Num) (s : ℕ) → s ≡ length before + 1 → AreElements kind xs →
       stored_in (before ++ replicate (length xs) (residue 0)) (coefficients_from s xs) ≡ before ++ xs

@@ -1,16 +1,14 @@
--- Over a prime every operation fits, so nothing in the plain run is refused.
-use Rattle.std.specs.Prelude.{ℕ, ◌+◌, ◌-◌, List, [], ◌∷◌, length, get_or, set, Option, Some, None, Result, Bool, true, false, cond, nat_eq, if◌then◌else◌}
+-- Where every operation fits, nothing in the plain run is refused.
+use Rattle.std.specs.Prelude.{ℕ, ◌+◌, ◌-◌, List, [], ◌∷◌, length, get_or, set, Result, Bool, true, false, cond, nat_eq}
 use mathlib.Core.Path.{refl}
 use Rattle.fpl_numbers.specs.declared.number.Num.{Num}
-use Rattle.fpl_numbers.specs.declared.number.Op.{Op}
 use Rattle.fpl_numbers.specs.declared.number.Op.TheVariants.{Add, Mul}
 use Rattle.fpl_numbers.specs.declared.number.Kind.{Kind}
-use Rattle.fpl_numbers.specs.declared.number.Kind.TheVariants.{Prime}
 use Rattle.fpl_numbers.specs.declared.number.Unfit.{Unfit}
-use Rattle.fpl_numbers.specs.Numbers.{operate, result_of, is_nought, residue, negative_of}
-use Rattle.fpl_numbers.specs.Results.{map_ok, and_then}
-use Rattle.fpl_scalar.specs.Vectors.{fused, axpy_of, scale_of}
-use Rattle.fpl_rows.specs.Positions.{lead_of, added_at}
+use Rattle.fpl_numbers.specs.Numbers.{residue, negative_of}
+use Rattle.fpl_numbers.specs.Results.{and_then}
+use Rattle.fpl_scalar.specs.Vectors.{scale_of}
+use Rattle.fpl_rows.specs.Positions.{added_at}
 use Rattle.math_algebra.specs.Tree.{Tree, Trees, gen, none, sum_of, multiple, bracket_of as br, end, more}
 use Rattle.math_algebra.specs.Degrees.{weight_of}
 use Rattle.fpl_model.specs.declared.presentation.Equation.{Equation}
@@ -18,23 +16,13 @@ use Rattle.fpl_model.specs.declared.presentation.Presentation.{Presentation}
 use Rattle.fpl_model.specs.Meaning.{plain}
 use Rattle.fpl_log.specs.declared.step.Origin.{Origin}
 use Rattle.fpl_log.specs.declared.step.Origin.TheVariants.{Relation, Jacobi, Cube, Row}
-use Rattle.plain_elimination.specs.Plain.{take_at, take_row, sweep_rows}
 use Rattle.fpl_table.specs.Plain.{PlainTable, plain_basis, entry_row, image_row, symbols_in, Pairing, nothing, plus, minus, pairing}
 use Rattle.fpl_table.specs.Sums.{add_each, add_product, add_products, bilinear_of}
 use Rattle.fpl_table.specs.Value.{zero_row, add_row, add_entry, bracket_of, is_light, value_of, values_of}
 use Rattle.fpl_rewrite.specs.Rows.{pair_place, generator_place, add_symbol, add_signed, outer_of, counts, form_of, forms_of, take_off, relation_row_of, entry_if, first_terms, second_terms, swapped, third_terms, jacobi_row_of, cube_row_of, equation_row, row_of_origin}
 use Rattle.plain_sources.specs.PrimeLaws.{DoesFit}
-use Rattle.plain_sources.proofs.Fits.{then_fits, map_fits}
-
-abbrev pub Always : Kind → Type 0
-Always kind = (op : Op) (a b : Num) → DoesFit (operate kind op a b)
-
-pub prime_always : (p : ℕ) → Always (Prime p)
-prime_always p op a b = (result_of (Prime p) op a b, refl)
-
-pub if_fits : {X : Type 0} (b : Bool) (r s : Result X Unfit) → DoesFit r → DoesFit s → DoesFit (if b then r else s)
-if_fits true r s h k = h
-if_fits false r s h k = k
+pub use Rattle.plain_elimination.proofs.Fitting.{Always, prime_always, if_fits, axpy_fits, scale_fits, sweep_rows_fits}
+use Rattle.plain_elimination.proofs.Fitting.{then_fits, map_fits}
 
 cond_fits : {X : Type 0} (b : Bool) (r s : Result X Unfit) → DoesFit r → DoesFit s → DoesFit (cond b r s)
 cond_fits true r s h k = h
@@ -44,32 +32,10 @@ module _ (kind : Kind) (always : Always kind) where
   pub add_at_fits : (v : List Num) (s : ℕ) (c : Num) → DoesFit (added_at kind v s c)
   add_at_fits v s c = map_fits (λ x. set v s x) _ (always Add (get_or v s (residue 0)) c)
 
-  pub axpy_fits : (xs : List Num) (c : Num) (ys : List Num) → DoesFit (axpy_of kind xs c ys)
-  axpy_fits [] c ys = ([], refl)
-  axpy_fits (x ∷ xs) c [] = (x ∷ xs, refl)
-  axpy_fits (x ∷ xs) c (y ∷ ys) =
-      then_fits (λ s. map_ok (λ rest. s ∷ rest) (axpy_of kind xs c ys)) (fused kind x c y) (then_fits (λ m. operate kind Add x m) _ (always Mul c y)
-      (λ m. always Add x m))
-      (λ s. map_fits (λ rest. s ∷ rest) _ (axpy_fits xs c ys))
-
   pub add_row_fits : (v x : List Num) → DoesFit (add_row kind v x)
-  add_row_fits v x = axpy_fits v (residue 1) x
+  add_row_fits v x = axpy_fits kind always v (residue 1) x
 
-  pub scale_fits : (c : Num) (xs : List Num) → DoesFit (scale_of kind c xs)
-  scale_fits c [] = ([], refl)
-  scale_fits c (x ∷ xs) = then_fits (λ m. map_ok (λ rest. m ∷ rest) (scale_of kind c xs)) _ (always Mul c x)
-      (λ m. map_fits (λ rest. m ∷ rest) _ (scale_fits c xs))
-
-  -- sweeping by closed rows
-  take_fits : (u : List Num) (o : Option ℕ) (v : List Num) → DoesFit (take_at kind u o v)
-  take_fits u None v = (v, refl)
-  take_fits u (Some s) v = if_fits (is_nought (get_or v (s - 1) (residue 0))) _ _ (v, refl) (axpy_fits v (negative_of kind (get_or v (s - 1) (residue 0))) u)
-
-  pub sweep_rows_fits : (us : List (List Num)) (v : List Num) → DoesFit (sweep_rows kind us v)
-  sweep_rows_fits [] v = (v, refl)
-  sweep_rows_fits (u ∷ us) v = then_fits (λ w. take_row kind u w) (sweep_rows kind us v) (sweep_rows_fits us v) (λ w. take_fits u (lead_of u) w)
-
-each_fits : (add : ℕ → Num → List Num → Result (List Num) Unfit) → ((t : ℕ) (c : Num) (v : List Num) → DoesFit (add t c v)) →
+pub each_fits : (add : ℕ → Num → List Num → Result (List Num) Unfit) → ((t : ℕ) (c : Num) (v : List Num) → DoesFit (add t c v)) →
     (t : ℕ) (cs v : List Num) → DoesFit (add_each add t cs v)
 each_fits add each t [] v = (v, refl)
 each_fits add each t (c ∷ cs) v = then_fits (λ w. add_each add (t + 1) cs w) _ (if_fits _ _ _ (v, refl) (each t c v)) (λ w. each_fits add each (t + 1) cs w)

@@ -1,7 +1,8 @@
 -- What the origins of a held table stand for: the row of each reads a vector, and these vectors are the source rows.
-use Rattle.std.specs.Prelude.{◌≡◌, List, length, Ok, Contains}
+use Rattle.std.specs.Prelude.{ℕ, ◌≡◌, List, ◌++◌, length, Ok, Contains}
 use mathlib.Core.Path.{sym, subst}
-use Rattle.math_linear.specs.Vector.{Vector}
+use Rattle.math_linear.specs.Vector.{Vector, vzero}
+use Rattle.math_linear.specs.Linear.{IsLinear}
 use Rattle.math_linear.specs.Span.{Spanned}
 use Rattle.math_linear.proofs.Span.{spanned_one, spanned_through}
 use Rattle.fpl_numbers.specs.declared.number.Num.{Num}
@@ -21,6 +22,8 @@ use Rattle.fpl_rewrite.specs.Rows.{row_of_origin}
 use Rattle.plain_sources.specs.Premises.{HasRows, HasWeights}
 use Rattle.plain_sources.specs.RowLaws.{Stands}
 use Rattle.plain_sources.specs.TableLaws.{vector_of_origin}
+use Rattle.plain_sources.specs.Late.{IsReach, IsCut}
+use Rattle.plain_sources.proofs.Late.{late_follow}
 use Rattle.plain_sources.proofs.Laws.{rows_of_shape, weights_of_built, rows_stand, origins_are_sources, sources_are_origins}
 
 module _ (p : Presentation) (T : PlainTable) where
@@ -73,3 +76,11 @@ module _ (p : Presentation) (T : PlainTable) where
         (subst (IsSource (field_of p.field) (presentation_in p) (table_in p.field T)) a.2
         (origins_are_sources p T holds.kind holds.generators holds.sound rows weights a.0 a.1)))
         v h
+
+    -- a linear function that is 0 at the vectors of the origins before the late ones is 0 at theirs
+    pub late_origins : (bound : ℕ) → IsReach T bound → (done os : List Origin) → done ++ os ≡ origins_of T p → IsCut bound os →
+        (f : Vector (field_of p.field) → Vector (field_of p.field)) → IsLinear (field_of p.field) f →
+        ((o : Origin) → Contains done o → f (origin_vector o) ≡ vzero (field_of p.field)) →
+        (o : Origin) → Contains os o → f (origin_vector o) ≡ vzero (field_of p.field)
+    unfolding origin_vector
+    late_origins bound reach done os e cut f linear before o c = late_follow p T bound holds reach done os e cut f linear before o c

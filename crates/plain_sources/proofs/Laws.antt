@@ -38,7 +38,9 @@ use Rattle.plain_sources.specs.TableLaws.{WeightsOfTable, vector_of_origin}
 use Rattle.plain_sources.proofs.Products.{bracket_reads}
 use Rattle.plain_sources.proofs.Values.{value_reads}
 use Rattle.plain_sources.proofs.Listed.{listed, is_listed}
-use Rattle.plain_sources.proofs.Sources.{origin_reads, origin_source, source_origin}
+use Rattle.plain_sources.proofs.Sources.{origin_reads, origin_source, source_origin, early_origin}
+use Rattle.plain_sources.specs.Late.{first_of}
+use Rattle.math_generators.specs.Triples.{IsEarlySource}
 
 -- the rows of a table of code
 pub rows_of_shape : (T : PlainTable) → HasShape T → HasRows T
@@ -133,6 +135,15 @@ module _ (p : Presentation) (T : PlainTable) (kind : T.kind ≡ p.field) (genera
           there (λ k gs. (v : Vector (field_of k)) → IsSource (field_of k) (over k gs) (table_in k T) v →
           (o : Origin) × Contains (origins_of T p) o × (vector_of_origin (field_of k) (over k gs) (table_in k T) o ≡ v))
           (λ v h. let r = source_origin T is_field rows weights p relations_within v h in (r.0, is_listed T p r.0 r.1, r.2))
+
+      pub early_origins : (bound : ℕ) (v : Vector (field_of p.field)) →
+          IsEarlySource (field_of p.field) (presentation_in p) (table_in p.field T) bound v →
+          (o : Origin) × Contains (origins_of T p) o × (first_of o ≤ bound) ×
+          (vector_of_origin (field_of p.field) (presentation_in p) (table_in p.field T) o ≡ v)
+      early_origins bound =
+          there (λ k gs. (v : Vector (field_of k)) → IsEarlySource (field_of k) (over k gs) (table_in k T) bound v →
+          (o : Origin) × Contains (origins_of T p) o × (first_of o ≤ bound) × (vector_of_origin (field_of k) (over k gs) (table_in k T) o ≡ v))
+          (λ v h. let r = early_origin T is_field rows weights p relations_within bound v h in (r.0, is_listed T p r.0 r.1, r.2, r.3))
 
 pub weights_of_table : (p : Presentation) → WeightsOfTable p
 weights_of_table p sound d T table =

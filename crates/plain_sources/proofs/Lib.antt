@@ -12,4 +12,5 @@ pub mod Listed
 pub mod Sources
 pub mod Fitting
 pub mod Laws
+pub mod Late
 pub mod HeldTables

@@ -50,7 +50,7 @@ module _ (T : PlainTable) where
   abbrev n : ℕ
   n = length T.basis
 
-  in_relations : (r : ℕ) (qs : List Equation) (o : Origin) → Contains (relations_from T r qs) o →
+  pub in_relations : (r : ℕ) (qs : List Equation) (o : Origin) → Contains (relations_from T r qs) o →
       (i : ℕ) × (i < length qs) × (o ≡ Relation (r + i)) × ((d : Equation) → relation_weight T (get_or qs i d) ≡ exact (suc T.weight))
   in_relations r [] o h = absurd (let l = h.1 in omega arith)
   in_relations r (q ∷ qs) o h =
@@ -96,7 +96,7 @@ module _ (T : PlainTable) where
     pub odd_one : parity T i ≡ odd
     pub sum : weight T i + weight T i + weight T i ≡ suc T.weight
 
-  in_triples : (o : Origin) → Contains (triples_of T) o → (i : ℕ) × (j : ℕ) × (k : ℕ) × IsTriple i j k × (o ≡ Jacobi (i + 1) (j + 1) (k + 1))
+  pub in_triples : (o : Origin) → Contains (triples_of T) o → (i : ℕ) × (j : ℕ) × (k : ℕ) × IsTriple i j k × (o ≡ Jacobi (i + 1) (j + 1) (k + 1))
   in_triples o h =
       let a = in_joined n (λ i. joined n (λ j. joined n (λ k. cond (is_triple T i j k) (Jacobi (i + 1) (j + 1) (k + 1) ∷ []) []))) o h in
       let b = in_joined n (λ j. joined n (λ k. cond (is_triple T a.0 j k) (Jacobi (a.0 + 1) (j + 1) (k + 1) ∷ []) [])) o a.2 in

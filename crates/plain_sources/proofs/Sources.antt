@@ -1,5 +1,5 @@
 -- The rows of a weight's origins are its source rows.
-use Rattle.std.specs.Prelude.{◌≡◌, ℕ, zero, suc, ◌+◌, ◌-◌, ◌<◌, List, [], ◌∷◌, length, get_or, map, Ok, All, false, nat_eq}
+use Rattle.std.specs.Prelude.{◌≤◌, ◌≡◌, ℕ, zero, suc, ◌+◌, ◌-◌, ◌<◌, List, [], ◌∷◌, length, get_or, map, Ok, All, false, nat_eq}
 use mathlib.Core.Path.{sym, refl, ap, ap₂, ◌∙◌, subst}
 use native.Mathlib.Omega.{arith}
 use Rattle.std.proofs.lemmas.List.{get_or-map, length-map}
@@ -25,6 +25,9 @@ use Rattle.fpl_rewrite.specs.Origins.{relation_weight}
 use Rattle.fpl_rewrite.specs.Rows.{relation_row_of, jacobi_row_of, cube_row_of, equation_row, row_of_origin}
 use Rattle.plain_sources.specs.Premises.{HasRows, HasWeights}
 use Rattle.plain_sources.specs.TableLaws.{vector_of_origin}
+use Rattle.plain_sources.specs.Late.{first_of}
+use Rattle.math_generators.specs.Triples.{IsEarlySource}
+use Rattle.math_generators.specs.Triples.IsEarlySource.{early_relation, early_triple, early_cube}
 use Rattle.plain_sources.proofs.Products.{Stands, same}
 use Rattle.plain_sources.proofs.Forms.{relation_reads}
 use Rattle.plain_sources.proofs.Triples.{jacobi_reads, cube_reads}
@@ -169,5 +172,29 @@ module _ (T : PlainTable) (is_field : IsField T.kind) (rows : HasRows T) (weight
   source_origin _ (of_cube i z l o w) = (
     Cube (i + 1),
     listed_cube i (record { three = (three_is T.kind).0 z; below = l; odd_one = o; sum = w }),
+    ap (cube_row F P (table_in T.kind T)) (sym (shift i)),
+  )
+
+  -- and each early one that of a listed origin that is not late
+  pub early_origin : (bound : ℕ) (v : Vector F) → IsEarlySource F P (table_in T.kind T) bound v →
+      (o : Origin) × IsListed T p o × (first_of o ≤ bound) × (origin_vector o ≡ v)
+  early_origin bound _ (early_relation k l w) =
+      let l' : k < length p.relations = omega (arith, length-map p.relations (equation_in T.kind)) in (
+        Relation (1 + k),
+        listed_relation k l' (λ d. sym (weight_is k d l') ∙ w),
+        omega arith,
+        ap (relation_row F P (table_in T.kind T)) (omega arith),
+      )
+  early_origin bound _ (early_triple i j k b a c l w) = (
+    Jacobi (i + 1) (j + 1) (k + 1),
+    listed_triple i j k (record { first = a; second = c; third = l; sum = w }),
+    omega arith,
+    at_shifts (λ a b c. jacobi_row F (table_in T.kind T) (pair_number P (table_in T.kind T)) a b c ≡
+        jacobi_row F (table_in T.kind T) (pair_number P (table_in T.kind T)) i j k) i j k refl,
+  )
+  early_origin bound _ (early_cube i z l o w) = (
+    Cube (i + 1),
+    listed_cube i (record { three = (three_is T.kind).0 z; below = l; odd_one = o; sum = w }),
+    omega arith,
     ap (cube_row F P (table_in T.kind T)) (sym (shift i)),
   )

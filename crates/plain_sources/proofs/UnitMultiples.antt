@@ -10,12 +10,12 @@ use Rattle.fpl_numbers.specs.declared.number.Op.TheVariants.{Mul}
 use Rattle.fpl_numbers.specs.Numbers.{IsField, IsNumber, Fits, is_within, fits, operate, product_of, negative_of, residue}
 use Rattle.fpl_numbers.specs.Kinds.{field_of, number_of}
 use Rattle.fpl_numbers.specs.Reads.{ReadsExactly}
-use Rattle.fpl_numbers.proofs.Integers.{abs-neg}
 use Rattle.fpl_numbers.proofs.KindReads.{kind_reads_exactly}
 use Rattle.fpl_numbers.proofs.WholeFractions.{within_true}
 use Rattle.plain_sources.specs.RowLaws.{UnitMultiples}
 use Rattle.plain_sources.proofs.Rows.{HasUnits}
 use Rattle.plain_sources.proofs.Units.{kind_units}
+use Rattle.fpl_numbers.proofs.Fitting.{negative_fits}
 
 -- a product that is a number that fits, fits
 product_fits : (k : Kind) (a b c : Num) → product_of k a b ≡ c → Fits k c → operate k Mul a b ≡ Ok c
@@ -25,10 +25,6 @@ product_fits Rational a b c e f =
     ∙ ap₂ (λ x y. x && y) (within_true (unsigned_abs c.numerator) f.0) (within_true (unsigned_abs c.denominator) f.1) in
     rw fit (ap Ok e)
 product_fits (Prime p) a b c e f = ap Ok e
-
-negative_fits : (k : Kind) (c : Num) → Fits k c → Fits k (negative_of k c)
-negative_fits Rational c f = (rw (abs-neg c.numerator) f.0, f.1)
-negative_fits (Prime p) c f = tt
 
 pub unit_multiples : (k : Kind) → IsField k → UnitMultiples k
 unit_multiples k h c is = (

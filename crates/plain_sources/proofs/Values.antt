@@ -21,7 +21,7 @@ use Rattle.math_algebra.proofs.Homogeneous.{WeightIs}
 use Rattle.math_algebra.proofs.Degrees.{WeightMeans, weight_means}
 use Rattle.math_values.proofs.Parts.{void_val}
 use Rattle.math_values.proofs.Relations.{val_of}
-use Rattle.math_standard.proofs.Next.{of_past}
+use Rattle.math_standard.proofs.NewPlaces.{of_past}
 use Rattle.fpl_model.specs.Meaning.{in_field, all_in_field}
 use Rattle.fpl_model.specs.Sound.{IsWithin, AreWithin}
 use Rattle.fpl_table.specs.Plain.{PlainTable, image_row, table_in, shell_in}

@@ -8,10 +8,10 @@
 --   BracketFits     the bracket of two rows
 --   ValueFits       the value of an expression
 --   OriginRowFits   the row of an origin
-use Rattle.std.specs.Prelude.{ℕ, ◌≡◌, List, Result, Ok}
+use Rattle.std.specs.Prelude.{ℕ, ◌≡◌, List}
 use Rattle.fpl_numbers.specs.declared.number.Num.{Num}
 use Rattle.fpl_numbers.specs.declared.number.Kind.TheVariants.{Prime}
-use Rattle.fpl_numbers.specs.declared.number.Unfit.{Unfit}
+pub use Rattle.plain_elimination.specs.Fitting.{DoesFit}
 use Rattle.fpl_scalar.specs.Vectors.{axpy_of, scale_of}
 use Rattle.math_algebra.specs.Tree.{Tree}
 use Rattle.fpl_model.specs.declared.presentation.Presentation.{Presentation}
@@ -20,9 +20,6 @@ use Rattle.fpl_table.specs.Plain.{PlainTable}
 use Rattle.fpl_rows.specs.Positions.{added_at}
 use Rattle.fpl_table.specs.Value.{add_row, bracket_of, value_of}
 use Rattle.fpl_rewrite.specs.Rows.{row_of_origin}
-
-abbrev pub DoesFit : {X : Type 0} → Result X Unfit → Type 0
-DoesFit {X} r = (x : X) × (r ≡ Ok x)
 
 abbrev pub AddAtFits : ℕ → Type 0
 AddAtFits p = (row : List Num) (s : ℕ) (c : Num) → DoesFit (added_at (Prime p) row s c)

@@ -8,6 +8,7 @@ ghost use Rattle.fpl_model.specs.declared.presentation.Presentation.{Presentatio
 ghost use Rattle.fpl_table.specs.Plain.{PlainTable};
 ghost use Rattle.plain_sources.specs.RowLaws.{AddAtStands, AddRowStands, AxpyStands, NegativesStand, ScaleStands, UnitMultiples, ZeroRowStands};
 ghost use Rattle.plain_sources.specs.TableLaws.{BracketStands, OriginRowsStand, OriginsAreSources, RowsOfShape, SourcesAreOrigins, ValueStands, WeightsOfBuilt, WeightsOfLaw, WeightsOfTable};
+ghost use Rattle.plain_sources.specs.Late.{LateComeLast, LateFollow};
 ghost use Rattle.plain_sources.specs.PrimeLaws.{AddAtFits, AddRowFits, AxpyFits, BracketFits, OriginRowFits, ScaleFits, ValueFits};
 
 /// Rows of numbers: where the operations on them fit, they are those on vectors.
@@ -40,6 +41,12 @@ pub fn source_rows()
     ensures rows { (p : Presentation) → OriginRowsStand p }
     ensures sources { (p : Presentation) → OriginsAreSources p }
     ensures origins { (p : Presentation) → SourcesAreOrigins p }
+{}
+
+/// Triples behind the last generator come last, and over a prime other than 3 their rows follow from those before.
+pub fn late_triples()
+    ensures last { (p : Presentation) → LateComeLast p }
+    ensures follow { (p : Presentation) → LateFollow p }
 {}
 
 /// Over a prime nothing is refused.

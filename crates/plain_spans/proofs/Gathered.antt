@@ -74,9 +74,6 @@ module _ (kind : Kind) (listed : IsField kind) (n : ℕ) where
       (spans_more kind (field_of kind) (number_of kind) (kind_reads kind listed) listed n h.pivots x.0.held.pivots x.0.lead (vector_in kind row) S s put) f.1
       (ap (put_rows rows) (sym x.1.1) ∙ r.1.1))
 
-  no_held : Held
-  no_held = record { pivots = []; steps = [] }
-
   none_spanned : Spans [] (λ x. ⊥)
   none_spanned y = (spanned_more (field_of kind) (λ x. ⊥) _ (λ x k. absurd k) y, spanned_more (field_of kind) _ (λ x. ⊥) (λ x k. none_some k.1) y)
 

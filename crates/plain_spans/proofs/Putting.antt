@@ -32,7 +32,8 @@ pub fault_first : {T U : Type 0} (f : T → Result U Unfit) (fault : Fault) (r :
 fault_first f (Unfits u) r h = ap (and_then f) h
 fault_first f NoMemory r h = tt
 
-pub fault_then : {T U : Type 0} (f : T → Result U Unfit) (fault : Fault) (r : Result T Unfit) (x : T) → r ≡ Ok x → IsFault fault (f x) → IsFault fault (and_then f r)
+pub fault_then : {T U : Type 0} (f : T → Result U Unfit) (fault : Fault) (r : Result T Unfit) (x : T) → r ≡ Ok x → IsFault fault (f x) →
+    IsFault fault (and_then f r)
 fault_then f fault r x e h = subst (λ q. IsFault fault (and_then f q)) (sym e) h
 
 pub put_more : (rs ss : Formed) (e : Elimination) → put_rows (rs ++ ss) e ≡ and_then (put_rows ss) (put_rows rs e)
@@ -47,7 +48,8 @@ put_more (r ∷ rs) ss e = go (λ y. put_more rs ss y) (put_row r e)
 pub put_then : (rs ss : Formed) (b e new : Elimination) → put_rows rs b ≡ Ok e → put_rows ss e ≡ Ok new → put_rows (rs ++ ss) b ≡ Ok new
 put_then rs ss b e new h k = put_more rs ss b ∙ ap (and_then (put_rows ss)) h ∙ k
 
-pub put_stops : (rs ss : Formed) (b e : Elimination) (fault : Fault) → put_rows rs b ≡ Ok e → IsFault fault (put_rows ss e) → IsFault fault (put_rows (rs ++ ss) b)
+pub put_stops : (rs ss : Formed) (b e : Elimination) (fault : Fault) → put_rows rs b ≡ Ok e → IsFault fault (put_rows ss e) →
+    IsFault fault (put_rows (rs ++ ss) b)
 put_stops rs ss b e fault h k = subst (IsFault fault) (sym (put_more rs ss b)) (fault_then (put_rows ss) fault (put_rows rs b) e h k)
 
 -- lists that are put in one after another
@@ -79,7 +81,8 @@ formed_rows kind n rows are =
     are_formed kind n (map Ok rows)
     (λ row h. let r = among_map {Y = Result (List Num) Unfit} Ok rows [] (Ok row) h in subst (IsRowOfKind kind n) (ok_same r.2) (are r.0 [] r.1))
 
-pub formed_row : (kind : Kind) (rows : List (List Num)) (v : Vector (field_of kind)) → IsFormed kind (map Ok rows) v ↔ IsAmong (field_of kind) (length rows) (row_in kind rows) v
+pub formed_row : (kind : Kind) (rows : List (List Num)) (v : Vector (field_of kind)) → IsFormed kind (map Ok rows) v ↔
+    IsAmong (field_of kind) (length rows) (row_in kind rows) v
 formed_row kind rows v = (
   (λ h.
       let f = formed_is kind (map Ok rows) v h in

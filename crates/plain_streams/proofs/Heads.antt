@@ -3,7 +3,7 @@ use Rattle.std.proofs.Common.{◌≡◌, ℕ, ◌+◌, ◌-◌, ◌≤◌, ◌�
 use Rattle.std.specs.List.{flat_map}
 use Rattle.fpl_model.specs.declared.presentation.Presentation.{Presentation}
 use Rattle.fpl_canonical.specs.Canonical.{canonical_of}
-use Rattle.plain_texts.proofs.Declarations.{has_presentation}
+use Rattle.plain_texts.proofs.CanonicalTexts.{has_presentation}
 use Rattle.fpl_table.specs.Standard.{start_of}
 use Rattle.plain_tables.proofs.Holding.{start_holds}
 use Rattle.fpl_bytes.specs.declared.version.Version.{Version}

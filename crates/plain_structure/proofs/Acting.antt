@@ -1,6 +1,6 @@
 -- The brackets with the basis elements that act are enough: for the centre, for the next term, and for rounds that find an ideal.
-use Rattle.std.specs.Prelude.{◌≡◌, ℕ, suc, ◌<◌, ◌↔◌, length, Bool, true, false}
-use mathlib.Core.Path.{sym, refl, ap, ap₂, ◌∙◌, subst}
+use Rattle.std.specs.Prelude.{◌≡◌, ℕ, suc, ◌<◌, ◌↔◌, true}
+use mathlib.Core.Path.{sym, refl, ap, ◌∙◌, subst}
 use Rattle.math_fields.specs.Field.{Field}
 use Rattle.math_linear.specs.Vector.{Vector, place}
 use Rattle.math_linear.specs.Span.{Spanned, InSpan, IsRowOf}

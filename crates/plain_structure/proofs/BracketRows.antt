@@ -1,5 +1,5 @@
 -- The rows of brackets stand for the brackets of basis elements with rows.
-use Rattle.std.specs.Prelude.{◌≡◌, ℕ, zero, suc, ◌<◌, ◌⊎◌, List, [], ◌∷◌, ◌++◌, length, get_or, Option, Some, None, Result, Ok, Err, Bool, true, false, nat_eq, cond, is_some}
+use Rattle.std.specs.Prelude.{◌≡◌, ℕ, zero, suc, ◌<◌, List, [], ◌∷◌, length, get_or, Option, Some, None, Result, Ok, Err, Bool, true, false, nat_eq, cond, is_some}
 use mathlib.Core.Logic.{inl, inr}
 use mathlib.Core.Path.{sym, refl, ap, ◌∙◌, fun_ext, subst}
 use native.Mathlib.Omega.{arith}
@@ -16,7 +16,7 @@ use Rattle.fpl_numbers.specs.Kinds.{field_of, number_of}
 use Rattle.fpl_numbers.proofs.KindReads.{kind_reads}
 use Rattle.fpl_rows.specs.Meaning.{vector_in, row_in, IsRowOf as IsRowOfKind, AreRows}
 use Rattle.fpl_rows.specs.Positions.{lead_of}
-use Rattle.fpl_rows.proofs.Fits.{ok_same, ok_not_err}
+use Rattle.fpl_rows.proofs.Fits.{ok_not_err}
 use Rattle.fpl_rows.proofs.Readings.{all_nought}
 use Rattle.math_algebra.specs.Table.{Table, bracket}
 use Rattle.fpl_table.specs.Plain.{PlainTable, table_in}

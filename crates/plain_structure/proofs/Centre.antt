@@ -1,6 +1,6 @@
 -- The plain run of the centre gives its closed form.
-use Rattle.std.specs.Prelude.{◌≡◌, ℕ, zero, suc, ◌+◌, ◌<◌, ◌≤◌, List, [], ◌∷◌, length, get_or, Option, Some, None, Result, Ok, Bool, true, false, cond, is_some, nat_le}
-use mathlib.Core.Logic.{inl, inr}
+use Rattle.std.specs.Prelude.{◌≡◌, ℕ, zero, suc, ◌+◌, ◌<◌, ◌≤◌, List, [], ◌∷◌, length, get_or, Option, Some, None, Result, Ok, true, false, cond, is_some, nat_le}
+use mathlib.Core.Logic.{inl}
 use mathlib.Core.Path.{sym, refl, ap, ◌∙◌, fun_ext, subst}
 use native.Mathlib.Omega.{arith}
 use native.Mathlib.Decide.{dec_lt, dec_le}

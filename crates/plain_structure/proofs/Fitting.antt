@@ -1,12 +1,11 @@
 -- Over a prime no operation of the centre, the series or an ideal is refused.
-use Rattle.std.specs.Prelude.{◌≡◌, ℕ, zero, suc, ◌∷◌, [], ◌++◌, List, length, map, Result, Ok, Err, Bool, true, false, nat_eq, cond, is_some}
+use Rattle.std.specs.Prelude.{◌≡◌, ℕ, zero, suc, ◌∷◌, [], ◌++◌, List, length, map, Result, Ok, Bool, true, false, nat_eq, cond, is_some}
 use mathlib.Core.Path.{sym, refl, subst}
-use Rattle.math_linear.specs.Lists.{joined}
 use Rattle.fpl_numbers.specs.declared.number.Num.{Num}
 use Rattle.fpl_numbers.specs.declared.number.Kind.{Kind}
 use Rattle.fpl_numbers.specs.declared.number.Kind.TheVariants.{Prime}
 use Rattle.fpl_numbers.specs.declared.number.Unfit.{Unfit}
-use Rattle.fpl_numbers.specs.Results.{and_then, map_ok}
+use Rattle.fpl_numbers.specs.Results.{and_then}
 use Rattle.fpl_rows.specs.Positions.{lead_of}
 use Rattle.math_algebra.specs.Tree.{Tree}
 use Rattle.fpl_table.specs.Plain.{PlainTable}

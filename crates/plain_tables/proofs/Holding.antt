@@ -35,6 +35,7 @@ use Rattle.plain_tables.proofs.Pushed.{push_built}
 use Rattle.plain_tables.proofs.Shaped.{push_shape}
 use Rattle.plain_tables.proofs.Trees.{tree_printed, standard_along}
 use Rattle.fpl_table.proofs.Shapes.{start_whole}
+use Rattle.fpl_rows.proofs.Packings.{get_or_default}
 
 -- expressions of a presentation are over its algebra
 module _ (k : Kind) (P : Algebra (Number k)) where
@@ -138,23 +139,17 @@ push_holds p T rows h below few closed spans = record {
   built = push_by T h.shape rows closed p.field h.kind (presentation_in p) (sym h.generators) (sound_is_sound p h.sound) h.built spans;
 }
 
--- rows of a table are elements
-default_same : {A : Type 0} (xs : List A) (i : ℕ) (d e : A) → i < length xs → get_or xs i d ≡ get_or xs i e
-default_same [] i d e l = absurd (omega (arith, l))
-default_same (x ∷ xs) zero d e l = refl
-default_same (x ∷ xs) (suc i) d e l = default_same xs i d e (omega (arith, l))
-
 images_are : (T : PlainTable) → HasShape T → All (λ rows. All (AreElements T.kind) rows) T.images
 images_are T shape v d l =
-    subst (λ rows. All (AreElements T.kind) rows) (default_same T.images v [] d l)
-    (λ g e m. subst (AreElements T.kind) (default_same (images_at T v) g [] e m) (shape.image_rows v g below
+    subst (λ rows. All (AreElements T.kind) rows) (get_or_default T.images v [] d l)
+    (λ g e m. subst (AreElements T.kind) (get_or_default (images_at T v) g [] e m) (shape.image_rows v g below
     (omega (arith, m, shape.image_lengths v below))).elements)
   where
     below : v < T.weight
     below = omega (arith, l, shape.images_length)
 
 entries_are : (T : PlainTable) → HasShape T → All (λ level. All (λ rows. All (AreElements T.kind) rows) level) T.entries
-entries_are T shape v d l = subst (λ level. All (λ rows. All (AreElements T.kind) rows) level) (default_same T.entries v [] d l) (λ i e m. rows_are i e m)
+entries_are T shape v d l = subst (λ level. All (λ rows. All (AreElements T.kind) rows) level) (get_or_default T.entries v [] d l) (λ i e m. rows_are i e m)
   where
     below : v < T.weight
     below = omega (arith, l, shape.entries_length)
@@ -164,8 +159,8 @@ entries_are T shape v d l = subst (λ level. All (λ rows. All (AreElements T.ki
 
     rows_are : (i : ℕ) (e : List (List Num)) → i < length (entries_at T v) → All (AreElements T.kind) (get_or (entries_at T v) i e)
     rows_are i e m =
-        subst (λ rows. All (AreElements T.kind) rows) (default_same (entries_at T v) i [] e m)
-        (λ q f o. subst (AreElements T.kind) (default_same (get_or (entries_at T v) i []) q [] f o)
+        subst (λ rows. All (AreElements T.kind) rows) (get_or_default (entries_at T v) i [] e m)
+        (λ q f o. subst (AreElements T.kind) (get_or_default (get_or (entries_at T v) i []) q [] f o)
         (shape.entry_rows v i q below (through_at i m) (omega (arith, o, shape.partner_lengths v i below (through_at i m)))).elements)
 
 pub held_is_table : HeldIsTable

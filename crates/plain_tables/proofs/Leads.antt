@@ -1,5 +1,5 @@
 -- The leads of rows are their pivots, and the places without a lead are the free places.
-use Rattle.std.specs.Prelude.{ℕ, zero, suc, ◌≡◌, ◌≢◌, ◌<◌, ◌-◌, List, [], ◌∷◌, ◌++◌, length, get_or, cond, Bool, true, false, Some, None}
+use Rattle.std.specs.Prelude.{ℕ, zero, suc, ◌≡◌, ◌≢◌, ◌<◌, List, [], ◌∷◌, ◌++◌, length, get_or, cond, Bool, true, false, Some, None}
 use mathlib.Core.Path.{sym, refl, ap, ◌∙◌}
 use native.Mathlib.Omega.{arith}
 use native.Mathlib.Decide.{ℕ_discrete}
@@ -8,12 +8,7 @@ use Rattle.math_algebra.specs.NextTable.{is_pivot, free_places}
 use Rattle.math_standard.proofs.NextTables.{pivot_is, no_pivot_is}
 use Rattle.fpl_rows.specs.Meaning.{pivot_of, pivot_in}
 use Rattle.fpl_table.specs.Push.{row_with_lead, is_lead, free_in}
-
-some_is : {X : Type 0} {x y : X} → Some x ≡ Some y → x ≡ y
-some_is e = cc
-
-none_some : {X : Type 0} {x : X} → None ≡ Some x → ⊥
-none_some e = cc
+use Rattle.fpl_rows.proofs.Fits.{some_same, none_some}
 
 here : (row : List Num) (rows : List (List Num)) (s : ℕ) → pivot_of row ≡ s → (is_lead (row ∷ rows) s ≡ true) × (row_with_lead (row ∷ rows) s ≡ Some row)
 here row rows s e = (grind arith, grind arith)
@@ -51,7 +46,7 @@ row_found (row ∷ rows) s r e = go (ℕ_discrete (pivot_of row) s) (λ f. row_f
   where
     go : Dec (pivot_of row ≡ s) → (row_with_lead rows s ≡ Some r → (i : ℕ) × (i < length rows) × (get_or rows i [] ≡ r) × (pivot_in rows i ≡ s)) →
         (i : ℕ) × (i < length (row ∷ rows)) × (get_or (row ∷ rows) i [] ≡ r) × (pivot_in (row ∷ rows) i ≡ s)
-    go (yes d) h = (0, omega arith, some_is (sym (here row rows s d).1 ∙ e), d)
+    go (yes d) h = (0, omega arith, some_same (sym (here row rows s d).1 ∙ e), d)
     go (no d) h = let q = h (sym (there row rows s d).1 ∙ e) in (suc q.0, omega (arith, q.1), q.2, q.3)
 
 pub row_missing : (rows : List (List Num)) (s : ℕ) → row_with_lead rows s ≡ None → (i : ℕ) → i < length rows → pivot_in rows i ≢ s

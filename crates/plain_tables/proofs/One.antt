@@ -23,8 +23,9 @@ use Rattle.fpl_model.specs.Meaning.{presentation_in}
 use Rattle.fpl_table.specs.Plain.{PlainTable, plain_basis, first_partner, image_row, entry_row, table_in}
 use Rattle.fpl_table.specs.Standard.{printed_tree, count_of, count_through}
 use Rattle.plain_tables.specs.Holds.{TablesAreOne}
-use Rattle.plain_tables.proofs.Pushed.{zero_element}
 use Rattle.plain_tables.proofs.Holding.{sound_is_sound}
+use Rattle.plain_tables.proofs.Shaped.{all_none}
+use Rattle.fpl_table.proofs.NewNumbers.{nought_element}
 
 all_or : {X : Type 0} (P : X → Type 0) (xs : List X) (i : ℕ) (d : X) → All P xs → P d → P (get_or xs i d)
 all_or P xs i d h k = go (dec_lt i (length xs))
@@ -32,9 +33,6 @@ all_or P xs i d h k = go (dec_lt i (length xs))
     go : Dec (i < length xs) → P (get_or xs i d)
     go (yes l) = h i d l
     go (no l) = subst P (sym (get_or_past xs i d (omega arith))) k
-
-none_all : {X : Type 0} (P : X → Type 0) → All P []
-none_all P i d l = absurd (omega (arith, l))
 
 pub list_same : {X : Type 0} (xs ys : List X) (d : X) → length xs ≡ length ys → ((i : ℕ) → i < length xs → get_or xs i d ≡ get_or ys i d) → xs ≡ ys
 list_same [] [] d l h = refl
@@ -46,7 +44,7 @@ list_same (x ∷ xs) (y ∷ ys) d l h = ap₂ (λ a b. a ∷ b) (h 0 (omega arit
 pub numbers_same : (k : Kind) → IsField k → (xs ys : List Num) → AreElements k xs → AreElements k ys → vector_in k xs ≡ vector_in k ys → (s : ℕ) →
     get_or xs s (residue 0) ≡ get_or ys s (residue 0)
 numbers_same k is xs ys a b e s =
-    (kind_reads k is).apart _ _ (all_or (IsElement k) xs s (residue 0) a (zero_element k is)) (all_or (IsElement k) ys s (residue 0) b (zero_element k is))
+    (kind_reads k is).apart _ _ (all_or (IsElement k) xs s (residue 0) a (nought_element k is)) (all_or (IsElement k) ys s (residue 0) b (nought_element k is))
     (sym (value xs) ∙ ap (λ v. v s) e ∙ value ys)
   where
     value : (zs : List Num) → vector_in k zs s ≡ number_of k (get_or zs s (residue 0))
@@ -55,14 +53,14 @@ numbers_same k is xs ys a b e s =
         go : Dec (s < length zs) → vector_in k zs s ≡ number_of k (get_or zs s (residue 0))
         go (yes l) = at_place k (field_of k) (number_of k) (kind_reads k is) zs s (residue 0) l
         go (no l) =
-            vector_past (field_of k) (number_of k) zs s (omega arith) ∙ sym ((kind_reads k is).zero_is (residue 0) (zero_element k is) refl) ∙
+            vector_past (field_of k) (number_of k) zs s (omega arith) ∙ sym ((kind_reads k is).zero_is (residue 0) (nought_element k is) refl) ∙
             ap (number_of k) (sym (get_or_past zs s (residue 0) (omega arith)))
 
 image_elements : (T : PlainTable) (k : Kind) → T.kind ≡ k → All (λ rows. All (AreElements T.kind) rows) T.images → (g : ℕ) → AreElements k (image_row T g)
 image_elements T k e h g =
     subst (λ k. AreElements k (image_row T g)) e
-    (all_or (AreElements T.kind) _ g [] (all_or (λ rows. All (AreElements T.kind) rows) T.images _ [] h (none_all (AreElements T.kind)))
-    (none_all (IsElement T.kind)))
+    (all_or (AreElements T.kind) _ g [] (all_or (λ rows. All (AreElements T.kind) rows) T.images _ [] h (all_none (AreElements T.kind)))
+    (all_none (IsElement T.kind)))
 
 entry_elements : (T : PlainTable) (k : Kind) → T.kind ≡ k → All (λ level. All (λ rows. All (AreElements T.kind) rows) level) T.entries → (i j : ℕ) →
     AreElements k (entry_row T i j)
@@ -70,8 +68,8 @@ entry_elements T k e h i j =
     subst (λ k. AreElements k (entry_row T i j)) e
     (all_or (AreElements T.kind) _ _ []
     (all_or (λ rows. All (AreElements T.kind) rows) _ i [] (all_or (λ level. All (λ rows. All (AreElements T.kind) rows) level) T.entries _ [] h
-    (none_all (λ rows. All (AreElements T.kind) rows))) (none_all (AreElements T.kind)))
-    (none_all (IsElement T.kind)))
+    (all_none (λ rows. All (AreElements T.kind) rows))) (all_none (AreElements T.kind)))
+    (all_none (IsElement T.kind)))
 
 odd_of : (s : Parity) → is_odd s ≡ true → s ≡ odd
 odd_of odd e = refl

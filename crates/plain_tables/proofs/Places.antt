@@ -1,6 +1,6 @@
 -- Where the pushed table holds what it held, and where it holds what is new.
-use Rattle.std.specs.Prelude.{ℕ, zero, suc, ◌≡◌, ◌≢◌, ◌⊎◌, ◌<◌, ◌≤◌, ◌+◌, ◌-◌, List, [], ◌∷◌, ◌++◌, length, map, get_or, max, cond, nat_eq, nat_lt, nat_le}
-use mathlib.Core.Path.{refl, ap, ap₂, ◌∙◌, subst}
+use Rattle.std.specs.Prelude.{ℕ, zero, suc, ◌≡◌, ◌≢◌, ◌⊎◌, ◌<◌, ◌≤◌, ◌+◌, ◌-◌, List, [], ◌∷◌, ◌++◌, length, map, get_or, max, cond, nat_eq, nat_lt}
+use mathlib.Core.Path.{ap, ap₂, ◌∙◌, subst}
 use mathlib.Core.Logic.{inl, inr}
 use native.Mathlib.Omega.{arith}
 use native.Mathlib.Decide.{ℕ_discrete, dec_lt, dec_le}
@@ -10,17 +10,10 @@ use Rattle.math_algebra.specs.Tree.{Generator, no_generator}
 use Rattle.math_algebra.specs.Symbols.{is_odd}
 use Rattle.math_algebra.specs.Table.{Basis, no_basis, of_generator, of_pair}
 use Rattle.math_standard.proofs.NextTables.{length_map, get_or_map}
-use Rattle.fpl_table.specs.Plain.{PlainTable, plain_basis, leading, through, first_partner, partner_from, generator_at, image_row, entry_row}
+use Rattle.fpl_table.specs.Plain.{PlainTable, plain_basis, through, first_partner, partner_from, generator_at, image_row, entry_row}
 use Rattle.fpl_table.specs.Push.{free_of, new_basis, row_of_symbol, new_images, new_partners, new_entries, push_of}
 use Rattle.fpl_table.specs.Shape.{HasShape}
-use Rattle.fpl_table.proofs.Weights.{through_above, through_below, through_heavier}
-
--- heavier elements at the end don't count
-leading_append : (bs cs : List Basis) (w : ℕ) → ((i : ℕ) → i < length cs → w < (get_or cs i no_basis).weight) → leading (bs ++ cs) w ≡ leading bs w
-unfolding leading
-leading_append [] [] w h = refl
-leading_append [] (c ∷ cs) w h = let l : w < c.weight = h 0 (omega arith) in grind arith
-leading_append (b ∷ bs) cs w h = ap (λ n. cond (nat_le b.weight w) (suc n) 0) (leading_append bs cs w h)
+use Rattle.fpl_table.proofs.Weights.{through_above, through_below, through_heavier, leading_front}
 
 module _ (T : PlainTable) (shape : HasShape T) (rows : List (List Num)) where
   abbrev pub T' : PlainTable
@@ -30,7 +23,7 @@ module _ (T : PlainTable) (shape : HasShape T) (rows : List (List Num)) where
   basis_old i l = get_or_append_left T.basis (map (new_basis T) (free_of T rows)) no_basis i l
 
   pub through_old : (w : ℕ) → w ≤ T.weight → through (push_of T rows) w ≡ through T w
-  through_old w l = leading_append T.basis (map (new_basis T) (free_of T rows)) w heavy
+  through_old w l = leading_front T.basis (map (new_basis T) (free_of T rows)) w heavy
     where
       heavy : (i : ℕ) → i < length (map (new_basis T) (free_of T rows)) → w < (get_or (map (new_basis T) (free_of T rows)) i no_basis).weight
       heavy i h =
@@ -52,9 +45,6 @@ module _ (T : PlainTable) (shape : HasShape T) (rows : List (List Num)) where
       let e : g + 1 + i ≡ g + suc i = omega arith in
       new_images_at xs (g + 1) i (omega arith) ∙
       ap (λ h. cond (nat_eq (get_or xs i no_generator).weight (suc T.weight)) (row_of_symbol T rows (of_generator h)) []) e
-
-  abbrev images_new : List (List Num)
-  images_new = new_images T rows 0 T.generators
 
   pub image_old : (g : ℕ) → g < length T.generators → (generator_at T g).weight ≤ T.weight → image_row (push_of T rows) g ≡ image_row T g
   image_old g l w =

@@ -5,24 +5,21 @@ use mathlib.Core.Logic.{inl, inr}
 use native.Mathlib.Omega.{arith}
 use native.Mathlib.Decide.{ℕ_discrete, dec_lt, dec_le}
 use Rattle.std.proofs.lemmas.List.{length-append, get_or-append-add}
-use Rattle.std.proofs.lemmas.Nat.Gcd.{IsGcd-from_mod, IsGcd-from_zero}
 use Rattle.math_fields.specs.Field.{Field}
-use Rattle.math_linear.specs.Vector.{Vector, vzero, place, EndsAt}
+use Rattle.math_linear.specs.Vector.{vzero, place, EndsAt}
 use Rattle.math_linear.specs.Span.{SpansKind}
 use Rattle.math_linear.proofs.Places.{zero_at}
 use Rattle.fpl_numbers.specs.declared.number.Num.{Num}
-use Rattle.fpl_numbers.specs.declared.number.Kind.{Kind}
-use Rattle.fpl_numbers.specs.declared.number.Kind.TheVariants.{Rational, Prime}
-use Rattle.fpl_numbers.specs.Numbers.{IsField, IsElement, residue}
+use Rattle.fpl_numbers.specs.Numbers.{residue}
 use Rattle.fpl_numbers.specs.Kinds.{Number, field_of, number_of}
 use Rattle.fpl_numbers.specs.Reads.{Reads}
-use Rattle.fpl_numbers.proofs.KindReads.{kind_reads, listed_prime}
+use Rattle.fpl_numbers.proofs.KindReads.{kind_reads}
 use Rattle.fpl_rows.specs.Meaning.{vector_in, row_in, pivot_in, IsClosedList}
 use Rattle.fpl_rows.proofs.Ones.{one_is}
 use Rattle.fpl_rows.proofs.Readings.{vector_past}
-use Rattle.math_algebra.specs.Tree.{Parity, odd, Presentation, generator, no_generator}
+use Rattle.math_algebra.specs.Tree.{odd, Presentation, generator, no_generator}
 use Rattle.math_algebra.specs.Degrees.{IsSoundPresentation}
-use Rattle.math_algebra.specs.Table.{Table, Symbol, of_generator, of_pair, no_basis}
+use Rattle.math_algebra.specs.Table.{Symbol, of_generator, of_pair, no_basis}
 use Rattle.math_linear.specs.Lists.{joined}
 use Rattle.math_algebra.specs.Symbols.{is_odd, pairs_of, symbols, no_symbol, symbol_parity, place_of, symbols_of}
 use Rattle.math_algebra.specs.SourceRows.{IsSource}
@@ -37,39 +34,18 @@ use Rattle.fpl_table.specs.Shape.{HasShape}
 use Rattle.plain_tables.proofs.Leads.{free_same}
 use Rattle.plain_tables.proofs.Solved.{symbol_is}
 use Rattle.plain_tables.proofs.Places.{basis_old, image_old, image_new, image_past as plain_past, entry_old, entry_new}
-
-pub zero_element : (k : Kind) → IsField k → IsElement k (residue 0)
-zero_element Rational h = (record { positive = omega arith; lowest = IsGcd-from_mod 0 1 1 (IsGcd-from_zero 1 0 refl) }, (omega arith, omega arith))
-zero_element (Prime p) h = ((let q = (listed_prime p h).1 in omega arith, refl), tt)
+use Rattle.fpl_table.proofs.NewNumbers.{nought_element}
 
 module _ (T : PlainTable) (shape : HasShape T) (P : Presentation (Number T.kind)) (gens : P.generators ≡ T.generators) (rows : List (List Num))
     (closed : IsClosedList T.kind (length (symbols_in T)) rows) where
   abbrev K : Field
   K = field_of T.kind
 
-  abbrev before : Table K
-  before = table_in T.kind T
-
-  abbrev after : Table K
-  after = table_in T.kind (push_of T rows)
-
-  abbrev n : ℕ
-  n = length rows
-
-  abbrev row : ℕ → Vector K
-  row = row_in T.kind rows
-
-  abbrev pivot : ℕ → ℕ
-  pivot = pivot_in rows
-
-  abbrev next : Table K
-  next = next_table K P (table_in T.kind T) (length rows) (row_in T.kind rows) (pivot_in rows)
-
   reads : Reads T.kind K (number_of T.kind)
   reads = kind_reads T.kind shape.field
 
   nought_is : number_of T.kind (residue 0) ≡ K.nought
-  nought_is = reads.zero_is (residue 0) (zero_element T.kind shape.field) refl
+  nought_is = reads.zero_is (residue 0) (nought_element T.kind shape.field) refl
 
   unit_is : number_of T.kind (residue 1) ≡ K.unit
   unit_is = one_is T.kind K (number_of T.kind) reads shape.field
@@ -161,9 +137,6 @@ module _ (T : PlainTable) (shape : HasShape T) (P : Presentation (Number T.kind)
       go : Dec (i < length T.basis) → 1 ≤ (plain_basis (push_of T rows) i).weight
       go (yes h) = omega (arith, weight_old i h, shape.heavy i h)
       go (no h) = omega (arith, weight_new i (omega (arith, h)) l)
-
-  odd_is : (s : Parity) → s ≡ odd → is_odd s ≡ is_odd odd
-  odd_is s e = ap is_odd e
 
   partner_of : (i j : ℕ) → i < length T.basis → (i < j) ⊎ ((i ≡ j) × ((plain_basis T i).parity ≡ odd)) → first_partner T i ≤ j
   partner_of i j l (inl h) = go (is_odd (plain_basis T i).parity)

@@ -1,5 +1,5 @@
 -- A pushed table has its shape: the rows of symbols are rows of it.
-use Rattle.std.specs.Prelude.{ℕ, zero, suc, ◌≡◌, ◌<◌, ◌≤◌, ◌+◌, List, [], ◌∷◌, ◌++◌, length, map, get_or, All, cond, nat_eq, nat_lt, Bool, true, false, Option, Some, None}
+use Rattle.std.specs.Prelude.{ℕ, suc, ◌≡◌, ◌<◌, ◌≤◌, ◌+◌, List, [], ◌∷◌, ◌++◌, length, map, get_or, All, cond, nat_eq, nat_lt, Bool, true, false, Option, Some, None}
 use mathlib.Core.Path.{sym, refl, subst}
 use native.Mathlib.Omega.{arith}
 use native.Mathlib.Decide.{dec_lt}
@@ -20,15 +20,12 @@ use Rattle.fpl_table.specs.Push.{free_of, row_with_lead, solved, row_of_symbol, 
 use Rattle.fpl_table.specs.Shape.{IsRowUpTo, HasShape}
 use Rattle.fpl_table.proofs.Leads.{length-solved}
 use Rattle.fpl_table.proofs.Pushed as pushed
-use Rattle.plain_tables.proofs.Pushed.{zero_element}
 use Rattle.plain_tables.proofs.Leads.{row_found}
+use Rattle.fpl_rows.proofs.Fits.{all_cons}
+use Rattle.fpl_table.proofs.NewNumbers.{nought_element}
 
-all_none : {X : Type 0} (P : X → Type 0) → All P []
+pub all_none : {X : Type 0} (P : X → Type 0) → All P []
 all_none P i d l = absurd (omega (arith, l))
-
-all_cons : {X : Type 0} (P : X → Type 0) (x : X) (xs : List X) → P x → All P xs → All P (x ∷ xs)
-all_cons P x xs h k zero d l = h
-all_cons P x xs h k (suc i) d l = k i d (omega (arith, l))
 
 all_append : {X : Type 0} (P : X → Type 0) (xs ys : List X) → All P xs → All P ys → All P (xs ++ ys)
 all_append P [] ys h k = k
@@ -45,16 +42,17 @@ module _ (k : Kind) (is : IsField k) where
     where
       unit : (b : Bool) → IsElement k (cond b (residue 1) (residue 0))
       unit true = one_element k is
-      unit false = zero_element k is
+      unit false = nought_element k is
   solved_elements free s (Some r) h = all_mapped (IsElement k) (λ t. negative_of k (get_or r t (residue 0))) free
       (λ t. ((kind_reads k is).negative _ (at t (dec_lt t (length r)))).0)
     where
       at : (t : ℕ) → Dec (t < length r) → IsElement k (get_or r t (residue 0))
       at t (yes l) = h r refl t (residue 0) l
-      at t (no l) = subst (IsElement k) (sym (get_or_past r t (residue 0) (omega arith))) (zero_element k is)
+      at t (no l) = subst (IsElement k) (sym (get_or_past r t (residue 0) (omega arith))) (nought_element k is)
 
   zeros_elements : (n : ℕ) → AreElements k (zero_row n)
-  zeros_elements n i d l = subst (IsElement k) (sym (get_or-replicate n i (residue 0) d (omega (arith, l, length-replicate n (residue 0))))) (zero_element k is)
+  zeros_elements n i d l = subst (IsElement k) (sym (get_or-replicate n i (residue 0) d (omega (arith, l, length-replicate n (residue 0)))))
+      (nought_element k is)
 
 module _ (T : PlainTable) (shape : HasShape T) (rows : List (List Num)) (are : AreRows T.kind (length (symbols_in T)) rows) where
   abbrev IsNew : List Num → Type 0

@@ -18,7 +18,7 @@ use Rattle.fpl_scalar.specs.Vectors.{AreElements}
 use Rattle.fpl_rows.specs.Meaning.{vector_in, row_in, pivot_in, IsClosedList}
 use Rattle.fpl_rows.proofs.Readings.{at_place, vector_past}
 use Rattle.math_algebra.specs.Built.{slot_of, at_slot, relabel, meaning_of}
-use Rattle.math_standard.proofs.Next.{slot_new}
+use Rattle.math_standard.proofs.NewPlaces.{slot_new}
 use Rattle.math_standard.proofs.NextTables.{get_or_map}
 use Rattle.math_standard.proofs.Sweeps.{swept_free, swept_pivot}
 use Rattle.fpl_table.specs.Value.{zero_row}

@@ -16,7 +16,7 @@ use Rattle.math_algebra.specs.Symbols.IsSymbol.{is_generator, is_pair}
 use Rattle.math_algebra.specs.Standard.{combined, IsStandard}
 use Rattle.math_algebra.specs.Standard.IsStandard.{standard_start, standard_next}
 use Rattle.math_values.proofs.SymbolLists.{place_symbol}
-use Rattle.math_standard.proofs.Next.{trees_same}
+use Rattle.math_standard.proofs.NewPlaces.{trees_same}
 use Rattle.fpl_model.specs.Meaning.{in_field}
 use Rattle.fpl_table.specs.Shape.{IsBefore, grown, symbol_tree_in}
 use Rattle.fpl_table.proofs.PushedTrees.{tree_same}

@@ -1,6 +1,6 @@
 -- The number that is read where a canonical number was written.
-use Rattle.std.proofs.Common.{◌≡◌, ℕ, zero, suc, ◌*◌, ◌/◌, ◌%◌, ◌≤◌, ◌<◌, Bool, true, false, ◌&&◌, nat_eq, if◌then◌else◌, refl, ap, ap₂, sym, ◌∙◌, subst, arith}
-use Rattle.std.specs.Prelude.{ℤ, pos, negsuc, unsigned_abs, neg_ℤ, ◌*ℤ◌, None, Some}
+use Rattle.std.proofs.Common.{ℤ, ◌≡◌, ℕ, zero, suc, ◌*◌, ◌/◌, ◌%◌, ◌≤◌, ◌<◌, Bool, true, false, ◌&&◌, nat_eq, if◌then◌else◌, refl, ap, ap₂, sym, ◌∙◌, subst, arith}
+use Rattle.std.specs.Prelude.{pos, negsuc, unsigned_abs, ◌*ℤ◌, None, Some}
 use Rattle.std.specs.Int.{IsGcd}
 use Rattle.std.proofs.lemmas.Bool.{le-leb, ne_eqb, eqb-true, eqb-false}
 use Rattle.std.proofs.lemmas.List.Elements.{All-contains, All-from_recursion}
@@ -18,6 +18,7 @@ use Rattle.fpl_numbers.proofs.Integers.{abs_of_positive, positive_is}
 use Rattle.fpl_numbers.proofs.KindReads.{listed_prime}
 use Rattle.fpl_syntax.specs.Grammar.{signed, or_nought, coefficient_of}
 use Rattle.fpl_spelling.specs.Spelling.{is_negative, is_below_nought}
+use Rattle.fpl_numbers.proofs.WholeFractions.{num_same, times-one, divided-one}
 
 signed_back : (n : ℤ) → signed (is_negative n) (unsigned_abs n) ≡ n
 signed_back (pos n) = refl
@@ -30,17 +31,6 @@ within kind negative a b c h k e = ap₂ (λ x y. if x && y then or_nought (quot
     (le-leb a most_number h) (le-leb b most_number k) ∙ e
 
 -- fractions
-
-divided-one : (n : ℤ) → divided n 1 ≡ n
-divided-one (pos n) = ap pos (div-one n)
-divided-one (negsuc n) = ap (λ m. neg_ℤ (pos m)) (div-one (suc n))
-
-pub times-one : (n : ℤ) → n *ℤ pos 1 ≡ n
-times-one (pos n) = ap pos (let e : n * 1 ≡ n = omega arith in e)
-times-one (negsuc n) = ap (λ m. neg_ℤ (pos m)) (let e : suc n * 1 ≡ suc n = omega arith in e)
-
-num_same : {n n' d d' : ℤ} → n ≡ n' → d ≡ d' → Path Num (record { numerator = n; denominator = d }) (record { numerator = n'; denominator = d' })
-num_same p q i = record { numerator = p i; denominator = q i }
 
 lowest_back : (n : ℤ) (d : ℕ) → IsGcd (unsigned_abs n) d 1 → reduced n d ≡ record { numerator = n; denominator = pos d }
 lowest_back n d h =

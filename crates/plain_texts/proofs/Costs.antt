@@ -14,13 +14,14 @@ use Rattle.math_fields.specs.Gcd.{gcd}
 use Rattle.fpl_numbers.specs.Numbers.{IsField, most_number, residue, residue_of, divided, is_nought, inverse_of}
 use Rattle.fpl_numbers.specs.Quotients.{whole, quotient_of}
 use Rattle.fpl_numbers.proofs.KindReads.{listed_prime}
-use Rattle.plain_texts.proofs.Coefficients.{listed_small, times-one}
-use Rattle.plain_texts.proofs.Written.{zero_text}
+use Rattle.plain_texts.proofs.Coefficients.{listed_small}
+use Rattle.plain_texts.proofs.SpelledParts.{zero_text}
 use Rattle.math_algebra.specs.Tree.{Tree, Trees, gen, none, sum_of, multiple, bracket_of, more}
 use Rattle.fpl_syntax.specs.Grammar.{signed, or_nought, coefficient_of}
 use Rattle.fpl_canonical.specs.declared.expression.Stand.TheVariants.{Alone, Member, Factor as Behind}
 use Rattle.fpl_spelling.specs.Spelling.{is_below_nought, below_text, magnitude_text, sign_text}
 use Rattle.fpl_canonical.specs.Canonical.{begins_below, in_parentheses, expression_text, sum_text}
+use Rattle.fpl_numbers.proofs.WholeFractions.{times-one}
 
 -- texts of expressions
 

@@ -28,15 +28,11 @@ use Rattle.fpl_reader.proofs.Terms.{first_place-append}
 use Rattle.fpl_spelling.specs.Spelling.{magnitude_text, sign_text}
 use Rattle.fpl_canonical.specs.Canonical.{begins_below, sum_text}
 use Rattle.plain_texts.proofs.NameTerminals.{names}
-use Rattle.plain_texts.proofs.Written.{zero_text, term_whole, term_quotient}
+use Rattle.plain_texts.proofs.SpelledParts.{zero_text, term_whole, term_quotient}
 use Rattle.plain_texts.proofs.Sizes.{sizes}
 use Rattle.plain_texts.proofs.Costs.{alone, member, behind, member_multiple, alone_multiple, alone_behind, behind_alone, member_behind, bracket_long, sum_long, more_long, sign_later, digits, coefficient_long}
 
 -- names
-
-number_none : (t : Bool) (n m : ℕ) → t ≡ false → (if t then n else m) ≡ m
-number_none true n m e = cc
-number_none false n m e = refl
 
 -- a name that is known stands where its number says
 named_there : (k : ℕ) (gs : List Generator) (w : List ℕ) → 1 ≤ k → 1 ≤ number_from k gs w →

@@ -3,8 +3,11 @@ pub mod Decimals
 pub mod Spelled
 pub mod Coefficients
 pub mod NameTerminals
+pub mod SpelledParts
 pub mod Written
+pub mod ClaimEvents
 pub mod Lines
+pub mod CanonicalTexts
 pub mod Declarations
 pub mod Sizes
 pub mod Costs

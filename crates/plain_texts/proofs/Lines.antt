@@ -1,11 +1,10 @@
 -- The lines of a presentation spell a sentence that says it.
-use Rattle.std.proofs.Common.{◌≡◌, ◌≢◌, ℕ, suc, ◌+◌, ◌≤◌, List, [], ◌∷◌, ◌++◌, map, length, Bool, true, false, IsTrue, if◌then◌else◌, refl, ap, ap₂, sym, ◌∙◌, subst, arith, append_assoc, nat_eq}
-use Rattle.std.specs.Prelude.{codes, All, None, Some}
-use Rattle.std.specs.declared.option.Option.{Option}
+use Rattle.std.proofs.Common.{◌≡◌, ℕ, suc, ◌+◌, ◌≤◌, List, [], ◌∷◌, ◌++◌, map, length, IsTrue, refl, ap, ap₂, sym, ◌∙◌, subst, arith, append_assoc, nat_eq}
+use Rattle.std.specs.Prelude.{codes, All, None}
 use Rattle.fpl_alphabet.specs.Bytes.{is_word_byte, is_word, IsName}
 use Rattle.fpl_lex.specs.Cut.{Stops}
 use Rattle.fpl_numbers.specs.Numbers.{IsField}
-use Rattle.math_algebra.specs.Degrees.{Degree, any, exact, mixed, of_both, same_parity, weight_of_both, parity_of_both}
+use Rattle.math_algebra.specs.Degrees.{of_both, same_parity, weight_of_both, parity_of_both}
 use Rattle.fpl_model.specs.declared.expr.Expr.{Expr}
 use Rattle.fpl_model.specs.declared.expr.Expr as expr
 use Rattle.fpl_model.specs.declared.presentation.Generator.{Generator}
@@ -18,82 +17,20 @@ use Rattle.fpl_syntax.specs.declared.terminal.Terminal.{Terminal}
 use Rattle.fpl_syntax.specs.declared.terminal.Terminal.TheVariants as mark
 use Rattle.fpl_syntax.specs.declared.terminal.ClaimKind.{ClaimKind}
 use Rattle.fpl_syntax.specs.declared.terminal.ClaimKind.TheVariants as claim
-use Rattle.fpl_syntax.specs.declared.expression.Scale.{Scale}
-use Rattle.fpl_syntax.specs.declared.expression.Scale.TheVariants.{One, Whole, Quotient}
-use Rattle.fpl_syntax.specs.Grammar.{Scope, Sum, sum, Terms, end, further, term, Factor, name, zero as nought, bracket, group, Statement, equation, ideal, equal, spell_sum, spell_statement, spelling, expression_of, equate, claims_in, claims_of}
-use Rattle.fpl_reader.specs.declared.survey.Event.{Event}
+use Rattle.fpl_syntax.specs.Grammar.{Scope, Sum, name, Statement, equation, ideal, equal, spell_sum, spell_statement, spelling, expression_of, equate, claims_in, claims_of}
 use Rattle.fpl_reader.specs.declared.survey.FieldStatement.{FieldStatement}
-use Rattle.fpl_reader.specs.Events.{events_scale, events_sum, events_terms, events_factor, events_statement, events_of, fields_in, field_in, declared_in, name_in}
+use Rattle.fpl_reader.specs.Events.{events_sum, events_statement, events_of, fields_in, declared_in}
 use Rattle.fpl_reader.specs.Terminals.{word_terminal}
-use Rattle.fpl_reader.specs.Reading.{generator_of, scope_of, is_relation, is_ideal, is_equal, claimed_as, lefts, with_claims, or_else, first_place, bad_weight, unknown_in, zero_in, is_mixed, mixed_weight_of, mixed_parity_of}
+use Rattle.fpl_reader.specs.Reading.{generator_of, scope_of, is_relation, is_ideal, is_equal, claimed_as, lefts, with_claims, first_place, bad_weight, unknown_in, zero_in, is_mixed, mixed_weight_of, mixed_parity_of}
 use Rattle.fpl_reader.proofs.Soundness.{weight_same, parity_same}
 use Rattle.fpl_canonical.specs.declared.expression.Stand.TheVariants.{Alone}
 use Rattle.fpl_canonical.specs.Canonical.{expression_text, equation_line, ideal_line, lines}
 use Rattle.plain_texts.proofs.NameTerminals.{names, AreDistinct}
-use Rattle.plain_texts.proofs.Trees.{expression_of_tree, back}
 use Rattle.plain_texts.proofs.Spelled.{IsLeft, place, later, Spells, spells_end, spells_blank, spells_word, spells_mark}
-use Rattle.plain_texts.proofs.Written.{first_place-both, summed}
-
--- nothing is declared in an expression
-
-fields_in-append : (es fs : List Event) → fields_in (es ++ fs) ≡ fields_in es ++ fields_in fs
-fields_in-append [] fs = refl
-fields_in-append (e ∷ es) fs = ap (λ x. field_in e ++ x) (fields_in-append es fs) ∙ sym (append_assoc (field_in e) (fields_in es) (fields_in fs))
-
-declared_in-append : (es fs : List Event) → declared_in (es ++ fs) ≡ declared_in es ++ declared_in fs
-declared_in-append [] fs = refl
-declared_in-append (e ∷ es) fs = ap (λ x. name_in e ++ x) (declared_in-append es fs) ∙ sym (append_assoc (name_in e) (declared_in es) (declared_in fs))
-
-abbrev IsQuiet : List Event → Type 0
-IsQuiet es = (fields_in es ≡ []) × (declared_in es ≡ [])
-
-quiet_both : (es fs : List Event) → IsQuiet es → IsQuiet fs → IsQuiet (es ++ fs)
-quiet_both es fs h k = (fields_in-append es fs ∙ ap₂ (λ x y. x ++ y) h.0 k.0, declared_in-append es fs ∙ ap₂ (λ x y. x ++ y) h.1 k.1)
-
-quiet_scale : (scale : Scale) → IsQuiet (events_scale scale)
-quiet_scale One = (refl, refl)
-quiet_scale (Whole n) = (refl, refl)
-quiet_scale (Quotient n d) = (refl, refl)
-
-mutual
-  quiet_sum : (s : Sum) → IsQuiet (events_sum s)
-  quiet_sum (sum plus (term negative scale f) ts) = quiet_both (events_scale scale) _ (quiet_scale scale)
-      (quiet_both (events_factor f) (events_terms ts) (quiet_factor f) (quiet_terms ts))
-
-  quiet_terms : (ts : Terms) → IsQuiet (events_terms ts)
-  quiet_terms end = (refl, refl)
-  quiet_terms (further (term negative scale f) ts) = quiet_both (events_scale scale) _ (quiet_scale scale)
-      (quiet_both (events_factor f) (events_terms ts) (quiet_factor f) (quiet_terms ts))
-
-  quiet_factor : (f : Factor) → IsQuiet (events_factor f)
-  quiet_factor (name w) = (refl, refl)
-  quiet_factor (nought place) = (refl, refl)
-  quiet_factor (bracket a b) = quiet_both (events_sum a) (events_sum b) (quiet_sum a) (quiet_sum b)
-  quiet_factor (group a) = quiet_sum a
-
--- an expression is determined by its tree
-same_tree : (x y : Expr) → plain x ≡ plain y → x ≡ y
-same_tree x y h = sym (back x) ∙ ap expression_of_tree h ∙ back y
-
-unmixed : {A : Type 0} (d : Degree A) → d ≢ mixed → is_mixed d ≡ false
-unmixed any h = refl
-unmixed (exact a) h = refl
-unmixed mixed h = absurd (h refl)
-
-no_place : (t : Bool) (place : ℕ) → t ≡ false → (◌≡◌ {A = Option ℕ} (if t then Some place else None) None)
-no_place true place e = cc
-no_place false place e = refl
-
-pub or_none : (a b : Option ℕ) → a ≡ None → b ≡ None → or_else a b ≡ None
-or_none None b h k = k
-or_none (Some place) b h k = cc
-
-abbrev cons_if : {A : Type 0} → Bool → A → List A → List A
-cons_if b x xs = if b then x ∷ xs else xs
-
-lefts_cons : (b : Bool) (q : Equation) (qs : List Equation) → lefts (cons_if b q qs) ≡ cons_if b q.left (lefts qs)
-lefts_cons true q qs = refl
-lefts_cons false q qs = refl
+use Rattle.plain_texts.proofs.SpelledParts.{first_place-both, or_else-both}
+use Rattle.plain_texts.proofs.Written.{summed}
+use Rattle.plain_texts.proofs.ClaimEvents.{fields_in-append, IsQuiet, quiet_both, quiet_sum, same_tree, unmixed, no_place, cons_if, lefts_cons}
+use Rattle.fpl_reader.proofs.DeclaredNames.{declared_in-append}
 
 module _ (text : List ℕ) (p : Presentation) (known : IsField p.field) (named : All (λ g. IsName g.name) p.generators)
     (distinct : AreDistinct p.generators) where
@@ -135,7 +72,6 @@ module _ (text : List ℕ) (p : Presentation) (known : IsField p.field) (named :
   }
 
   -- a claim that is homogeneous is not refused
-
   weight_unmixed : (place : ℕ) (kind : ClaimKind) (a b x y : Expr) → a ≡ x → b ≡ y → IsHomogeneous p (tree_in p.field x) (tree_in p.field y) →
       mixed_weight_of bare (equate kind place a b) ≡ None
   weight_unmixed place kind a b x y h k homogeneous =
@@ -153,7 +89,6 @@ module _ (text : List ℕ) (p : Presentation) (known : IsField p.field) (named :
       ∙ unmixed (parity_of_both (presentation_in p) (tree_in p.field x) (tree_in p.field y)) homogeneous.1)
 
   -- one more claim
-
   said_claim : (rest after : List ℕ) (s : Statement) (kind : ClaimKind) (place : ℕ) (a b : Expr) (q : Equation) (rs : List Equation) (is : List Expr)
       (qs : List Equation) → claims_in scope s ≡ equate kind place a b ∷ []
       → a ≡ q.left → b ≡ q.right → IsHomogeneous p (tree_in p.field q.left) (tree_in p.field q.right)
@@ -178,14 +113,13 @@ module _ (text : List ℕ) (p : Presentation) (known : IsField p.field) (named :
         queries = ap (claimed_as is_equal) all ∙ ap₂ (cons_if (is_equal kind)) whole said.queries;
         names = first_place-both (unknown_in scope) (events_statement s) es unknown said.names;
         denominators = first_place-both (zero_in p.field) (events_statement s) es zeros said.denominators;
-        weighed = ap (first_place (mixed_weight_of bare)) all ∙ or_none (mixed_weight_of bare c) _
+        weighed = ap (first_place (mixed_weight_of bare)) all ∙ or_else-both (mixed_weight_of bare c) _
             (weight_unmixed place kind a b q.left q.right left_is right_is homogeneous) said.weighed;
-        paired = ap (first_place (mixed_parity_of bare)) all ∙ or_none (mixed_parity_of bare c) _
+        paired = ap (first_place (mixed_parity_of bare)) all ∙ or_else-both (mixed_parity_of bare c) _
             (parity_unmixed place kind a b q.left q.right left_is right_is homogeneous) said.paired;
       }
 
   -- the sides of claims
-
   pub spells_line_end : (after : List ℕ) (terminals : List Terminal) → IsLeft text (59 ∷ 10 ∷ after) → Spells text 0 after terminals →
       Spells text 0 (59 ∷ 10 ∷ after) (mark.Semicolon ∷ terminals)
   spells_line_end after terminals e s = spells_mark text 0 0 59 (10 ∷ after) terminals refl refl (omega arith) e
@@ -259,7 +193,6 @@ module _ (text : List ℕ) (p : Presentation) (known : IsField p.field) (named :
       (spells_blank text 0 32 rest terminals refl (later text word (32 ∷ rest) e) s)
 
   -- relations and queries
-
   relation_said : (rest after : List ℕ) (at : ℕ) (q : Equation) (rs : List Equation) (is : List Expr) (qs : List Equation) → IsSoundEquation p q →
       (said : Said after [] [] rs is qs)
       → (t : TwoSides (sides q after) (spelling said.sentence) q) →
@@ -299,7 +232,6 @@ module _ (text : List ℕ) (p : Presentation) (known : IsField p.field) (named :
       refl (omega arith) e t.spells)
 
   -- ideal elements
-
   ideal_shape : (x : Expr) (after : List ℕ) → ideal_line p x ++ after ≡ codes "ideal " ++ (side x ++ (59 ∷ 10 ∷ after))
   ideal_shape x after = append_assoc (codes "ideal " ++ side x) (codes ";\n") after ∙ append_assoc (codes "ideal ") (side x) (59 ∷ 10 ∷ after)
 
@@ -325,7 +257,6 @@ module _ (text : List ℕ) (p : Presentation) (known : IsField p.field) (named :
       (spells_first (codes "ideal") (side x ++ (59 ∷ 10 ∷ after)) (spell_sum t.tree (mark.Semicolon ∷ spelling said.sentence)) refl (omega arith) e t.spells)
 
   -- all of a kind
-
   pub said_relations : (ps : List Equation) (after : List ℕ) (is : List Expr) (qs : List Equation) → All (IsSoundEquation p) ps →
       IsLeft text (lines (equation_line (codes "relation ") p) ps ++ after)
       → Said after [] [] [] is qs → Said (lines (equation_line (codes "relation ") p) ps ++ after) [] [] ps is qs

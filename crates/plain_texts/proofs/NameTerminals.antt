@@ -17,9 +17,6 @@ differs word other d = false_from_ne_true (bytes_eq word other) (λ e. d (sym ((
 pub same_bytes : (word : List ℕ) → bytes_eq word word ≡ true
 same_bytes word = (bytes_eq-Decides word word).1 refl
 
-abbrev name_of_word : List ℕ → ℕ → ℕ → Terminal
-name_of_word word start end = terminal.Name (record { start = start; end = end; rationals = bytes_eq word (codes "Q") })
-
 step : (t : Bool) (a b c : Terminal) → t ≡ false → b ≡ c → (if t then a else b) ≡ c
 step true a b c e h = cc
 step false a b c e h = h

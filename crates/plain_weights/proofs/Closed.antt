@@ -30,7 +30,7 @@ module _ (T : PlainTable) (is_field : IsField T.kind) (p : Presentation) (vector
     pub closed : IsClosedList T.kind n rows
     pub span : (v : Vector (field_of T.kind)) → InSpanOf T.kind rows v ↔ Spanned (field_of T.kind) (IsAmong T is_field p n vector os) v
 
-  nothing_spanned : (y : Vector (field_of T.kind)) → Spanned (field_of T.kind) (λ x. ⊥) y ↔ InSpanAt (field_of T.kind) (number_of T.kind) [] y
+  pub nothing_spanned : (y : Vector (field_of T.kind)) → Spanned (field_of T.kind) (λ x. ⊥) y ↔ InSpanAt (field_of T.kind) (number_of T.kind) [] y
   nothing_spanned y = (
     (λ k. spanned_through (field_of T.kind) (λ x. ⊥) _ (λ x m. absurd m) y k),
     (λ k. spanned_through (field_of T.kind) _ (λ x. ⊥) (λ x m. absurd (none_there (m.1))) y k),

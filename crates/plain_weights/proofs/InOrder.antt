@@ -24,18 +24,13 @@ use Rattle.fpl_log.specs.Slim.{is_left_out, new_number, next_number, next_count,
 use Rattle.plain_elimination.proofs.Inverses.{inverse_stays}
 use Rattle.plain_elimination.specs.Plain.{PivotRow, IsPivotRow, stands_at, Swept, taken_off, sweep_by, sweep_at, sweep_of, Held, Inserted, keep_of, insert_of, close_by, close_to}
 use Rattle.plain_elimination.proofs.Sweeping.{sweep_reads}
+use Rattle.plain_lean.proofs.RenumberedSteps.{long_after}
 
 -- the new numbers, after one step more
 numbers_more : (numbers : List (Option ℕ)) (count : ℕ) (ss : List Step) (s : Step) → (c : ℕ) ×
     (numbers_after numbers count (ss ++ s ∷ []) ≡ numbers_after numbers count ss ++ (next_number (is_left_out s) c) ∷ [])
 numbers_more numbers count [] s = (count, refl)
 numbers_more numbers count (r ∷ ss) s = numbers_more (numbers ++ (next_number (is_left_out r) count) ∷ []) (next_count (is_left_out r) count) ss s
-
-numbers_long : (numbers : List (Option ℕ)) (count : ℕ) (ss : List Step) → length (numbers_after numbers count ss) ≡ length numbers + length ss
-numbers_long numbers count [] = omega arith
-numbers_long numbers count (r ∷ ss) =
-    let h = numbers_long (numbers ++ (next_number (is_left_out r) count) ∷ []) (next_count (is_left_out r) count) ss in
-    let k = length-append numbers ((next_number (is_left_out r) count) ∷ []) in omega arith
 
 order_more : (numbers : List (Option ℕ)) (count : ℕ) (ss : List Step) (s : Step) → AreInOrder numbers count ss →
     CitesEarlier (numbers_after numbers count ss) s → AreInOrder numbers count (ss ++ s ∷ [])
@@ -75,7 +70,7 @@ stays_last : (ss : List Step) (s : Step) → is_left_out s ≡ false → Stays (
 stays_last ss s kept =
     let m = numbers_more [] 0 ss s in
     let l = length-append (numbered ss) ((next_number (is_left_out s) m.0) ∷ []) in
-    let long = numbers_long [] 0 ss in
+    let long = long_after [] 0 ss in
     let here = get_or_push (numbered ss) (next_number (is_left_out s) m.0) None (length ss + 1 - 1) (omega arith) ∙ ap (λ b. next_number b m.0) kept in
     record {
       earlier = record { from_one = omega arith; to_end = (let e = ap length m.1 in omega arith) };
@@ -131,7 +126,8 @@ module _ (kind : Kind) (listed : IsField kind) (n : ℕ) where
       let c = inverse_of kind (get_or x.row (s - 1) (residue 0)) in
       let f = part_fits _ (scale_of kind c x.row) g e in
       let t = lead_is x.row (length x.row) s l in
-      let kept = inverse_stays kind listed (get_or x.row (s - 1) (residue 0)) (a (s - 1) (residue 0) (let u = t.from_one in let v = t.to_end in omega arith)) t.leads in
+      let kept = inverse_stays kind listed (get_or x.row (s - 1) (residue 0))
+      (a (s - 1) (residue 0) (let u = t.from_one in let v = t.to_end in omega arith)) t.leads in
       subst (λ g. Recorded g.pivots g.steps) (sym f.1.1)
       (record {
         order = order_more [] 0 h.steps (Insert origin x.terms c) r.order terms;

@@ -26,12 +26,12 @@ use Rattle.plain_weights.proofs.Gathered.{ReadsRows, rest, first_of}
 use Rattle.plain_weights.proofs.Completed.{with_rows}
 
 -- what is gathered, fully and lean
-record IsGatheredLean (T : PlainTable) (full lean : Elimination) : Type 0 where
-  full_is : Held
-  lean_is : Held
-  full_same : full ≡ record { kind = T.kind; size = length (symbols_in T); held = full_is }
-  lean_same : lean ≡ record { kind = T.kind; size = length (symbols_in T); held = lean_is }
-  held : IsLean full_is lean_is
+pub record IsGatheredLean (T : PlainTable) (full lean : Elimination) : Type 0 where
+  pub full_is : Held
+  pub lean_is : Held
+  pub full_same : full ≡ record { kind = T.kind; size = length (symbols_in T); held = full_is }
+  pub lean_same : lean ≡ record { kind = T.kind; size = length (symbols_in T); held = lean_is }
+  pub held : IsLean full_is lean_is
 
 module _ (T : PlainTable) (listed : IsField T.kind) (p : Presentation) (vector : Origin → Vector (field_of T.kind)) where
   abbrev n : ℕ
@@ -40,16 +40,16 @@ module _ (T : PlainTable) (listed : IsField T.kind) (p : Presentation) (vector :
   reads : Reads T.kind (field_of T.kind) (number_of T.kind)
   reads = kind_reads T.kind listed
 
-  abbrev holding : Held → Elimination
+  abbrev pub holding : Held → Elimination
   holding h = record { kind = T.kind; size = n; held = h }
 
-  abbrev AreRead : List Origin → Type 0
+  abbrev pub AreRead : List Origin → Type 0
   AreRead os = ReadsRows T listed p n vector os
 
-  abbrev Gathers : Result Elimination Unfit → Result Elimination Unfit → Type 0
+  abbrev pub Gathers : Result Elimination Unfit → Result Elimination Unfit → Type 0
   Gathers r s = Agree (IsGatheredLean T) r s
 
-  gather_same : (os : List Origin) (full lean : Held) → AreRead os → All (IsPivotRow T.kind n) full.pivots → IsLean full lean →
+  pub gather_same : (os : List Origin) (full lean : Held) → AreRead os → All (IsPivotRow T.kind n) full.pivots → IsLean full lean →
       Gathers (gather T p os (holding full)) (gather_lean T p os (holding lean))
   gather_same [] full lean r rows h = record { full_is = full; lean_is = lean; full_same = refl; lean_same = refl; held = h }
   gather_same (o ∷ os) full lean r rows h =

@@ -7,3 +7,4 @@ pub mod InOrder
 pub mod Recorded
 pub mod Leaning
 pub mod Computed
+pub mod Late

@@ -4,8 +4,9 @@
 --   gather_lean T p os e    as gather, by put_lean
 --   close_lean T p          as close_weight, by gather_lean
 --   IsSlimmed full lean     the rows are the same, and the steps are those of `full` without those of dependent rows
+--   LateAddNothing          over a prime other than 3, what is gathered stays as it is through the triples behind the last generator
 --   ClosesSlimmed           close_weight and close_lean fail by the same operation, or what the second gives is slimmed of what the first gives
-use Rattle.std.specs.Prelude.{◌≡◌, List, [], ◌∷◌, Result, Ok}
+use Rattle.std.specs.Prelude.{◌≡◌, ℕ, List, [], ◌∷◌, ◌++◌, Result, Ok}
 use Rattle.fpl_numbers.specs.declared.number.Unfit.{Unfit}
 use Rattle.fpl_numbers.specs.Results.{map_ok, and_then}
 use Rattle.fpl_log.specs.declared.step.Origin.{Origin}
@@ -17,6 +18,7 @@ use Rattle.fpl_table.specs.Plain.{PlainTable}
 use Rattle.plain_tables.specs.Holds.{Holds}
 use Rattle.fpl_rewrite.specs.Origins.{origins_of}
 use Rattle.fpl_rewrite.specs.Rows.{row_of_origin}
+use Rattle.plain_sources.specs.Late.{IsReach, IsCut}
 use Rattle.plain_weights.specs.Weight.{begun, with_held, again, close_weight}
 
 abbrev pub put_lean : PlainTable → Presentation → Origin → Elimination → Result Elimination Unfit
@@ -36,3 +38,8 @@ pub record IsSlimmed (full lean : Held) : Type 0 where
 
 abbrev pub ClosesSlimmed : Type 0
 ClosesSlimmed = (p : Presentation) (T : PlainTable) → Holds p T → Agree IsSlimmed (close_weight T p) (close_lean T p)
+
+abbrev pub LateAddNothing : Type 0
+LateAddNothing =
+    (p : Presentation) (T : PlainTable) (bound : ℕ) → Holds p T → IsReach T bound → (done os : List Origin) → done ++ os ≡ origins_of T p → IsCut bound os →
+    (e : Elimination) → gather_lean T p done (begun T) ≡ Ok e → gather_lean T p os e ≡ Ok e

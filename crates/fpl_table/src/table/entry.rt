@@ -10,6 +10,7 @@ use fpl_scalar::Field;
 
 impl<F: Field> Table<F> {
     /// How many basis elements weigh at most `w`.
+    #[inline(always)]
     pub fn through(&self, w: u32) -> u32
         requires { w ≤ self.now.weight }
         ensures value { result ≡ through self.now w }
@@ -25,6 +26,7 @@ impl<F: Field> Table<F> {
 
     /// The places, from 0, of the partners of basis element `i` in the pairs of weight `w`:
     /// from the first up to the second, which it does not reach.
+    #[inline(always)]
     pub(super) fn partners(&self, i: u32, w: u32) -> (u32, u32)
         requires number { (1 ≤ i) × (i ≤ length self.now.basis) }
         requires above { (plain_basis self.now (i - 1)).weight < w }
@@ -45,6 +47,7 @@ impl<F: Field> Table<F> {
 
     /// The entry of the regular pair of basis elements `i` and `j`, whose weights sum to at
     /// most the table's.
+    #[inline(always)]
     pub fn entry(&self, i: u32, j: u32) -> &Row<F>
         requires left { (1 ≤ i) × (i ≤ length self.now.basis) }
         requires right { (1 ≤ j) × (j ≤ length self.now.basis) }

@@ -1,4 +1,4 @@
-use Rattle.plain_texts.proofs.Declarations.{has_presentation}
+use Rattle.plain_texts.proofs.CanonicalTexts.{has_presentation}
 use Rattle.fpl_checkpoint.proofs.OneHead.{head_again, head_taken}
 use Rattle.fpl_checkpoint.proofs.laws.heads_are_read_back.Goals as goal
 

@@ -35,6 +35,6 @@ sweep_work-requires-clause-pivots g c =
 pub returns-in_ok-push-in-Some-2-clause-emptied : goal.returns-in_ok-push-in-Some-2-clause-emptied
 returns-in_ok-push-in-Some-2-clause-emptied g c =
     let kind = g.F.Field.kind_of c.args.field.now in
-    emptied_is c.args.work.now c.clear.new.self kind _ _ c.requires.kind c.requires.zeros c.clear.ensures c.in_ok-sweep_work-in-Some.ensures.kind
-    (c.in_ok-sweep_work-in-Some.ensures.length ∙ ap long_in c.load.ensures ∙ ap length c.row.ensures
+    emptied_is c.args.work.now c.clear-in-Some.new.self kind _ _ c.requires.kind c.requires.zeros c.clear-in-Some.ensures c.in-Ok.ensures.kind
+    (c.in-Ok.ensures.length ∙ ap long_in c.load.ensures ∙ ap length c.row.ensures
     ∙ sym (found_length kind (length c.args.work.now.row) (c.args.s + 1) c.args.pivots.now _ c.requires.pivots c.in-Some.ensures))

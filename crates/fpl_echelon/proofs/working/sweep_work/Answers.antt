@@ -39,7 +39,7 @@ loop-s-preserved g c =
       kind = c.in-Ok.ensures.kind;
       same = same ∙ c.loop-s.invariant.same;
       left = c.loop-s.invariant.left ∙ to_lead kind c.args.pivots.now c.loop-s.most c.in-Some.s
-          (record { row = c.loop-s.row.row; terms = c.loop-s.terms }) c.in-Some.ensures
+          (record { row = c.loop-s.row.row; terms = c.loop-s.terms.items }) c.in-Some.ensures
           ∙ ap (and_then (λ y. sweep_of kind c.args.pivots.now (c.in-Some.s - 1) y)) c.in-Ok.ensures.value;
     }
 
@@ -47,11 +47,11 @@ pub returns-in-Err-clause-value : goal.returns-in-Err-clause-value
 returns-in-Err-clause-value g c =
     let kind = g.F.Field.kind_of c.args.field.now in
     fault_on (λ y. sweep_of kind c.args.pivots.now (c.in-Some.s - 1) y) c.in-Err.fault _ _
-    (c.loop-s.invariant.left ∙ to_lead kind c.args.pivots.now c.loop-s.most c.in-Some.s (record { row = c.loop-s.row.row; terms = c.loop-s.terms })
+    (c.loop-s.invariant.left ∙ to_lead kind c.args.pivots.now c.loop-s.most c.in-Some.s (record { row = c.loop-s.row.row; terms = c.loop-s.terms.items })
     c.in-Some.ensures)
     c.in-Err.ensures.value
 
 pub returns-clause-value : goal.returns-clause-value
 returns-clause-value g c =
     c.loop-s.invariant.left ∙ sym (to_end (g.F.Field.kind_of c.args.field.now) c.args.pivots.now c.loop-s.most
-    (record { row = c.loop-s.row.row; terms = c.loop-s.terms }) c.in_default.ensures)
+    (record { row = c.loop-s.row.row; terms = c.loop-s.terms.items }) c.in_default.ensures)

@@ -16,7 +16,8 @@ matrix_of-returns-in-Gen-clause-value t c =
     let term : IsTerm c.args.p.now.field (length c.args.p.now.generators) (gen c.in-Gen.g) =
     subst (IsTerm c.args.p.now.field (length c.args.p.now.generators)) here c.requires.term in
     ok_more (λ (x : PlainMatrix). x ≡ c.matrix.result.now) (λ (x : PlainMatrix). x ≡ matrix_at c.args.p.now c.args.a.now (plain c.args.e.now)) c.copy.result
-    (λ x e. e ∙ generator_is p a c.in-Gen.g c.matrix.result.now c.requires.assignment term.0 term.1 c.matrix.ensures ∙ ap (matrix_at p a) (sym here)) c.copy.ensures
+    (λ x e. e ∙ generator_is p a c.in-Gen.g c.matrix.result.now c.requires.assignment term.0 term.1 c.matrix.ensures ∙
+    ap (matrix_at p a) (sym here)) c.copy.ensures
 
 pub matrix_of-returns-in-Gen-clause-sound : goal.matrix_of-returns-in-Gen-clause-sound
 matrix_of-returns-in-Gen-clause-sound t c =

@@ -10,5 +10,10 @@ returns-clause-assignment c =
     let given : map_of c.args.p.now c.args.bytes.now c.args.from
     ≡ Ok (record { even = c.in_ok-even.even.value; odd = c.in_ok-odd.odd.value; matrices = c.in_ok-all.all.matrices }) =
     first_of (search rules, grind (arith, common_steps)) in
-    map_gives c.args.p.now c.args.bytes.now c.args.from (record { even = c.in_ok-even.even.value; odd = c.in_ok-odd.odd.value; matrices = c.in_ok-all.all.matrices })
+    map_gives c.args.p.now c.args.bytes.now c.args.from (record {
+      even = c.in_ok-even.even.value;
+      odd = c.in_ok-odd.odd.value;
+      matrices =
+          c.in_ok-all.all.matrices;
+    })
     c.requires.prime (subst IsField c.requires.prime c.requires.sound.field) given

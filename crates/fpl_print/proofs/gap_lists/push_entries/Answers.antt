@@ -38,9 +38,11 @@ push_if_any-requires-clause-element g c =
     let h = next_is_at c.args.row.now c.loop-s.after c.in-Some.s c.in-Some.ensures in
     let from = h.from_one in
     let end = h.to_end in
-    subst (λ (n : Num). IsElement (g.F.Field.kind_of c.args.field.now) n) (sym c.at.ensures) (c.requires (c.in-Some.s - 1) (residue 0) (omega (arith, from, end)))
+    subst (λ (n : Num). IsElement (g.F.Field.kind_of c.args.field.now) n) (sym c.at.ensures)
+    (c.requires (c.in-Some.s - 1) (residue 0) (omega (arith, from, end)))
 
 pub returns : goal.returns
 returns g c =
-    sym (c.loop-s.invariant.left ∙ ap (λ w. c.loop-s.out.items ++ w) (to_last_entry c.loop-s.first c.args.row.now c.loop-s.after c.loop-s.invariant.within c.in_default.ensures)
+    sym (c.loop-s.invariant.left ∙
+    ap (λ w. c.loop-s.out.items ++ w) (to_last_entry c.loop-s.first c.args.row.now c.loop-s.after c.loop-s.invariant.within c.in_default.ensures)
     ∙ append-nil c.loop-s.out.items)

@@ -17,7 +17,8 @@ returns-in-Ok-clause-text g c =
     let new = c.walk.new.run in
     IfOk-weaker c.shown_text.result (λ text. text_of_view c.args.shown new.presentation new.stage.table new.stage.sections ≡ Ok text.items)
     (λ text. AnswersTask c.args.task (start_from run c.args.bytes.now) (done text.items))
-    (λ text e. show_text c.args.task run c.args.bytes.now c.requires.begun new c.in-Ok.ensures.presentation c.in-Ok.ensures.comes c.args.shown c.requires.way text.items e)
+    (λ text e. show_text c.args.task run c.args.bytes.now c.requires.begun new c.in-Ok.ensures.presentation c.in-Ok.ensures.comes c.args.shown c.requires.way
+    text.items e)
     c.shown_text.ensures.text
 
 pub returns-in-Ok-clause-stop : goal.returns-in-Ok-clause-stop

@@ -51,7 +51,8 @@ pub returns-in-Ok-clause-read : goal.returns-in-Ok-clause-read
 returns-in-Ok-clause-read g c = λ e. absurd ((ended_inner _ _ _ _ _ _ c.answer_bytes.ensures.reply).0 e)
 
 pub returns-in-Ok-clause-bytes : goal.returns-in-Ok-clause-bytes
-returns-in-Ok-clause-bytes g c = λ e reads. whole_input _ _ _ _ c.in-Ok.ensures.bytes c.in-Ok.ensures.end (rw c.deref.ensures.value at c.answer_bytes.ensures.bytes)
+returns-in-Ok-clause-bytes g c = λ e reads. whole_input _ _ _ _ c.in-Ok.ensures.bytes c.in-Ok.ensures.end
+    (rw c.deref.ensures.value at c.answer_bytes.ensures.bytes)
 
 pub returns-in-Err-NoMemory-clause-reply : goal.returns-in-Err-NoMemory-clause-reply
 returns-in-Err-NoMemory-clause-reply g c = told_always _ _ (λ bytes. inr (front (inl refl)))

@@ -67,7 +67,8 @@ weights-preserved g c =
     let limit = c.args.task.limit in
     let at = stored_in start c.args.bytes.now in
     let low : run.stage.table.weight < limit = omega (arith, c.weights-test.true, c.weight.ensures) in
-    let step = added_there computes entries start run c.args.bytes.now i.presentation i.version c.in-Ok-true.field-0 new.stage c.in-Ok-true.field-0-test n.adds in
+    let step = added_there computes entries start run c.args.bytes.now i.presentation i.version c.in-Ok-true.field-0 new.stage c.in-Ok-true.field-0-test
+    n.adds in
     let up = step_raises computes entries start.presentation at run.stage new.stage step in
     let added = step_adds computes entries start.presentation at run.stage new.stage step in
     let same = cost_there computes entries start run c.args.bytes.now i.presentation i.version in
@@ -141,7 +142,8 @@ returns-in-Ok-false-clause-paced g c =
     let most : c.add_weight.new.steps ≤ c.args.steps.now + cost_of computes entries start.presentation at (suc run.stage.table.weight) start.stage =
     omega (arith, i.cost (suc run.stage.table.weight) (omega arith), rest, same, c.in-Ok-false.ensures.most.1) in
     paced_run c.args.task start c.args.bytes.now c.requires.begun _ _ run.stage.sections keeps.0
-    (ap (λ (v : Walked). v.stage.sections) i.left ∙ keeps.1) (begins_whole _ _ _ i.taken) _ _ (subst (λ k. c.add_weight.new.steps ≤ c.args.steps.now + cost_of computes entries start.presentation at (suc k) start.stage) (sym i.long) most)
+    (ap (λ (v : Walked). v.stage.sections) i.left ∙ keeps.1) (begins_whole _ _ _ i.taken) _ _
+    (subst (λ k. c.add_weight.new.steps ≤ c.args.steps.now + cost_of computes entries start.presentation at (suc k) start.stage) (sym i.long) most)
 
 pub returns-in-Err-add_weight-clause-reply : goal.returns-in-Err-add_weight-clause-reply
 returns-in-Err-add_weight-clause-reply g c =
@@ -190,7 +192,8 @@ returns-in-Err-add_weight-clause-paced g c =
     let most : c.add_weight.new.steps ≤ c.args.steps.now + cost_of computes entries start.presentation at (suc run.stage.table.weight) start.stage =
     omega (arith, i.cost (suc run.stage.table.weight) (omega arith), rest, same, c.in-Err-add_weight.ensures.most.1) in
     paced_run c.args.task start c.args.bytes.now c.requires.begun _ _ run.stage.sections keeps.0
-    (ap (λ (v : Walked). v.stage.sections) i.left ∙ keeps.1) (begins_whole _ _ _ i.taken) _ _ (subst (λ k. c.add_weight.new.steps ≤ c.args.steps.now + cost_of computes entries start.presentation at (suc k) start.stage) (sym i.long) most)
+    (ap (λ (v : Walked). v.stage.sections) i.left ∙ keeps.1) (begins_whole _ _ _ i.taken) _ _
+    (subst (λ k. c.add_weight.new.steps ≤ c.args.steps.now + cost_of computes entries start.presentation at (suc k) start.stage) (sym i.long) most)
 
 pub returns-in-Err-put_last_section-clause-reply : goal.returns-in-Err-put_last_section-clause-reply
 returns-in-Err-put_last_section-clause-reply g c =
@@ -205,7 +208,8 @@ returns-in-Err-put_last_section-clause-reply g c =
     let at = stored_in start c.args.bytes.now in
     let low : run.stage.table.weight < limit = omega (arith, c.weights-test.true, c.weight.ensures) in
     let w = walk_of computes entries start.presentation at limit start.stage in
-    let step = added_there computes entries start run c.args.bytes.now i.presentation i.version c.in-Ok-true.field-0 new.stage c.in-Ok-true.field-0-test n.adds in
+    let step = added_there computes entries start run c.args.bytes.now i.presentation i.version c.in-Ok-true.field-0 new.stage c.in-Ok-true.field-0-test
+    n.adds in
     let added = step_adds computes entries start.presentation at run.stage new.stage step in
     let keeps = walk_keeps computes entries start.presentation at (limit - new.stage.table.weight) new.stage in
     let kept : new.presentation ≡ start.presentation = n.presentation ∙ i.presentation in
@@ -248,7 +252,8 @@ returns-in-Err-put_last_section-clause-paced g c =
     let at = stored_in start c.args.bytes.now in
     let next : run.stage.table.weight < suc run.stage.table.weight = omega arith in
     let low : run.stage.table.weight < limit = omega (arith, c.weights-test.true, c.weight.ensures) in
-    let step = added_there computes entries start run c.args.bytes.now i.presentation i.version c.in-Ok-true.field-0 new.stage c.in-Ok-true.field-0-test n.adds in
+    let step = added_there computes entries start run c.args.bytes.now i.presentation i.version c.in-Ok-true.field-0 new.stage c.in-Ok-true.field-0-test
+    n.adds in
     let added = step_adds computes entries start.presentation at run.stage new.stage step in
     let same = cost_there computes entries start run c.args.bytes.now i.presentation i.version in
     let rest = cost_stops computes entries start.presentation at (suc run.stage.table.weight) run.stage next in
@@ -290,4 +295,5 @@ returns-clause-paced g c =
     let most : c.weights.steps ≤ c.args.steps.now + cost_of computes entries start.presentation at (suc run.stage.table.weight) start.stage =
     omega (arith, i.cost (suc run.stage.table.weight) (omega arith)) in
     paced_run c.args.task start c.args.bytes.now c.requires.begun _ _ run.stage.sections keeps.0
-    (ap (λ (v : Walked). v.stage.sections) i.left ∙ keeps.1) (begins_whole _ _ _ i.taken) _ _ (subst (λ k. c.weights.steps ≤ c.args.steps.now + cost_of computes entries start.presentation at (suc k) start.stage) (sym i.long) most)
+    (ap (λ (v : Walked). v.stage.sections) i.left ∙ keeps.1) (begins_whole _ _ _ i.taken) _ _
+    (subst (λ k. c.weights.steps ≤ c.args.steps.now + cost_of computes entries start.presentation at (suc k) start.stage) (sym i.long) most)

@@ -16,7 +16,8 @@ weights-preserved g c =
     let limit = c.args.task.limit in
     let at = stored_in start c.args.bytes.now in
     let low : run.stage.table.weight < limit = omega (arith, c.weights-test.true, c.weight.ensures) in
-    let step = added_there computes entries start run c.args.bytes.now i.presentation i.version c.in-Ok-true.field-0 new.stage c.in-Ok-true.field-0-test n.adds in
+    let step = added_there computes entries start run c.args.bytes.now i.presentation i.version c.in-Ok-true.field-0 new.stage c.in-Ok-true.field-0-test
+    n.adds in
     let up = step_raises computes entries start.presentation at run.stage new.stage step in
     let same = cost_there computes entries start run c.args.bytes.now i.presentation i.version in
     let rest = cost_left computes entries start.presentation at limit run.stage new.stage low step in
@@ -39,7 +40,12 @@ weights-smaller g c =
     let entries = c.args.task.entries in
     let step = added_there computes entries start run c.args.bytes.now i.presentation i.version c.in-Ok-true.field-0 new.stage c.in-Ok-true.field-0-test
     c.in-Ok-true.ensures.adds in
-    omega (arith, step_raises computes entries start.presentation (stored_in start c.args.bytes.now) run.stage new.stage step, c.weights-test.true, c.weight.ensures)
+    omega (
+      arith,
+      step_raises computes entries start.presentation (stored_in start c.args.bytes.now) run.stage new.stage step,
+      c.weights-test.true,
+      c.weight.ensures,
+    )
 
 pub returns-in-Ok-false-clause-comes : goal.returns-in-Ok-false-clause-comes
 returns-in-Ok-false-clause-comes g c =

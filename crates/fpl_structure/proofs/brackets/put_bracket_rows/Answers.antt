@@ -18,7 +18,8 @@ returns-in-Err-clause-value g c =
 
 pub loop-i-preserved : goal.loop-i-preserved
 loop-i-preserved g c = record {
-  put = brackets_next c.args.table.now c.args.rows.now c.args.span.now c.loop-i.span c.put_acting.new.span c.loop-i.i c.loop-i.invariant.put c.in-Ok.ensures.value;
+  put = brackets_next c.args.table.now c.args.rows.now c.args.span.now c.loop-i.span c.put_acting.new.span c.loop-i.i c.loop-i.invariant.put
+      c.in-Ok.ensures.value;
   kind = c.in-Ok.ensures.kind ∙ c.loop-i.invariant.kind;
   size = c.in-Ok.ensures.size ∙ c.loop-i.invariant.size;
   rises = (let a = c.in-Ok.ensures.rises in let d = c.loop-i.invariant.rises in omega arith);

@@ -12,6 +12,7 @@ loop-j-init g c = record {
 
 pub loop-j-preserved : goal.loop-j-preserved
 loop-j-preserved g c = record {
-  made = columns_next c.args.table.now c.loop-j.j (formed c.loop-j.rows) (formed c.push_acting.new.rows) c.loop-j.invariant.made c.in_ok-push_acting.ensures.value;
+  made = columns_next c.args.table.now c.loop-j.j (formed c.loop-j.rows)
+      (formed c.push_acting.new.rows) c.loop-j.invariant.made c.in_ok-push_acting.ensures.value;
   rows = c.in_ok-push_acting.ensures.rows;
 }

@@ -7,7 +7,7 @@ use Rattle.fpl_reader.specs.declared.fault.ReaderError.TheVariants.{Refused, NoM
 use Rattle.fpl_reader.specs.Reading.{Read}
 use Rattle.fpl_reader.proofs.OneAnswer.{one_presentation, not_both}
 use Rattle.fpl_canonical.specs.Canonical.{canonical_of}
-use Rattle.plain_texts.proofs.Declarations.{has_presentation}
+use Rattle.plain_texts.proofs.CanonicalTexts.{has_presentation}
 use Rattle.plain_texts.proofs.laws.canonical_text_is_read.Goals as goal
 
 pub returns-clause-presentation : goal.returns-clause-presentation

@@ -1,6 +1,5 @@
-use Rattle.std.proofs.Common.{◌∙◌, ap, sym, subst, arith}
-use Rattle.std.specs.Prelude.{◌≡◌, map, drop, Ok}
-use Rattle.plain_spans.specs.Plain.{put_rows}
+use Rattle.std.proofs.Common.{◌∙◌, ap, sym, arith}
+use Rattle.std.specs.Prelude.{Ok}
 use Rattle.fpl_echelon.proofs.Contracts.{kind_in, size_in}
 use Rattle.fpl_echelon.proofs.Spanning.{put_next, put_stops_at, none_left}
 use Rattle.fpl_echelon.proofs.span.Span.put_all.Goals as goal

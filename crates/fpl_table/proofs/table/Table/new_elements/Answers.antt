@@ -17,7 +17,8 @@ new_element-requires-clause-symbol g c =
     get_or (symbols_in c.args.self.now) (get_or c.args.free.now c.loop-t.t-index 0) no_symbol =
     sym (get_or-map symbol_in c.args.symbols.now (get_or c.args.free.now c.loop-t.t-index 0) (Gen 0)) ∙
     ap (λ l. get_or l (get_or c.args.free.now c.loop-t.t-index 0) no_symbol) c.requires.symbols in
-    let many : length c.args.symbols.now ≡ length (symbols_in c.args.self.now) = sym (length-map c.args.symbols.now symbol_in) ∙ ap length c.requires.symbols in (
+    let many : length c.args.symbols.now ≡ length (symbols_in c.args.self.now) = sym (length-map c.args.symbols.now symbol_in) ∙
+    ap length c.requires.symbols in (
       subst (IsOfTable c.args.self.now) (sym here) (symbol_of_table c.args.self.now (get_or c.args.free.now c.loop-t.t-index 0) place),
       c.requires.numbered (get_or c.args.free.now c.loop-t.t-index 0) (Gen 0) (omega (arith, place, many)),
     )

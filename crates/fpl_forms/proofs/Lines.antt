@@ -1,0 +1,78 @@
+-- A line more at the end of a proof.
+use Rattle.std.proofs.Common.{◌≡◌, ◌<◌, ◌≤◌, ◌+◌, ◌++◌, ℕ, List, [], ◌∷◌, length, refl, ap, sym, subst, ◌∙◌, arith}
+use native.Mathlib.Decide.{dec_lt}
+use Rattle.std.proofs.lemmas.List.{get_or_append_left, length-append, map-id}
+use Rattle.std.proofs.Math.Seq.{get_or-append_seam}
+use Rattle.math_fields.specs.Field.{Field}
+use Rattle.math_algebra.specs.Tree.{Presentation}
+use Rattle.math_algebra.specs.Derives.{Expression}
+use Rattle.math_proofs.specs.Rules.{Rule, same, empty, single, multiply, one, nought, spread, left_sum, right_sum, left_times, right_times, cube, turn, factor, exchange, flat, drop as drop_member, collect, relation, chain, members, parts, swap, jacobi, Line, IsInstance, IsProof, no_line, line_at, Cites}
+use Rattle.math_proofs.specs.Renumbering.{renumbered, RenumberedStays}
+
+same_rule : (r : Rule) → renumbered (λ n. n) r ≡ r
+same_rule same = refl
+same_rule empty = refl
+same_rule single = refl
+same_rule multiply = refl
+same_rule one = refl
+same_rule nought = refl
+same_rule spread = refl
+same_rule left_sum = refl
+same_rule right_sum = refl
+same_rule left_times = refl
+same_rule right_times = refl
+same_rule cube = refl
+same_rule (turn n) = refl
+same_rule (factor n) = refl
+same_rule (exchange k) = refl
+same_rule (flat k) = refl
+same_rule (drop_member k) = refl
+same_rule (collect k) = refl
+same_rule (relation k) = refl
+same_rule (chain n m) = refl
+same_rule (members n m) = refl
+same_rule (parts ns) = ap parts (map-id ns)
+same_rule (swap s t) = refl
+same_rule (jacobi s t) = refl
+
+module _ (K : Field) (P : Presentation K.Carrier) where
+  line_more : (lines more : List (Line K)) (i : ℕ) → i < length lines → line_at K (lines ++ more) i ≡ line_at K lines i
+  line_more lines more i lt = get_or_append_left lines more (no_line K) i lt
+
+  pub cites_more : (lines more : List (Line K)) (n c : ℕ) (e f : Expression K) → n ≤ length lines → Cites K lines n c e f → Cites K (lines ++ more) n c e f
+  cites_more lines more n c e f le h =
+      let before = h.before in
+      let lt : h.which < length lines = omega (arith, before, le) in
+      record {
+        which = h.which;
+        counts = h.counts;
+        before = before;
+        its_left = ap (λ l. l.left_side) (line_more lines more h.which lt) ∙ h.its_left;
+        its_right = ap (λ l. l.right_side) (line_more lines more h.which lt) ∙ h.its_right;
+      }
+
+  instance_more : RenumberedStays K → (lines more : List (Line K)) (n : ℕ) (l : Line K) → n ≤ length lines →
+      IsInstance K P (Cites K lines n) l.why l.left_side l.right_side →
+      IsInstance K P (Cites K (lines ++ more) n) l.why l.left_side l.right_side
+  instance_more stays lines more n l le i =
+      subst (λ r. IsInstance K P (Cites K (lines ++ more) n) r l.left_side l.right_side) (same_rule l.why)
+      (stays P lines (lines ++ more) n n (λ n. n) (λ c e f h. cites_more lines more n c e f le h) l.why l.left_side l.right_side i)
+
+  pub proof_more : RenumberedStays K → (lines : List (Line K)) (l : Line K) → IsProof K P lines →
+      IsInstance K P (Cites K lines (length lines)) l.why l.left_side l.right_side → IsProof K P (lines ++ l ∷ [])
+  proof_more stays lines l h i n lt = go (dec_lt n (length lines))
+    where
+      one_longer : length (lines ++ l ∷ []) ≡ length lines + 1
+      one_longer = length-append lines (l ∷ [])
+
+      Goal : ℕ → Line K → Type 0
+      Goal n x = IsInstance K P (Cites K (lines ++ l ∷ []) n) x.why x.left_side x.right_side
+
+      go : Dec (n < length lines) → Goal n (line_at K (lines ++ l ∷ []) n)
+      go (yes before) = subst (Goal n) (sym (line_more lines (l ∷ []) n before))
+          (instance_more stays lines (l ∷ []) n (line_at K lines n) (omega (arith, before)) (h n before))
+      go (no past) =
+          let last : length lines ≡ n = omega (arith, one_longer, lt, past) in
+          subst (λ m. Goal m (line_at K (lines ++ l ∷ []) m)) last
+          (subst (Goal (length lines)) (sym (get_or-append_seam lines l [] (no_line K)))
+          (instance_more stays lines (l ∷ []) (length lines) l (omega arith) i))

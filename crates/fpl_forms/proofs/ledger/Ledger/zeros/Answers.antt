@@ -1,0 +1,35 @@
+use Rattle.std.proofs.Common.{◌≡◌, ◌<◌, ◌++◌, ◌∙◌, [], ◌∷◌, subst, sym, ap, ap₂, map, get_or, length, rules}
+use Rattle.std.proofs.lemmas.List.{get_or_read, map-append, map_more}
+use Rattle.std.proofs.lemmas.List.Elements.{All-append}
+use Rattle.fpl_forms.specs.Ledgers.{IsWithin, AreWithin, left_of, right_of}
+use Rattle.fpl_forms.specs.Forms.{no_term, term_expr, zeroed}
+use Rattle.fpl_forms.proofs.Ledgers.{all_one, grows_trans, grows_all, grows_lefts, grows_rights}
+use Rattle.fpl_forms.proofs.Moves.{grows_atoms, grows_terms}
+use Rattle.fpl_forms.proofs.ledger.Ledger.zeros.Goals as goal
+
+pub loop-i-preserved : goal.loop-i-preserved
+loop-i-preserved c =
+    let i = c.loop-i.invariant in
+    let g = c.in_ok-n.ensures.grows in
+    let says = c.in_ok-n.ensures.says in
+    let M = c.zero.new.self in
+    let ts = c.args.sum.now.terms.items in
+    let atoms = c.args.atoms.now in
+    let olds = c.loop-i.lines.items in
+    let n = c.in_ok-n.n in
+    let lt : c.loop-i.i < length ts = search rules in
+    let item : c.index.result.now ≡ get_or ts c.loop-i.i no_term = get_or_read ts c.loop-i.i _ lt c.index.ensures no_term in
+    let items : c.push.new.self.items ≡ olds ++ n ∷ [] = c.in_ok-push.ensures.items in
+    record {
+      grows = grows_trans i.grows g;
+      atoms = grows_atoms g atoms i.atoms;
+      terms = grows_terms g (length atoms) ts i.terms;
+      within = subst (AreWithin M) (sym items)
+          (All-append (IsWithin M) olds (n ∷ []) (grows_all g olds i.within) (all_one (IsWithin M) n (says.from_one, says.to_end)));
+      lefts = ap (map (left_of M)) items ∙ map-append (left_of M) olds (n ∷ []) ∙
+          ap₂ (λ a b. a ++ b ∷ []) (grows_lefts g olds i.within ∙ i.lefts) (says.left ∙ ap (term_expr atoms) item) ∙
+          sym (map_more (term_expr atoms) ts c.loop-i.i no_term lt);
+      rights = ap (map (right_of M)) items ∙ map-append (right_of M) olds (n ∷ []) ∙
+          ap₂ (λ a b. a ++ b ∷ []) (grows_rights g olds i.within ∙ i.rights) (says.right ∙ ap (zeroed atoms) item) ∙
+          sym (map_more (zeroed atoms) ts c.loop-i.i no_term lt);
+    }
