@@ -11,7 +11,7 @@ use Rattle.fpl_table.specs.Shape.{HasShape}
 use Rattle.fpl_table.proofs.Lists.{map_at, at_middle, at_default}
 use Rattle.fpl_table.proofs.Weights.{through_within, through_below, through_above}
 use Rattle.plain_envelope.specs.Listing.{IsWeighted, begun, count_through, or_at, word_limit}
-use Rattle.plain_envelope.proofs.Listing.{no_letters, Parts, parts_at, begun_length, begun_none, head_next, head_none, heads_all, heads_grow}
+use Rattle.plain_envelope.proofs.Listing.{no_letters, Parts, parts_at, begun_length, begun_none, head_next, head_none, heads_all, heads_grow, skipped_within}
 use Rattle.fpl_envelope.specs.Counts.{words_in, heads_in, skipped_in, IsCountRow, AreCounts, IsRest}
 
 pub one_of_none : (T : PlainTable) → length (words_in T 0) ≡ 1
@@ -213,6 +213,9 @@ module _ (T : PlainTable) (shape : HasShape T) where
   pub light_first : (i w k : ℕ) → 1 ≤ w → i < length T.basis → heads_in T w i ≤ k → k < heads_in T w (suc i) → (plain_basis T i).weight ≤ w
   light_first i zero k some l low high = absurd (omega arith)
   light_first i (suc w) k some l low high = (parts_at K (table_in T.kind T) W w k i l low high).fits
+
+  pub skipped_most : (v i : ℕ) → i < length T.basis → skipped_in T v i ≤ length (words_in T v)
+  skipped_most v i l = skipped_within K (table_in T.kind T) W v i l
 
 -- the limit, one weight on
 module _ (T : PlainTable) (n : ℕ) where

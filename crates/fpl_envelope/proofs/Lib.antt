@@ -1,2 +1,14 @@
 pub mod CountRows
 pub mod Spelled
+pub mod Adding
+pub mod Before
+pub mod Acted
+pub mod Residues
+pub mod Fitting
+pub mod Levels
+pub mod Bracketing
+pub mod Leading
+pub mod Terms
+pub mod Parts
+pub mod Lettered
+pub mod Pieces

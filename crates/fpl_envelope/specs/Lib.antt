@@ -1,2 +1,4 @@
 pub mod Counts
 pub mod Action
+pub mod Kept
+pub mod Polys

@@ -1,8 +1,9 @@
 //! How many ordered words there are, by weight and first letter. From these counts the number of a word follows, and no list of words is kept.
 ghost use Rattle.std.specs.Prelude.{◌≡◌, ◌≤◌, ◌<◌, ◌+◌, ◌-◌, ◌*◌, ◌^◌, ◌++◌, ◌∷◌, suc, length, map, get_or, IfOk, OnOk};
-ghost use Rattle.fpl_table.specs.Plain.{plain_basis, through};
+ghost use Rattle.math_words.specs.Words.{may_stand};
+ghost use Rattle.fpl_table.specs.Plain.{plain_basis, table_in, through};
 ghost use Rattle.fpl_table.specs.Shape.{HasShape};
-ghost use Rattle.fpl_envelope.specs.Counts.{AreCounts, IsCountRow, IsRest, words_in, heads_in, skipped_in};
+ghost use Rattle.fpl_envelope.specs.Counts.{AreCounts, IsCountRow, IsRest, words_in, word_in, heads_in, skipped_in};
 
 use fpl_model::Parity;
 use fpl_scalar::Field;
@@ -162,5 +163,32 @@ impl Counts {
             weight,
             number: at.number - before + self.skipped(table, weight, letter),
         }
+    }
+
+    /// Whether basis element `i` may stand before a word, so that the word stays ordered.
+    pub(crate) fn stands<F: Field>(&self, table: &Table<F>, i: u32, at: Place) -> bool
+        requires counts { AreCounts table.now self.now }
+        requires weight { at.weight < length self.now }
+        requires letter { (1 ≤ i) × (i ≤ length table.now.basis) }
+        requires number { at.number < length (words_in table.now at.weight) }
+        ensures value { result ≡ may_stand (table_in table.now.kind table.now) (i - 1) (word_in table.now at.weight at.number) }
+        ensures shape { HasShape table.now }
+    {
+        let _count = table.basis_len();
+        at.number >= self.skipped(table, at.weight, i)
+    }
+
+    /// The number of a word with a basis element in front, which may stand before it.
+    pub(crate) fn before<F: Field>(&self, table: &Table<F>, i: u32, at: Place) -> u64
+        requires counts { AreCounts table.now self.now }
+        requires letter { (1 ≤ i) × (i ≤ length table.now.basis) }
+        requires weight { (plain_basis table.now (i - 1)).weight + at.weight < length self.now }
+        requires number { at.number < length (words_in table.now at.weight) }
+        requires stands { skipped_in table.now at.weight (i - 1) ≤ at.number }
+        ensures within { result < length (words_in table.now ((plain_basis table.now (i - 1)).weight + at.weight)) }
+        ensures word { word_in table.now ((plain_basis table.now (i - 1)).weight + at.weight) result ≡ (i - 1) ∷ word_in table.now at.weight at.number }
+    {
+        let weight = table.basis(i).weight + at.weight;
+        self.heads(table, weight, i - 1) + (at.number - self.skipped(table, at.weight, i))
     }
 }

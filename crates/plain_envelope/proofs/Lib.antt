@@ -4,4 +4,6 @@ pub mod Words
 pub mod Limits
 pub mod Straight
 pub mod Straightened
-pub mod Support
+pub mod Passing
+pub mod Sums
+pub mod ByWeight

@@ -1,6 +1,7 @@
 -- The ordered words of a weight, in their order, and how many there are. Basis elements count from 0.
 --
 --   IsWeighted T          each basis element has a weight of at least 1
+--   IsSorted T            basis elements stand by weight
 --   words_begun T L w i   the words of weight w that begin with b_i, where L has the words of each lower weight: b_i before each word of the weight that is
 --                         left before which it may stand
 --   word_lists T w        the words of each weight from 0 to w
@@ -9,7 +10,6 @@
 --   head_count T w i      how many of weight w begin with an element before b_i
 --   next_letter T i       the least number that may follow i in a word: i where b_i is even, else i + 1
 --   skipped T w i         how many words of weight w stand before those before which b_i may stand
---   steps T i u           a bound for the steps of the action of b_i on u: none where it may stand before it, else the number of letters
 --   count_through T w     how many words there are of weights 1 to w
 --   word_limit T n w      the least weight of at most w through which the words number more than n, with that number
 use Rattle.std.specs.Prelude.{ℕ, zero, suc, ◌+◌, ◌-◌, ◌<◌, ◌≤◌, List, [], ◌∷◌, ◌++◌, length, map, get_or, Option, Some, None, cond, nat_le, nat_lt}
@@ -22,6 +22,9 @@ use Rattle.math_words.specs.Words.{Word, may_stand}
 
 abbrev pub IsWeighted : {K : Field} → Table K → Type 0
 IsWeighted T = (i : ℕ) → i < length T.basis → 1 ≤ weight_at T i
+
+abbrev pub IsSorted : {K : Field} → Table K → Type 0
+IsSorted T = (i j : ℕ) → i ≤ j → j < length T.basis → weight_at T i ≤ weight_at T j
 
 abbrev pub words_begun : {K : Field} → Table K → List (List Word) → ℕ → ℕ → List Word
 words_begun T L w i =
@@ -48,9 +51,6 @@ next_letter T i = cond (is_odd (parity_at T i)) (i + 1) i
 abbrev pub skipped : {K : Field} → Table K → ℕ → ℕ → ℕ
 skipped T zero i = 0
 skipped T (suc w) i = head_count T (suc w) (next_letter T i)
-
-abbrev pub steps : {K : Field} → Table K → ℕ → Word → ℕ
-steps T i u = cond (may_stand T i u) 0 (length u)
 
 unfoldable pub count_through : {K : Field} → Table K → ℕ → ℕ
 count_through T zero = 0

@@ -1,0 +1,8 @@
+use Rattle.fpl_why.specs.Checking.{kind_in}
+use Rattle.fpl_why.proofs.Residues.{product_is}
+use Rattle.fpl_why.proofs.checker.Checker.product.Goals as goal
+
+pub returns-clause-value : goal.returns-clause-value
+returns-clause-value c =
+    product_is (kind_in c.args.self.now) c.args.self.now.prime c.requires.checker.field c.requires.checker.listed c.args.c c.args.a c.requires.left
+    c.requires.right
