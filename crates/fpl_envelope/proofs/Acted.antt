@@ -45,9 +45,6 @@ module _ (T : PlainTable) (ready : IsEnveloped T) where
     pub ordered_at : (v k : ℕ) → k < length (words_in T v) → IsOrdered (math_in T) (word_in T v k)
     ordered_at v k l = ((words_are_listed K (math_in T) (weighted T shape) v).ordered k l).0
 
-    pub weight_at_word : (v k : ℕ) → k < length (words_in T v) → word_weight (math_in T) (word_in T v k) ≡ v
-    weight_at_word v k l = ((words_are_listed K (math_in T) (weighted T shape) v).ordered k l).1
-
     -- on a word that begins with a smaller one
     pub acted_passed : (i j v k u r : ℕ) (f : Form (field_in T)) → i < length T.basis → k < length (words_in T v) → word_in T v k ≡ (j ∷ word_in T u r) →
         j < i →

@@ -39,9 +39,6 @@ rows_more P d xs x n l h p k m = by_last (dec_lt k n)
         subst (λ k. P k (get_or (xs ++ x ∷ []) k d)) e (subst (λ n. P n (get_or (xs ++ x
         ∷ []) n d)) l (subst (P (length xs)) (sym (at_middle xs x [] d)) (subst (λ n. P n x) (sym l) p)))
 
-pub level_start : (T : PlainTable) (w n : ℕ) → n ≡ through T w → IsLevelFrom T w n []
-level_start T w n e = record { long = let q : 0 + n ≡ through T w = omega (arith, e) in q; has = λ i l m. absurd (omega arith) }
-
 -- the level with the element before
 pub level_more : (T : PlainTable) (w n i : ℕ) (level : List (List (List Num))) (rows : List (List Num)) → suc i ≡ n → IsLevelFrom T w n level →
     IsElementRows T w i rows → IsLevelFrom T w i (level ++ rows ∷ [])
@@ -69,9 +66,6 @@ level_more T w n i level rows e h r = record {
           rows = subst (λ p. IsElementRows T w m (get_or (level ++ rows ∷ []) p [])) place
               (subst (IsElementRows T w m) (sym (at_middle level rows [] [])) (subst (λ m. IsElementRows T w m rows) same r));
         }
-
-pub products_start : (T : PlainTable) (counts : List (List ℕ)) → AreCounts T counts → AreProducts T (record { counts = counts; levels = [] })
-products_start T counts h = record { counts = h; levels = λ w l. absurd (omega arith); within = omega arith }
 
 pub products_more : (T : PlainTable) (kept new : Kept) (w : ℕ) (level : List (List (List Num))) → AreProducts T kept → w ≡ length kept.levels →
     w < length kept.counts → IsLevelFrom T w 0 level → new ≡ record { counts = kept.counts; levels = kept.levels ++ level ∷ [] } → AreProducts T new

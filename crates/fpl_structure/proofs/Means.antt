@@ -18,7 +18,6 @@ use Rattle.fpl_table.specs.Plain.{PlainTable, table_in}
 use Rattle.plain_elimination.specs.Plain.{Elimination, rows_of}
 use Rattle.plain_elimination.specs.Spans.{ClosesTo}
 use Rattle.plain_spans.specs.Plain.{begin, put_row, put_rows, closed_of, span_of, kernel_of}
-use Rattle.plain_spans.specs.Means.{AreSolutions}
 use Rattle.plain_spans.proofs.Putting.{fault_part, fault_first}
 use Rattle.plain_tables.specs.Holds.{Holds}
 use Rattle.plain_structure.specs.Plain.{Rows, size, centre_rows, centre_of, lower_central_of, ideal_of}
@@ -79,13 +78,6 @@ module _ (T : PlainTable) (kind : Kind) (n : ℕ) (rows : Rows) (r : Result Rows
   centre_value e h =
       subst (λ k. GivesBy whole r (kernel_of k (size T) (centre_rows T))) is_kind
       (subst (λ m. GivesBy whole r (kernel_of kind m (centre_rows T))) is_size (subst (λ rs. GivesBy whole r (kernel_of kind n rs)) e h))
-
-  pub centre_are_rows : IfOk r (λ solved. AreSolutions kind n rows solved) → IfOk r (λ solved. AreRows T.kind (size T) solved)
-  centre_are_rows h = by r h
-    where
-      by : (r : Result Rows Fault) → IfOk r (λ solved. AreSolutions kind n rows solved) → IfOk r (λ solved. AreRows T.kind (size T) solved)
-      by (Ok solved) s = subst (λ k. AreRows k (size T) solved) is_kind (subst (λ m. AreRows kind m solved) is_size s.closed.are_rows)
-      by (Err fault) s = tt
 
 pub centre_is : (p : Presentation) (T : PlainTable) (r : Result Rows Fault) → Holds p T → GivesBy whole r (centre_of T) →
     IfOk r (λ rows. AreRowsOf p.field T rows (IsCentral (field_of p.field) (table_in p.field T)))
