@@ -1,4 +1,5 @@
 ghost use Rattle.std.specs.Prelude.{◌≡◌, ◌++◌, OnOk};
+ghost use Rattle.std.specs.Io.{StartsWith};
 ghost use Rattle.fpl_numbers.specs.declared.number.Kind.TheVariants.{Rational};
 ghost use Rattle.fpl_numbers.specs.Numbers.{IsElement};
 ghost use Rattle.fpl_bytes.specs.declared.version.Version.TheVariants.{Two};
@@ -10,7 +11,8 @@ use std::alloc::AllocError;
 // The numerator in two's complement, and the denominator.
 fn push_fraction(out: &mut Vec<u8>, number: &Num) -> Result<(), AllocError>
     requires { IsElement Rational number.now }
-    ensures { OnOk result (out.new.items ≡ out.old.items ++ number_bytes Two Rational number.now) }
+    ensures bytes { OnOk result (out.new.items ≡ out.old.items ++ number_bytes Two Rational number.now) }
+    ensures front { StartsWith out.new.items out.old.items }
 {
     let above = number.numerator;
     let below = number.denominator;
@@ -23,6 +25,7 @@ fn push_fraction(out: &mut Vec<u8>, number: &Num) -> Result<(), AllocError>
 pub fn push_number(out: &mut Vec<u8>, kind: Kind, number: &Num) -> Result<(), AllocError>
     requires { IsElement kind number.now }
     ensures bytes { OnOk result (out.new.items ≡ out.old.items ++ number_bytes Two kind number.now) }
+    ensures front { StartsWith out.new.items out.old.items }
     ensures stored { OnOk result (IsStored Two kind number.now) }
 {
     match kind {

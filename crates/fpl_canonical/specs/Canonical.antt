@@ -5,12 +5,13 @@
 --   own_sign stand c       the sign of a multiple's number, which the sum writes where the multiple is its member
 --   begins_below e         whether a member of a sum is a multiple whose number is below 0
 --   expression_text names stand e   the text of a tree: a name, 0, [A,B], C*A, or a sum
+--   is_small es, small_opening b, in_small b t   whether a sum has fewer than two members, as in no presentation; it stands in sum( and )
 --   sum_text names first es         the members of a sum, each after its sign
 --   side_text p e          the text of a side of an equation, or of an ideal element
 --   field_line, generator_line, equation_line, ideal_line   the lines of these items
 --   lines line xs          the lines of a list's members, in order
 --   canonical_of p         field; generators; relations; ideal elements; queries
-use Rattle.std.specs.Prelude.{ℕ, List, [], ◌∷◌, ◌++◌, Bool, true, false, if◌then◌else◌, codes, decimal}
+use Rattle.std.specs.Prelude.{ℕ, List, [], ◌∷◌, ◌++◌, Bool, true, false, nat_lt, if◌then◌else◌, codes, decimal}
 use Rattle.fpl_numbers.specs.declared.number.Num.{Num}
 use Rattle.fpl_numbers.specs.declared.number.Kind.{Kind}
 use Rattle.math_algebra.specs.Tree.{Tree, Trees, gen, none, sum_of, multiple, bracket_of, end, more}
@@ -19,6 +20,7 @@ use Rattle.fpl_model.specs.declared.expr.Expr.{Expr}
 use Rattle.fpl_model.specs.declared.presentation.Generator.{Generator}
 use Rattle.fpl_model.specs.declared.presentation.Equation.{Equation}
 use Rattle.fpl_model.specs.declared.presentation.Presentation.{Presentation}
+use Rattle.fpl_model.specs.Sound.{many}
 use Rattle.fpl_canonical.specs.declared.expression.Stand.{Stand}
 use Rattle.fpl_canonical.specs.declared.expression.Stand.TheVariants.{Alone, Member, Factor}
 use Rattle.fpl_spelling.specs.Spelling.{field_text, parity_text, names_of, name_text, is_below_nought, magnitude_text, sign_text}
@@ -54,11 +56,20 @@ begins_below (sum_of es) = false
 begins_below (multiple c e) = is_below_nought c
 begins_below (bracket_of a b) = false
 
+abbrev pub is_small : Trees Num → Bool
+is_small es = nat_lt (many es) 2
+
+abbrev pub small_opening : Bool → List ℕ
+small_opening b = if b then codes "sum(" else []
+
+abbrev pub in_small : Bool → List ℕ → List ℕ
+in_small b t = small_opening b ++ t ++ closing b
+
 abbrev mutual
   pub expression_text : (names : List (List ℕ)) → Stand → Tree Num → List ℕ
   expression_text names stand (gen g) = name_text names g
   expression_text names stand none = codes "0"
-  expression_text names stand (sum_of es) = in_parentheses (encloses_sum stand) (sum_text names true es)
+  expression_text names stand (sum_of es) = in_parentheses (encloses_sum stand) (in_small (is_small es) (sum_text names true es))
   expression_text names stand (multiple c e) =
       in_parentheses (encloses_multiple stand) (own_sign stand c ++ magnitude_text c ++ codes "*" ++ expression_text names Factor e)
   expression_text names stand (bracket_of a b) = codes "[" ++ expression_text names Alone a ++ codes "," ++ expression_text names Alone b ++ codes "]"

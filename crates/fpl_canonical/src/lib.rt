@@ -1,8 +1,8 @@
-//! The canonical text of a presentation.
+//! The canonical text of a presentation, and of an expression.
 #![tactic(auto)]
 
 mod expression;
 mod writing;
 
 pub use expression::Stand;
-pub use writing::write;
+pub use writing::{push_side, write};

@@ -1,34 +1,39 @@
 //! The lines of a presentation.
 ghost use Rattle.std.specs.Prelude.{◌≡◌, ◌++◌, map, codes, IfOk, OnOk};
+ghost use Rattle.fpl_spelling.specs.Fronts.{KeepsFront};
 ghost use Rattle.fpl_spelling.specs.Spelling.{names_of};
 ghost use Rattle.fpl_canonical.specs.Canonical.{side_text, field_line, generator_line, equation_line, ideal_line, lines, canonical_of};
 
 use crate::expression::{Stand, push_expression};
 use fpl_model::{Equation, Expr, Generator, Presentation};
-use fpl_spelling::{push_field, push_number, push_parity};
+use fpl_spelling::{push_field, push_number, push_parity, push_text};
 use std::alloc::{AllocError, Global};
 
 fn push_field_line(out: &mut Vec<u8>, p: &Presentation) -> Result<(), AllocError>
-    ensures { OnOk result (out.new.items ≡ out.old.items ++ field_line p.now.field) }
+    ensures text { OnOk result (out.new.items ≡ out.old.items ++ field_line p.now.field) }
+    ensures front { KeepsFront out.old.items out.new.items }
 {
-    out.extend_from_slice(b"field ")?;
+    push_text(out, b"field ")?;
     push_field(out, p.field)?;
-    out.extend_from_slice(b";\n")
+    push_text(out, b";\n")
 }
 
 fn push_generator_line(out: &mut Vec<u8>, g: &Generator) -> Result<(), AllocError>
-    ensures { OnOk result (out.new.items ≡ out.old.items ++ generator_line g.now) }
+    ensures text { OnOk result (out.new.items ≡ out.old.items ++ generator_line g.now) }
+    ensures front { KeepsFront out.old.items out.new.items }
 {
     push_parity(out, g.parity)?;
-    out.extend_from_slice(b" ")?;
-    out.extend_from_slice(g.name.text().as_bytes())?;
-    out.extend_from_slice(b":")?;
+    push_text(out, b" ")?;
+    push_text(out, g.name.text().as_bytes())?;
+    push_text(out, b":")?;
     push_number(out, g.weight)?;
-    out.extend_from_slice(b";\n")
+    push_text(out, b";\n")
 }
 
-fn push_side(out: &mut Vec<u8>, p: &Presentation, e: &Expr) -> Result<(), AllocError>
-    ensures { OnOk result (out.new.items ≡ out.old.items ++ side_text p.now e.now) }
+/// Appends the text of a side of an equation, or of an ideal element.
+pub fn push_side(out: &mut Vec<u8>, p: &Presentation, e: &Expr) -> Result<(), AllocError>
+    ensures text { OnOk result (out.new.items ≡ out.old.items ++ side_text p.now e.now) }
+    ensures front { KeepsFront out.old.items out.new.items }
 {
     push_expression(out, &p.generators, Stand::Alone, e)
 }
@@ -39,25 +44,28 @@ fn push_equation_line(
     p: &Presentation,
     q: &Equation,
 ) -> Result<(), AllocError>
-    ensures { OnOk result (out.new.items ≡ out.old.items ++ equation_line word.now p.now q.now) }
+    ensures text { OnOk result (out.new.items ≡ out.old.items ++ equation_line word.now p.now q.now) }
+    ensures front { KeepsFront out.old.items out.new.items }
 {
-    out.extend_from_slice(word)?;
+    push_text(out, word)?;
     push_side(out, p, &q.left)?;
-    out.extend_from_slice(b" = ")?;
+    push_text(out, b" = ")?;
     push_side(out, p, &q.right)?;
-    out.extend_from_slice(b";\n")
+    push_text(out, b";\n")
 }
 
 fn push_ideal_line(out: &mut Vec<u8>, p: &Presentation, e: &Expr) -> Result<(), AllocError>
-    ensures { OnOk result (out.new.items ≡ out.old.items ++ ideal_line p.now e.now) }
+    ensures text { OnOk result (out.new.items ≡ out.old.items ++ ideal_line p.now e.now) }
+    ensures front { KeepsFront out.old.items out.new.items }
 {
-    out.extend_from_slice(b"ideal ")?;
+    push_text(out, b"ideal ")?;
     push_side(out, p, e)?;
-    out.extend_from_slice(b";\n")
+    push_text(out, b";\n")
 }
 
 fn push_generators(out: &mut Vec<u8>, p: &Presentation) -> Result<(), AllocError>
-    ensures { OnOk result (out.new.items ≡ out.old.items ++ lines generator_line p.now.generators) }
+    ensures text { OnOk result (out.new.items ≡ out.old.items ++ lines generator_line p.now.generators) }
+    ensures front { KeepsFront out.old.items out.new.items }
 {
     for g in p.generators.as_slice() {
         push_generator_line(out, g)?;
@@ -71,7 +79,8 @@ fn push_equations(
     p: &Presentation,
     equations: &[Equation],
 ) -> Result<(), AllocError>
-    ensures { OnOk result (out.new.items ≡ out.old.items ++ lines (equation_line word.now p.now) equations.now) }
+    ensures text { OnOk result (out.new.items ≡ out.old.items ++ lines (equation_line word.now p.now) equations.now) }
+    ensures front { KeepsFront out.old.items out.new.items }
 {
     for q in equations {
         push_equation_line(out, word, p, q)?;
@@ -80,7 +89,8 @@ fn push_equations(
 }
 
 fn push_ideals(out: &mut Vec<u8>, p: &Presentation) -> Result<(), AllocError>
-    ensures { OnOk result (out.new.items ≡ out.old.items ++ lines (ideal_line p.now) p.now.ideals) }
+    ensures text { OnOk result (out.new.items ≡ out.old.items ++ lines (ideal_line p.now) p.now.ideals) }
+    ensures front { KeepsFront out.old.items out.new.items }
 {
     for e in p.ideals.as_slice() {
         push_ideal_line(out, p, e)?;

@@ -21,7 +21,7 @@ use Rattle.fpl_check.specs.declared.fault.Spot.TheVariants.{Closed as AtClosed}
 use Rattle.fpl_check.specs.declared.fault.Why.TheVariants.{NotClosed}
 use Rattle.fpl_check.specs.declared.fault.CheckFault.{CheckFault}
 use Rattle.fpl_check.specs.Refusal.{demand, GivesCheck}
-use Rattle.fpl_check.specs.ClosedRows.{test_lead_at, lead_or_none, test_leads, is_lead, test_crossing, test_apart}
+use Rattle.fpl_check.specs.ClosedRows.{test_lead_at, lead_or_none, test_leads, is_greatest, test_crossing, test_apart}
 use Rattle.fpl_check.proofs.ListedOrigins.{demanded, passing_first}
 use Rattle.fpl_check.proofs.Loops.{both_true, is_below}
 use Rattle.fpl_check.proofs.RowLoops.{is_same}
@@ -105,15 +105,15 @@ crossings k leads lead s (c ∷ cs) e (suc t) l =
     (crossings k leads lead (s + 1) cs a.1 t (omega (arith, l)))
 
 each_apart : (k : ℕ) (all rows : List (List Num)) → test_apart k all rows ≡ Ok tt → (i : ℕ) → i < length rows → (m : ℕ) ×
-    (test_crossing m (is_lead all) (lead_or_none (get_or rows i [])) 1 (get_or rows i []) ≡ Ok tt)
+    (test_crossing m (is_greatest all) (lead_or_none (get_or rows i [])) 1 (get_or rows i []) ≡ Ok tt)
 each_apart k all [] e i l = absurd (omega (arith, l))
-each_apart k all (row ∷ rows) e zero l = (k, (passing_first (test_crossing k (is_lead all) (lead_or_none row) 1 row) (test_apart (k + 1) all rows) tt e).0)
+each_apart k all (row ∷ rows) e zero l = (k, (passing_first (test_crossing k (is_greatest all) (lead_or_none row) 1 row) (test_apart (k + 1) all rows) tt e).0)
 each_apart k all (row ∷ rows) e (suc i) l = each_apart (k + 1) all rows
-    (passing_first (test_crossing k (is_lead all) (lead_or_none row) 1 row) (test_apart (k + 1) all rows) tt e).1 i (omega (arith, l))
+    (passing_first (test_crossing k (is_greatest all) (lead_or_none row) 1 row) (test_apart (k + 1) all rows) tt e).1 i (omega (arith, l))
 
-lead_found : (rows : List (List Num)) (j : ℕ) → j < length rows → is_lead rows (lead_or_none (get_or rows j [])) ≡ true
+lead_found : (rows : List (List Num)) (j : ℕ) → j < length rows → is_greatest rows (lead_or_none (get_or rows j [])) ≡ true
 lead_found [] j l = absurd (omega (arith, l))
-lead_found (row ∷ rows) zero l = ap (λ b. b || is_lead rows (lead_or_none row)) (symbol_same (lead_or_none row) (lead_or_none row) refl)
+lead_found (row ∷ rows) zero l = ap (λ b. b || is_greatest rows (lead_or_none row)) (symbol_same (lead_or_none row) (lead_or_none row) refl)
 lead_found (row ∷ rows) (suc j) l = or_later _ _ (lead_found rows j (omega (arith, l)))
   where
     or_later : (a b : Bool) → b ≡ true → (a || b) ≡ true
@@ -180,11 +180,11 @@ module _ (kind : Kind) (listed : IsField kind) (n : ℕ) (rows : List (List Num)
           let x = each_apart 1 rows rows apart i l in
           let within : pivot_in rows j < length (get_or rows i []) =
           (let p = (are i [] l).length_is in let r = (are j [] m).length_is in omega (arith, q, a, b, p, r)) in
-          go within (crossings x.0 (is_lead rows) (lead_or_none (get_or rows i [])) 1 (get_or rows i []) x.1 (pivot_in rows j) within)
+          go within (crossings x.0 (is_greatest rows) (lead_or_none (get_or rows i [])) 1 (get_or rows i []) x.1 (pivot_in rows j) within)
         where
           go : pivot_in rows j < length (get_or rows i []) →
               (is_nought (get_or (get_or rows i []) (pivot_in rows j) (residue 0)) ≡ true) ⊎
-              ((1 + pivot_in rows j ≡ lead_or_none (get_or rows i [])) ⊎ (is_lead rows (1 + pivot_in rows j) ≡ false)) →
+              ((1 + pivot_in rows j ≡ lead_or_none (get_or rows i [])) ⊎ (is_greatest rows (1 + pivot_in rows j) ≡ false)) →
               row_in kind rows i (pivot_in rows j) ≡ K.nought
           go within (inl z) = nought_at kind K (number_of kind) reads (get_or rows i []) (pivot_in rows j) (are i [] l).elements within z
           go within (inr (inl z)) =
@@ -196,7 +196,7 @@ module _ (kind : Kind) (listed : IsField kind) (n : ℕ) (rows : List (List Num)
               let e = pivot_is j m in
               let a = (one_at j m).above in
               let s : lead_or_none (get_or rows j []) ≡ 1 + pivot_in rows j = omega (arith, c, e, a) in
-              let t : is_lead rows (1 + pivot_in rows j) ≡ true = ap (is_lead rows) (sym s) ∙ lead_found rows j m in
+              let t : is_greatest rows (1 + pivot_in rows j) ≡ true = ap (is_greatest rows) (sym s) ∙ lead_found rows j m in
               absurd (let k : ⊥ = cc in k)
 
 pub closed_when : (kind : Kind) → IsField kind → (n : ℕ) (rows : List (List Num)) → AreRows kind n rows → test_leads 1 0 rows ≡ Ok tt →

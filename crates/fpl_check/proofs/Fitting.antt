@@ -31,7 +31,7 @@ use Rattle.fpl_check.specs.declared.fault.Spot.TheVariants.{Step as AtStep, Orig
 use Rattle.fpl_check.specs.declared.fault.Why.TheVariants.{BadOrigin, BadCite, Count, RowForm, Differs, NotClosed, OriginCount}
 use Rattle.fpl_check.specs.Refusal.{Refusal, bad, unfit, exactly, passing, demand}
 use Rattle.fpl_check.specs.Steps.{is_origin, names_insert, names_close, test_cites, remainder_at, test_zero, scale_if, test_dependent, insert_of_step, close_of_step, conclusion_of_step, conclusions_from, conclusions_of}
-use Rattle.fpl_check.specs.ClosedRows.{close_count, is_formed, test_closes, test_forms, close_rows, same_num, test_same, test_conclusions, lead_or_none, test_lead_at, test_leads, is_lead, test_crossing, test_apart}
+use Rattle.fpl_check.specs.ClosedRows.{close_count, is_formed, test_closes, test_forms, close_rows, same_num, test_same, test_conclusions, lead_or_none, test_lead_at, test_leads, is_greatest, test_crossing, test_apart}
 use Rattle.fpl_check.specs.Laws.{ChecksFitOverPrimes}
 use Rattle.fpl_check.specs.Check.{test_count, test_origin, test_origins, rows_stored, test_closed, check_of}
 
@@ -138,7 +138,7 @@ crossing k led lead s (c ∷ cs) = passes (demand _ (AtClosed k) (NotClosed s)) 
 apart : (k : ℕ) (all rows : List (List Num)) → NeverUnfit (test_apart k all rows)
 apart k all [] = fine tt
 apart k all (row ∷ rows) =
-    passes (test_crossing k (is_lead all) (lead_or_none row) 1 row) (test_apart (k + 1) all rows) (crossing k (is_lead all) (lead_or_none row) 1 row)
+    passes (test_crossing k (is_greatest all) (lead_or_none row) 1 row) (test_apart (k + 1) all rows) (crossing k (is_greatest all) (lead_or_none row) 1 row)
     (apart (k + 1) all rows)
 
 counted : (o : Option ℕ) (n : ℕ) → NeverUnfit (test_count o n)

@@ -5,17 +5,15 @@ use mathlib.Core.Logic.{inl, inr}
 use native.Mathlib.Omega.{arith}
 use Rattle.std.proofs.lemmas.List.{append_assoc}
 use Rattle.std.proofs.lemmas.List.Elements.{Contains-append_left, Contains-append_right}
-use Rattle.math_linear.specs.Vector.{Vector, vzero}
-use Rattle.math_linear.specs.Linear.{IsLinear}
+use Rattle.math_linear.specs.Vector.{Vector}
 use Rattle.math_linear.specs.Closed.{swept}
 use Rattle.math_linear.proofs.Closed.{swept_span, span_swept}
 use Rattle.math_linear.proofs.Linear.{swept_linear}
 use Rattle.fpl_numbers.specs.declared.number.Num.{Num}
-use Rattle.fpl_numbers.specs.declared.number.Kind.{Kind}
 use Rattle.fpl_numbers.specs.Numbers.{IsField}
 use Rattle.fpl_numbers.specs.Kinds.{field_of}
 use Rattle.fpl_rows.specs.Positions.{lead_of}
-use Rattle.fpl_rows.specs.Meaning.{vector_in, row_in, pivot_in, IsClosedList, InSpanOf}
+use Rattle.fpl_rows.specs.Meaning.{row_in, pivot_in, IsClosedList, InSpanOf}
 use Rattle.fpl_rows.proofs.Fits.{first_fits}
 use Rattle.plain_elimination.specs.Plain.{sweep_rows}
 use Rattle.plain_elimination.proofs.Remainders.{sweep_means}
@@ -25,10 +23,10 @@ use Rattle.fpl_table.specs.Plain.{PlainTable, symbols_in}
 use Rattle.plain_tables.specs.Holds.{Holds}
 use Rattle.fpl_rewrite.specs.Origins.{origins_of}
 use Rattle.fpl_rewrite.specs.Rows.{row_of_origin}
-use Rattle.plain_sources.specs.Late.{IsReach, IsCut}
+use Rattle.plain_sources.specs.Late.{IsReach, IsCut, Follows}
 use Rattle.plain_sources.proofs.Fitting.{Always, prime_always, origin_fits, sweep_rows_fits}
 use Rattle.plain_sources.proofs.HeldTables.{RowsStand, origin_vector, is_field, origins_stand, late_origins}
-use Rattle.plain_sources.proofs.Late.{nothing_late}
+use Rattle.plain_sources.proofs.Late.{nothing_late, in_done, in_rest}
 use Rattle.fpl_check.specs.declared.fault.Spot.TheVariants.{Origin as AtOrigin}
 use Rattle.fpl_check.specs.Refusal.{exactly}
 use Rattle.fpl_check.specs.Steps.{test_zero, remainder_at}
@@ -57,19 +55,8 @@ passed_more T p rows done os rest o list all before here = (
 
 module _ (T : PlainTable) (p : Presentation) (done os : List Origin) (all : done ++ os ≡ origins_of T p) (rows : List (List Num))
     (closed : IsClosedList T.kind (length (symbols_in T)) rows) (before : test_origins T p rows done ≡ Ok tt) where
-  in_done : (o : Origin) → Contains done o → Contains (origins_of T p) o
-  in_done o c = subst (λ xs. Contains xs o) all (Contains-append_left done os o c)
-
-  in_rest : (o : Origin) → Contains os o → Contains (origins_of T p) o
-  in_rest o c = subst (λ xs. Contains xs o) all (Contains-append_right done os o c)
-
-  abbrev Follow : (k : Kind) → (Origin → Vector (field_of k)) → Type 0
-  Follow k vector =
-      (f : Vector (field_of k) → Vector (field_of k)) → IsLinear (field_of k) f → ((o : Origin) → Contains done o → f (vector o) ≡ vzero (field_of k)) →
-      (o : Origin) → Contains os o → f (vector o) ≡ vzero (field_of k)
-
   module _ (listed : IsField T.kind) (always : Always T.kind) (vector : Origin → Vector (field_of T.kind)) (stand : RowsStand p T T.kind vector)
-      (follow : Follow T.kind vector) where
+      (follow : Follows T.kind done os vector) where
     abbrev f : Vector (field_of T.kind) → Vector (field_of T.kind)
     f = swept (field_of T.kind) (length rows) (row_in T.kind rows) (pivot_in rows)
 
@@ -78,7 +65,7 @@ module _ (T : PlainTable) (p : Presentation) (done os : List Origin) (all : done
         let t = then_first (test_zero (AtOrigin o)) (exactly (and_then (sweep_rows T.kind rows) (row_of_origin T p o))) tt
         (each_origin T p rows done before o c) in
         let g = first_fits (sweep_rows T.kind rows) (row_of_origin T p o) t.0 (exact_first _ t.0 t.1.0) in
-        let is = stand o (in_done o c) g.0 g.1.0 in
+        let is = stand o (in_done p T done os all o c) g.0 g.1.0 in
         let here = subst (λ m. IsClosedList T.kind m rows) (sym is.long) closed in
         let m = (sweep_means T.kind rows g.0 t.0 listed here is.elements g.1.1).1 in
         subst (InSpanOf T.kind rows) is.vector (m.zero.0 (zero_is (AtOrigin o) t.0 t.1.1))
@@ -93,7 +80,7 @@ module _ (T : PlainTable) (p : Presentation) (done os : List Origin) (all : done
     passes_rest o c =
         let row = origin_fits T always p o in
         let left = sweep_rows_fits T.kind always rows row.0 in
-        let is = stand o (in_rest o c) row.0 row.1 in
+        let is = stand o (in_rest p T done os all o c) row.0 row.1 in
         let here = subst (λ m. IsClosedList T.kind m rows) (sym is.long) closed in
         let m = (sweep_means T.kind rows row.0 left.0 listed here is.elements left.1).1 in
         let none : lead_of left.0 ≡ None = m.zero.1 (subst (InSpanOf T.kind rows) (sym is.vector) (spanned_rest o c)) in
@@ -113,7 +100,7 @@ late_passes p T bound holds reach done os all cut rows closed before = go reach
     go : IsReach T bound → test_origins T p rows os ≡ Ok tt
     go (inl h) = subst (λ os. test_origins T p rows os ≡ Ok tt) (sym (nothing_late p T bound h done os all cut)) refl
     go (inr h) =
-        subst (λ k. (vector : Origin → Vector (field_of k)) → RowsStand p T k vector → Follow T p done os all rows closed before k vector →
+        subst (λ k. (vector : Origin → Vector (field_of k)) → RowsStand p T k vector → Follows k done os vector →
         test_origins T p rows os ≡ Ok tt) holds.kind
         (λ vector stand follow.
         all_pass T p done os all rows closed before (is_field p T holds) (subst Always (sym h.0.1) (prime_always h.0.0)) vector stand follow os (λ o c. c))

@@ -1,3 +1,4 @@
+mod Bare
 mod Composed
 pub mod Loops
 pub mod RowLoops

@@ -12,7 +12,7 @@ use Rattle.fpl_rows.specs.Positions.{lead_of}
 use Rattle.fpl_check.specs.declared.fault.Spot.TheVariants.{Closed as AtClosed}
 use Rattle.fpl_check.specs.declared.fault.Why.TheVariants.{NotClosed}
 use Rattle.fpl_check.specs.Refusal.{passing, demand}
-use Rattle.fpl_check.specs.ClosedRows.{is_lead, test_crossing}
+use Rattle.fpl_check.specs.ClosedRows.{is_greatest, test_crossing}
 use Rattle.fpl_check.specs.Leads.{marked, IsMarking}
 
 same_test : (s t : ℕ) → s ≡ t → nat_eq s t ≡ true
@@ -29,22 +29,22 @@ marked_more n rows row lead marks is e one most = record {
   marks_leads = λ s l m. at s l m (ℕ_discrete lead s);
 }
   where
-    at : (s : ℕ) → 1 ≤ s → s ≤ n → Dec (lead ≡ s) → marked (slice_set marks (lead - 1) true) s ≡ is_lead (row ∷ rows) s
+    at : (s : ℕ) → 1 ≤ s → s ≤ n → Dec (lead ≡ s) → marked (slice_set marks (lead - 1) true) s ≡ is_greatest (row ∷ rows) s
     at s l m (yes d) =
         let k = is.length_is in
         ap (marked (slice_set marks (lead - 1) true)) (sym d) ∙ get_or-set_same marks (lead - 1) true false (omega arith)
-        ∙ sym (ap (λ b. b || is_lead rows s) (ap (λ o. nat_eq (unwrap_or o 0) s) e ∙ same_test lead s d))
+        ∙ sym (ap (λ b. b || is_greatest rows s) (ap (λ o. nat_eq (unwrap_or o 0) s) e ∙ same_test lead s d))
     at s l m (no d) =
         let other : s - 1 ≢ lead - 1 = omega (arith, d, l, one) in
         get_or-set_other marks (lead - 1) (s - 1) true false other ∙ is.marks_leads s l m
-        ∙ sym (ap (λ b. b || is_lead rows s) (ap (λ o. nat_eq (unwrap_or o 0) s) e ∙ other_test lead s d))
+        ∙ sym (ap (λ b. b || is_greatest rows s) (ap (λ o. nat_eq (unwrap_or o 0) s) e ∙ other_test lead s d))
 
 -- a row more, that is zero
 pub marked_same : (n : ℕ) (rows : List (List Num)) (row : List Num) (marks : List Bool) → IsMarking n rows marks → lead_of row ≡ None →
     IsMarking n (row ∷ rows) marks
 marked_same n rows row marks is e = record {
   length_is = is.length_is;
-  marks_leads = λ s l m. is.marks_leads s l m ∙ sym (ap (λ b. b || is_lead rows s) (ap (λ o. nat_eq (unwrap_or o 0) s) e ∙ other_test 0 s (omega (arith, l))));
+  marks_leads = λ s l m. is.marks_leads s l m ∙ sym (ap (λ b. b || is_greatest rows s) (ap (λ o. nat_eq (unwrap_or o 0) s) e ∙ other_test 0 s (omega (arith, l))));
 }
 
 -- the test of a row asks at its symbols alone
@@ -58,6 +58,6 @@ crossing_like i leads marks lead s (x ∷ xs) h =
     (crossing_like i leads marks lead (s + 1) xs (λ t l m. h t (omega arith) (omega (arith, m))))
 
 pub crossing_marked : (n i : ℕ) (rows : List (List Num)) (marks : List Bool) (lead : ℕ) (row : List Num) → IsMarking n rows marks → length row ≡ n →
-    test_crossing i (is_lead rows) lead 1 row ≡ test_crossing i (marked marks) lead 1 row
+    test_crossing i (is_greatest rows) lead 1 row ≡ test_crossing i (marked marks) lead 1 row
 crossing_marked n i rows marks lead row is e = sym
-    (crossing_like i (is_lead rows) (marked marks) lead 1 row (λ t l m. is.marks_leads t l (omega (arith, m, e))))
+    (crossing_like i (is_greatest rows) (marked marks) lead 1 row (λ t l m. is.marks_leads t l (omega (arith, m, e))))

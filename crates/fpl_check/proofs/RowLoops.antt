@@ -16,7 +16,7 @@ use Rattle.fpl_check.specs.declared.fault.CheckFault.{CheckFault}
 use Rattle.fpl_check.specs.declared.fault.Spot.TheVariants.{Closed as AtClosed}
 use Rattle.fpl_check.specs.declared.fault.Why.TheVariants.{Differs, NotClosed}
 use Rattle.fpl_check.specs.Refusal.{Refusal, bad, passing, demand, IsRefusal}
-use Rattle.fpl_check.specs.ClosedRows.{same_num, test_same, test_conclusions, test_lead_at, lead_or_none, test_leads, is_lead, test_crossing, test_apart}
+use Rattle.fpl_check.specs.ClosedRows.{same_num, test_same, test_conclusions, test_lead_at, lead_or_none, test_leads, is_greatest, test_crossing, test_apart}
 use Rattle.fpl_check.proofs.Composed.{passed, refused, same_refusal, rest_at}
 use Rattle.fpl_check.proofs.Loops.{below_is, below_not, both_true}
 
@@ -66,17 +66,17 @@ crossing_stop i leads lead s xs k x e h =
 
 -- rows apart
 pub apart_next : (all : List (List Num)) (i : ℕ) (rows : List (List Num)) (j k : ℕ) (row : List Num) → j ≡ suc k → Some row ≡ slice_get rows k →
-    test_crossing i (is_lead all) (lead_or_none row) 1 row ≡ Ok tt →
+    test_crossing i (is_greatest all) (lead_or_none row) 1 row ≡ Ok tt →
     test_apart i all (drop k rows) ≡ test_apart (i + 1) all (drop j rows)
 apart_next all i rows j k row is e h =
-    ap (test_apart i all) (rest_at rows j k row is e) ∙ passed (test_crossing i (is_lead all) (lead_or_none row) 1 row) (test_apart (i + 1) all (drop j rows)) h
+    ap (test_apart i all) (rest_at rows j k row is e) ∙ passed (test_crossing i (is_greatest all) (lead_or_none row) 1 row) (test_apart (i + 1) all (drop j rows)) h
 
 pub apart_stop : (fault : CheckFault) (all : List (List Num)) (i : ℕ) (rows : List (List Num)) (k : ℕ) (row : List Num) → Some row ≡ slice_get rows k →
-    IsRefusal fault (test_crossing i (is_lead all) (lead_or_none row) 1 row) →
+    IsRefusal fault (test_crossing i (is_greatest all) (lead_or_none row) 1 row) →
     IsRefusal fault (test_apart i all (drop k rows))
 apart_stop fault all i rows k row e h =
     same_refusal fault _ _ (ap (test_apart i all) (drop_next rows k row e))
-    (refused fault (test_crossing i (is_lead all) (lead_or_none row) 1 row) (test_apart (i + 1) all (drop (suc k) rows)) h)
+    (refused fault (test_crossing i (is_greatest all) (lead_or_none row) 1 row) (test_apart (i + 1) all (drop (suc k) rows)) h)
 
 -- an element of a list at its place
 pub place_next : (xs : List Num) (k : ℕ) → k < length xs → drop k xs ≡ slice_index_or xs k (residue 0) ∷ drop (suc k) xs

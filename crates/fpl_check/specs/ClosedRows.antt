@@ -10,7 +10,7 @@
 --   test_conclusions k rows closes  Differs, for the first closed row that is not the conclusion of its Close step
 --   test_leads k before rows        NotClosed, with symbol 0 where a row is zero; with its greatest symbol, where its number there isn't 1, or it isn't
 --                                   greater than that of the row before
---   is_lead rows s                  s is the greatest symbol of some row
+--   is_greatest rows s                  s is the greatest symbol of some row
 --   test_apart k all rows           NotClosed, with the least symbol of a row, other than its greatest, that is the greatest symbol of some row
 use Rattle.std.specs.Prelude.{ℕ, ◌+◌, ◌-◌, List, [], ◌∷◌, length, Option, Some, None, slice_index_or, slice_set, Result, Ok, Err, Bool, true, false, not, ◌&&◌, ◌||◌, nat_eq, nat_le, nat_lt, unwrap_or}
 use Rattle.std.specs.Ordering.{int_eq}
@@ -86,9 +86,9 @@ abbrev pub test_leads : ℕ → ℕ → List (List Num) → Result (Unit {0}) Re
 test_leads k before [] = Ok tt
 test_leads k before (row ∷ rows) = passing (test_lead_at k before row (lead_of row)) (test_leads (k + 1) (lead_or_none row) rows)
 
-abbrev pub is_lead : List (List Num) → ℕ → Bool
-is_lead [] s = false
-is_lead (row ∷ rows) s = nat_eq (lead_or_none row) s || is_lead rows s
+abbrev pub is_greatest : List (List Num) → ℕ → Bool
+is_greatest [] s = false
+is_greatest (row ∷ rows) s = nat_eq (lead_or_none row) s || is_greatest rows s
 
 -- the numbers from symbol s on of a row whose greatest symbol is `lead`
 abbrev pub test_crossing : ℕ → (ℕ → Bool) → ℕ → ℕ → List Num → Result (Unit {0}) Refusal
@@ -98,4 +98,4 @@ test_crossing k leads lead s (c ∷ cs) =
 
 abbrev pub test_apart : ℕ → List (List Num) → List (List Num) → Result (Unit {0}) Refusal
 test_apart k all [] = Ok tt
-test_apart k all (row ∷ rows) = passing (test_crossing k (is_lead all) (lead_or_none row) 1 row) (test_apart (k + 1) all rows)
+test_apart k all (row ∷ rows) = passing (test_crossing k (is_greatest all) (lead_or_none row) 1 row) (test_apart (k + 1) all rows)

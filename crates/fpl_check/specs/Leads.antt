@@ -4,11 +4,11 @@
 --   IsMarking n rows marks n marks, which are true exactly at the greatest symbols of the rows
 use Rattle.std.specs.Prelude.{◌≡◌, ℕ, ◌-◌, ◌≤◌, List, length, Bool, false, slice_index_or}
 use Rattle.fpl_numbers.specs.declared.number.Num.{Num}
-use Rattle.fpl_check.specs.ClosedRows.{is_lead}
+use Rattle.fpl_check.specs.ClosedRows.{is_greatest}
 
 abbrev pub marked : List Bool → ℕ → Bool
 marked marks s = slice_index_or marks (s - 1) false
 
 pub record IsMarking (n : ℕ) (rows : List (List Num)) (marks : List Bool) : Type 0 where
   pub length_is : length marks ≡ n
-  pub marks_leads : (s : ℕ) → 1 ≤ s → s ≤ n → marked marks s ≡ is_lead rows s
+  pub marks_leads : (s : ℕ) → 1 ≤ s → s ≤ n → marked marks s ≡ is_greatest rows s

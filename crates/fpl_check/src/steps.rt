@@ -1,4 +1,4 @@
-ghost use Rattle.std.specs.Prelude.{◌≡◌, ◌≤◌, ◌-◌, [], length, All, IfOk, IfSome, Contains, option_map, slice_index_or, None};
+ghost use Rattle.std.specs.Prelude.{◌≡◌, ◌≤◌, ◌-◌, [], length, All, IfOk, IfSome, Contains, option_map, slice_get, slice_index_or, Some, None};
 ghost use Rattle.fpl_numbers.specs.Numbers.{IsElement};
 ghost use Rattle.fpl_numbers.specs.Results.{GivesBy, and_then};
 ghost use Rattle.fpl_rows.specs.Meaning.{AreRows, IsRowOf};
@@ -135,6 +135,27 @@ fn conclude_tested_insert<F: Field>(
     }
 }
 
+/// The conclusion of step `of`, less no terms: the row itself.
+fn conclude_bare<F: Field>(
+    alloc: Global,
+    table: &Table<F>,
+    earlier: &Rows<F>,
+    of: u64,
+    start: &Row<F>,
+    terms: &Terms,
+) -> Result<Row<F>, Fault>
+    requires earlier { AreRows table.now.kind (length (symbols_in table.now)) earlier.now }
+    requires start { Some start.now ≡ slice_get earlier.now (of - 1) }
+    requires none { length terms.now ≡ 0 }
+    ensures value { GivesBy (λ row. row) result (conclude_of table.now.kind earlier.now (slice_index_or earlier.now (of - 1) []) terms.now None) }
+    ensures row { IfOk result (λ row. IsRowOf table.now.kind (length (symbols_in table.now)) row) }
+{
+    match start.copy(alloc) {
+        Ok(row) => Ok(row),
+        Err(_) => Err(Fault::NoMemory),
+    }
+}
+
 /// The conclusion of step `of`, less the terms.
 fn conclude_close<F: Field>(
     alloc: Global,
@@ -155,6 +176,9 @@ fn conclude_close<F: Field>(
     match earlier.get(of as usize - 1) {
         None => unreachable!(),
         Some(start) => {
+            if terms.len() == 0 {
+                return conclude_bare(alloc, table, earlier, of, start, terms);
+            }
             work.load(start);
             let row = conclude_work(alloc, table.field(), terms, None, earlier, work);
             work.clear();

@@ -3,6 +3,7 @@
 
 mod accepting;
 mod fault;
+mod gather;
 mod section;
 mod state;
 mod weighed;

@@ -1,12 +1,14 @@
-ghost use Rattle.std.specs.Prelude.{◌≡◌, ◌<◌, ◌≤◌, ◌+◌, ◌^◌, [], length, replicate, All, OnOk};
-ghost use Rattle.fpl_numbers.specs.Numbers.{residue};
+ghost use Rattle.std.specs.Prelude.{◌≡◌, ◌<◌, ◌≤◌, ◌+◌, ◌^◌, [], ℕ, true, false, Some, None, length, replicate, slice_index_or, All, OnOk};
+ghost use Rattle.std.specs.List.{find};
+ghost use Rattle.fpl_numbers.specs.declared.number.Kind.{Kind};
+ghost use Rattle.fpl_numbers.specs.Numbers.{is_nought, residue};
 ghost use Rattle.fpl_numbers.specs.Results.{Gives, GivesBy};
-ghost use Rattle.plain_elimination.specs.Plain.{IsPivotRow, close_at, close_to};
+ghost use Rattle.plain_elimination.specs.Plain.{IsPivotRow, close_at, close_by, close_to, stands_at};
 
 use crate::pivots::{Pivot, Pivots};
 use crate::working::{gathered, sweep_work};
 use fpl_log::{Step, StepList, Term, Terms};
-use fpl_rows::{Rows, Work};
+use fpl_rows::{Row, Rows, Work};
 use fpl_scalar::{Fault, Field};
 use std::alloc::Global;
 
@@ -15,6 +17,76 @@ use std::alloc::Global;
 pub struct Closed<F: Field> {
     pub steps: StepList,
     pub rows: Rows<F>,
+}
+
+/// Whether a closed row has its pivot at a place before `s`. Places count from 0.
+fn stands_before<F: Field>(closed: &Pivots<F>, s: u32, place: u32) -> bool
+    ensures { result ≡ false → place < s → find (stands_at (place + 1)) closed.now ≡ None }
+{
+    if place < s {
+        match closed.find(place + 1) {
+            Some(_) => true,
+            None => false,
+        }
+    } else {
+        false
+    }
+}
+
+/// Whether no closed row has its pivot at one of these places before `s`.
+fn meets_none_at<F: Field>(closed: &Pivots<F>, s: u32, places: &[u32]) -> bool
+    ensures { result ≡ true → (k : ℕ) → k < length places.now → slice_index_or places.now k 0 < s
+        → find (stands_at (slice_index_or places.now k 0 + 1)) closed.now ≡ None }
+{
+    for k in 0..places.len() {
+        if stands_before(closed, s, places[k]) {
+            return false;
+        }
+    }
+    true
+}
+
+/// Whether no closed row has its pivot where the row has a number before place `s`, so that a sweep
+/// takes nothing off. Where the row is not packed the answer is no.
+fn meets_none<F: Field>(closed: &Pivots<F>, s: u32, row: &Row<F>) -> bool
+    ensures { result ≡ true → (t : ℕ) → t < s → is_nought (slice_index_or row.now t (residue 0)) ≡ false → find (stands_at (t + 1)) closed.now ≡ None }
+{
+    match row.cells() {
+        Some((places, _)) => meets_none_at(closed, s, places),
+        None => false,
+    }
+}
+
+/// Adds the pivot row at position `s + 1` as it is to the closed rows, none of which it meets.
+fn keep_bare<F: Field>(
+    alloc: Global,
+    pivot: &Pivot<F>,
+    s: u32,
+    closed: &mut Pivots<F>,
+    steps: &mut StepList,
+) -> Result<(), Fault>
+    requires fits { s + 1 < 2 ^ 32 }
+    requires none { (t : ℕ) → t < s → is_nought (slice_index_or pivot.now.row t (residue 0)) ≡ false → find (stands_at (t + 1)) closed.old ≡ None }
+    ensures { (kind : Kind) → Gives result (record { pivots = closed.new; steps = steps.new }) (close_by kind (Some pivot.now) s
+        (record { pivots = closed.old; steps = steps.old })) }
+{
+    let row = match pivot.row().copy(alloc) {
+        Ok(row) => row,
+        Err(_) => return Err(Fault::NoMemory),
+    };
+    let step = steps.len() as u64 + 1;
+    match closed.push(Pivot::of(s + 1, step, row)) {
+        Ok(()) => {}
+        Err(_) => return Err(Fault::NoMemory),
+    }
+    let close = Step::Close {
+        of: pivot.step(),
+        terms: Terms::new(alloc),
+    };
+    match steps.push(close) {
+        Ok(()) => Ok(()),
+        Err(_) => Err(Fault::NoMemory),
+    }
 }
 
 /// Sweeps the pivot row at position `s + 1` by the closed rows below, in an empty row in work,
@@ -42,6 +114,9 @@ pub fn close_place<F: Field>(
     match pivots.find(s + 1) {
         None => Ok(()),
         Some(pivot) => {
+            if meets_none(closed, s, pivot.row()) {
+                return keep_bare(alloc, pivot, s, closed, steps);
+            }
             work.load(pivot.row());
             taken.clear();
             match sweep_work(field, closed, s, work, taken) {

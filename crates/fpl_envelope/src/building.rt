@@ -100,8 +100,9 @@ fn next_level<F: Field>(
     Ok(level)
 }
 
-/// Those of the weights up to `w`. Where a weight has more words than are numbered, memory is said to be wanting.
-pub(crate) fn products_through<F: Field>(
+/// The straight forms of basis elements before ordered words, of the weights up to `w`, over a prime. Where a weight has more than 2,000,000 words, more memory
+/// is wanted than there is.
+pub fn products_through<F: Field>(
     alloc: Global,
     table: &Table<F>,
     w: u32,

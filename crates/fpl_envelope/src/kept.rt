@@ -1,11 +1,13 @@
 //! The straight forms of basis elements before ordered words, kept.
-ghost use Rattle.std.specs.Prelude.{◌≡◌, ◌≤◌, ◌<◌, ◌+◌, ◌-◌, ◌++◌, ◌∷◌, [], length, get_or, OnOk, OnErr};
+ghost use Rattle.std.specs.Prelude.{◌≡◌, ◌≤◌, ◌<◌, ◌+◌, ◌-◌, ◌++◌, ◌∷◌, [], suc, length, map, get_or, IfOk, OnOk};
 ghost use Rattle.fpl_table.specs.Plain.{plain_basis, through};
-ghost use Rattle.fpl_envelope.specs.Counts.{skipped_in};
+ghost use Rattle.fpl_envelope.specs.Counts.{words_in, skipped_in};
 ghost use Rattle.fpl_envelope.specs.Action.{acted, StandsFor};
-ghost use Rattle.fpl_envelope.specs.Kept.{HasElement};
+ghost use Rattle.fpl_envelope.specs.Kept.{HasElement, AreProducts};
 
 use crate::counts::Counts;
+use crate::listing::words_by;
+use crate::poly::Word;
 use fpl_rows::Row;
 use fpl_scalar::Field;
 use fpl_table::Table;
@@ -57,9 +59,9 @@ impl<F: Field> Level<F> {
     }
 }
 
-/// How many words there are, and the levels of the weights from 0 on.
+/// The straight forms of basis elements before ordered words, before which they may not stand, of the weights from 0 on; and how many words there are.
 #[derive(Drop)]
-pub(crate) struct Products<F: Field> {
+pub struct Products<F: Field> {
     counts: Counts,
     levels: Vec<Level<F>>,
 }
@@ -95,6 +97,38 @@ impl<F: Field> Products<F> {
         ensures { result.now ≡ get_or self.now.levels w [] }
     {
         &self.levels[w as usize]
+    }
+
+    /// The ordered words of weight `w`, in their order.
+    pub fn words(&self, alloc: Global, table: &Table<F>, w: u32) -> Result<Vec<Word>, AllocError>
+        requires products { AreProducts table.now self.now }
+        requires weight { w < length self.now.levels }
+        ensures { IfOk result (λ list. list.items ≡ map (λ u. map suc u) (words_in table.now w)) }
+    {
+        words_by(alloc, table, &self.counts, w)
+    }
+
+    /// How many words of weight `w` come before those before which basis element `i` may stand.
+    pub fn skipped(&self, table: &Table<F>, w: u32, i: u32) -> u64
+        requires products { AreProducts table.now self.now }
+        requires weight { w < length self.now.levels }
+        requires letter { (1 ≤ i) × (i ≤ length table.now.basis) }
+        ensures value { result ≡ skipped_in table.now w (i - 1) }
+        ensures few { result ≤ 2000000 }
+    {
+        self.counts.skipped(table, w, i)
+    }
+
+    /// The straight form of basis element `i` before word `number` of the weight that is left of `w`, counted from 0, before which it may not stand: a row
+    /// over the words of weight `w`.
+    pub fn row(&self, table: &Table<F>, w: u32, i: u32, number: u64) -> &Row<F>
+        requires products { AreProducts table.now self.now }
+        requires weight { w < length self.now.levels }
+        requires letter { (1 ≤ i) × (i ≤ through table.now w) }
+        requires number { number < skipped_in table.now (w - (plain_basis table.now (i - 1)).weight) (i - 1) }
+        ensures { StandsFor table.now w (acted table.now (i - 1) (w - (plain_basis table.now (i - 1)).weight) number) result.now }
+    {
+        self.levels[w as usize].row(table, w, i, number)
     }
 
     /// Puts the level of the next weight last.

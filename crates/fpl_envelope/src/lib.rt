@@ -12,6 +12,8 @@ mod poly;
 mod straightening;
 mod sums;
 
+pub use building::products_through;
+pub use kept::Products;
 pub use limit::word_count;
 pub use listing::words;
 pub use multiplying::multiply;

@@ -51,15 +51,29 @@ pub(crate) fn word<F: Field>(
     Ok(Word { letters })
 }
 
+/// The words of weight `w`, in their order.
+pub(crate) fn words_by<F: Field>(
+    alloc: Global,
+    table: &Table<F>,
+    counts: &Counts,
+    w: u32,
+) -> Result<Vec<Word>, AllocError>
+    requires counts { AreCounts table.now counts.now }
+    requires weight { w < length counts.now }
+    ensures { IfOk result (λ list. list.items ≡ map (λ u. map suc u) (words_in table.now w)) }
+{
+    let mut list = Vec::new(alloc);
+    for number in 0..counts.total(table, w) {
+        list.push(word(alloc, table, counts, Place { weight: w, number })?)?;
+    }
+    Ok(list)
+}
+
 /// The ordered words of weight `w`, in their order. A weight of more than 2,000,000 words wants more memory than there is.
 pub fn words<F: Field>(alloc: Global, table: &Table<F>, w: u32) -> Result<Vec<Word>, AllocError>
     requires { w ≤ table.now.weight }
     ensures { IfOk result (λ list. list.items ≡ map (λ u. map suc u) (words_in table.now w)) }
 {
     let counts = counts_through(alloc, table, w)?;
-    let mut list = Vec::new(alloc);
-    for number in 0..counts.total(table, w) {
-        list.push(word(alloc, table, &counts, Place { weight: w, number })?)?;
-    }
-    Ok(list)
+    words_by(alloc, table, &counts, w)
 }

@@ -1,4 +1,6 @@
 pub mod Trees
+pub mod Plains
+pub mod Indexing
 pub mod Lines
 pub mod Ledgers
 pub mod Next
@@ -6,3 +8,9 @@ pub mod Places
 pub mod Moves
 pub mod Settling
 pub mod Tidied
+pub mod NextBrackets
+pub mod Gathering
+pub mod Combined
+pub mod Rows
+pub mod Values
+pub mod OneForm

@@ -1,7 +1,7 @@
 -- A line more at the end of a proof.
-use Rattle.std.proofs.Common.{◌≡◌, ◌<◌, ◌≤◌, ◌+◌, ◌++◌, ℕ, List, [], ◌∷◌, length, refl, ap, sym, subst, ◌∙◌, arith}
+use Rattle.std.proofs.Common.{◌≡◌, ◌<◌, ◌≤◌, ◌+◌, ◌++◌, ℕ, List, [], ◌∷◌, length, take, refl, ap, sym, subst, ◌∙◌, arith, All}
 use native.Mathlib.Decide.{dec_lt}
-use Rattle.std.proofs.lemmas.List.{get_or_append_left, length-append, map-id}
+use Rattle.std.proofs.lemmas.List.{get_or_append_left, get_or-take, length-append, length-take-le, map-id}
 use Rattle.std.proofs.Math.Seq.{get_or-append_seam}
 use Rattle.math_fields.specs.Field.{Field}
 use Rattle.math_algebra.specs.Tree.{Presentation}
@@ -76,3 +76,29 @@ module _ (K : Field) (P : Presentation K.Carrier) where
           subst (λ m. Goal m (line_at K (lines ++ l ∷ []) m)) last
           (subst (Goal (length lines)) (sym (get_or-append_seam lines l [] (no_line K)))
           (instance_more stays lines (l ∷ []) (length lines) l (omega arith) i))
+
+  pub proof_first : RenumberedStays K → (lines : List (Line K)) (n : ℕ) → n ≤ length lines → IsProof K P lines → IsProof K P (take n lines)
+  proof_first stays lines n le h i lt =
+      let count = length-take-le n lines le in
+      let small : i < n = omega (arith, lt, count) in
+      let l = line_at K lines i in
+      subst (λ (l : Line K). IsInstance K P (Cites K (take n lines) i) l.why l.left_side l.right_side) (sym (get_or-take n lines i (no_line K) small))
+      (subst (λ r. IsInstance K P (Cites K (take n lines) i) r l.left_side l.right_side) (same_rule l.why)
+      (stays P lines (take n lines) i i (λ m. m) (λ c e f x. cites_first c e f x small) l.why l.left_side l.right_side (h i (omega (arith, small, le)))))
+    where
+      cites_first : (c : ℕ) (e f : Expression K) → Cites K lines i c e f → i < n → Cites K (take n lines) i c e f
+      cites_first c e f x small =
+          let before = x.before in
+          let same = get_or-take n lines x.which (no_line K) (omega (arith, before, small)) in
+          record {
+            which = x.which;
+            counts = x.counts;
+            before = before;
+            its_left = ap (λ l. l.left_side) same ∙ x.its_left;
+            its_right = ap (λ l. l.right_side) same ∙ x.its_right;
+          }
+
+pub all_first : {A : Type 0} (P : A → Type 0) (xs : List A) (n : ℕ) → n ≤ length xs → All P xs → All P (take n xs)
+all_first P xs n le h i d lt =
+    let count = length-take-le n xs le in
+    subst P (sym (get_or-take n xs i d (omega (arith, lt, count)))) (h i d (omega (arith, lt, count, le)))

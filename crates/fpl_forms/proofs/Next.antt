@@ -13,7 +13,7 @@ use Rattle.math_algebra.specs.Tree.{multiple}
 use Rattle.math_algebra.specs.Derives.{Expression, sum_all}
 use Rattle.math_proofs.specs.Rules.{Earlier, AreEarlier, Cites, IsInstance}
 use Rattle.math_proofs.specs.Rules as proofs
-use Rattle.math_proofs.specs.Rules.IsInstance.{is_same, is_turn, is_chain, is_parts, is_factor, is_members, is_exchange, is_flat, is_drop, is_single, is_multiply, is_one, is_nought, is_collect, is_spread, is_left_sum, is_right_sum, is_left_times, is_right_times}
+use Rattle.math_proofs.specs.Rules.IsInstance.{is_same, is_turn, is_chain, is_parts, is_factor, is_members, is_exchange, is_flat, is_drop, is_single, is_multiply, is_one, is_nought, is_collect, is_spread}
 use Rattle.fpl_model.specs.declared.expr.Expr.{Expr}
 use Rattle.fpl_model.specs.declared.expr.Expr.TheVariants.{Zero, Sum, Times, Br}
 use Rattle.fpl_model.specs.Meaning.{tree_in, presentation_in}
@@ -64,7 +64,7 @@ module _ (L : PlainLedger) (s : IsSoundLedger L) where
   abbrev pub Next : Expr → Expr → Rule → Type 0
   Next e f r = IsNextLine L (record { left = e; right = f; why = r })
 
-  carried : {r : proofs.Rule} {e e' f f' : Expression (field_of k)} → e' ≡ e → f' ≡ f → Instance r e f → Instance r e' f'
+  pub carried : {r : proofs.Rule} {e e' f f' : Expression (field_of k)} → e' ≡ e → f' ≡ f → Instance r e f → Instance r e' f'
   carried {r} {e} {e'} {f} {f'} p q i = subst (λ f. Instance r e' f) (sym q) (subst (λ e. Instance r e f) (sym p) i)
 
   pub next_as : {e e' f f' : Expr} {r : Rule} → e' ≡ e → f' ≡ f → Next e f r → Next e' f' r

@@ -1,3 +1,5 @@
 pub mod Ledgers
 pub mod Forms
+pub mod Distinct
+pub mod Combining
 pub mod Laws

@@ -1,11 +1,17 @@
 //! The lines of a proof that is being made.
-ghost use Rattle.std.specs.Prelude.{◌≡◌, ◌≤◌, ◌<◌, ◌-◌, ◌++◌, [], ◌∷◌, length, map, IfOk, OnOk};
+ghost use Rattle.std.specs.Prelude.{◌≡◌, ◌≤◌, ◌<◌, ◌-◌, ◌++◌, [], ◌∷◌, length, map, take, IfOk, OnOk};
 ghost use Rattle.fpl_numbers.specs.declared.number.Kind.TheVariants.{Prime};
 ghost use Rattle.fpl_numbers.specs.Numbers.{IsListed, residue};
-ghost use Rattle.fpl_forms.specs.Ledgers.{IsNextLine, IsExpr, Grows, Says, AreWithin, left_of, right_of};
+ghost use Rattle.fpl_numbers.specs.Kinds.{field_of};
+ghost use Rattle.math_proofs.specs.Rules.{IsProof};
+ghost use Rattle.fpl_model.specs.Meaning.{presentation_in};
+ghost use Rattle.fpl_lines.specs.Meaning.{lines_in, AreLines};
+ghost use Rattle.fpl_forms.specs.Distinct.{AreDistinct};
+ghost use Rattle.fpl_forms.specs.Ledgers.{IsSoundLedger, IsNextLine, IsExpr, Grows, Says, AreWithin, left_of, right_of};
 
+use crate::distinct::DistinctLines;
 use crate::term::multiple;
-use fpl_lines::{Line, Rule};
+use fpl_lines::{Line, Proof, Rule};
 use fpl_model::{Expr, Members, Presentation};
 use math_proofs::lines_may_be_renumbered;
 use sqlite_items::{Boxed, Items};
@@ -20,7 +26,7 @@ pub struct Ledger<'a> {
     pub(crate) alloc: Global,
     p: &'a Presentation,
     pub(crate) prime: u32,
-    lines: Vec<Line>,
+    lines: DistinctLines,
 }
 
 impl<'a> Model for Ledger<'a> {
@@ -32,9 +38,9 @@ impl<'a> Model for Ledger<'a> {
 
     ghost coded = { Prim.hlevel (codes, e.the_row.coded) };
 
-    ghost view = { λ l. record { presentation = l.p.now; prime = l.prime; lines = l.lines.items } };
+    ghost view = { λ l. record { presentation = l.p.now; prime = l.prime; lines = l.lines } };
 
-    ghost invariant = { λ l. IsSoundLedger (record { presentation = l.p.now; prime = l.prime; lines = l.lines.items }) };
+    ghost invariant = { λ l. IsSoundLedger (record { presentation = l.p.now; prime = l.prime; lines = l.lines }) };
 }
 
 impl<'a> Ledger<'a> {
@@ -50,15 +56,21 @@ impl<'a> Ledger<'a> {
             alloc,
             p,
             prime,
-            lines: Vec::new(alloc),
+            lines: DistinctLines::new(alloc),
         }
+    }
+
+    pub fn prime(&self) -> u32
+        ensures { result ≡ self.now.prime }
+    {
+        self.prime
     }
 
     /// How many lines there are.
     pub fn len(&self) -> u64
         ensures { result ≡ length self.now.lines }
     {
-        self.lines.len() as u64
+        self.lines.len()
     }
 
     /// Line `n`.
@@ -67,18 +79,22 @@ impl<'a> Ledger<'a> {
         ensures left { result.now.left ≡ left_of self.now n }
         ensures right { result.now.right ≡ right_of self.now n }
     {
-        &self.lines[n as usize - 1]
+        self.lines.line(n)
     }
 
-    /// Puts a line, and gives its number.
-    pub(crate) fn push(&mut self, line: Line) -> Result<u64, AllocError>
+    /// The number of a line with these sides: of the one that has them already, or else of this one, which is put.
+    pub fn push(&mut self, line: Line) -> Result<u64, AllocError>
         requires { IsNextLine self.old line }
         ensures grows { OnOk result (Grows self.old self.new) }
         ensures says { IfOk result (λ n. Says self.new n line.left line.right) }
     {
+        let found = self.lines.find(&line.left, &line.right);
+        if found > 0 {
+            return Ok(found);
+        }
         lines_may_be_renumbered();
         self.lines.push(line)?;
-        Ok(self.lines.len() as u64)
+        Ok(self.lines.len())
     }
 
     /// e = e.
@@ -129,7 +145,7 @@ impl<'a> Ledger<'a> {
     }
 
     /// From e = f: e = g, where f and g are an instance of a rule.
-    pub(crate) fn follow(&mut self, n: u64, right: Expr, why: Rule) -> Result<u64, AllocError>
+    pub fn follow(&mut self, n: u64, right: Expr, why: Rule) -> Result<u64, AllocError>
         requires first { (1 ≤ n) × (n ≤ length self.old.lines) }
         requires next { IsNextLine self.old (record { left = right_of self.old n; right = right; why = why }) }
         ensures grows { OnOk result (Grows self.old self.new) }
@@ -197,8 +213,29 @@ impl<'a> Ledger<'a> {
     }
 }
 
+impl<'a> Ledger<'a> {
+    /// What is known of each ledger. The function does nothing.
+    pub fn sound(&self)
+        ensures { IsSoundLedger self.now }
+    {
+        let _ = &self.prime;
+    }
+
+    /// The first `n` lines, no two of which have the same two sides.
+    pub fn into_proof(self, n: u64) -> Proof
+        requires { n ≤ length self.lines }
+        ensures lines { result ≡ take n self.entry.lines }
+        ensures proof { IsProof (field_of self.entry.presentation.field) (presentation_in self.entry.presentation) (lines_in self.entry.presentation.field result) }
+        ensures over { AreLines self.entry.presentation result }
+        ensures distinct { AreDistinct result }
+    {
+        lines_may_be_renumbered();
+        self.lines.into_first(n)
+    }
+}
+
 /// The bracket of copies of two expressions.
-pub(crate) fn bracket(alloc: Global, a: &Expr, b: &Expr) -> Result<Expr, AllocError>
+pub fn bracket(alloc: Global, a: &Expr, b: &Expr) -> Result<Expr, AllocError>
     ensures { IfOk result (λ e. e ≡ Expr.Br a.now b.now) }
 {
     Ok(Expr::Br(

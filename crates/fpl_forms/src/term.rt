@@ -2,6 +2,7 @@
 ghost use Rattle.std.specs.Prelude.{◌≡◌, ◌<◌, ◌+◌, ◌^◌, length, All, IfOk};
 ghost use Rattle.fpl_numbers.specs.Numbers.{residue};
 ghost use Rattle.fpl_forms.specs.Forms.{term_expr, sum_expr};
+ghost use Rattle.fpl_forms.specs.Combining.{atom_of};
 
 use fpl_model::{Expr, Members, Scalar};
 use fpl_numbers::Num;
@@ -22,8 +23,21 @@ pub struct Fact {
     pub terms: Vec<Term>,
 }
 
+impl Fact {
+    /// An equal fact.
+    pub fn copy(&self, alloc: Global) -> Result<Fact, AllocError>
+        ensures line { IfOk result (λ f. f.line ≡ self.now.line) }
+        ensures terms { IfOk result (λ f. f.terms.items ≡ self.now.terms.items) }
+    {
+        Ok(Fact {
+            line: self.line,
+            terms: Vec::from_slice(alloc, &self.terms)?,
+        })
+    }
+}
+
 /// A multiple of an expression.
-pub(crate) fn multiple(alloc: Global, number: u32, e: Expr) -> Result<Expr, AllocError>
+pub fn multiple(alloc: Global, number: u32, e: Expr) -> Result<Expr, AllocError>
     ensures { IfOk result (λ m. m ≡ Expr.Times (residue number) e) }
 {
     let number = Num {
@@ -33,8 +47,16 @@ pub(crate) fn multiple(alloc: Global, number: u32, e: Expr) -> Result<Expr, Allo
     Ok(Expr::Times(Scalar::new(alloc, number)?, Boxed::new(alloc, e)?))
 }
 
+/// The atom of a term.
+pub(crate) fn atom_of(atoms: &[Expr], t: Term) -> &Expr
+    requires { t.atom < length atoms.now }
+    ensures { result.now ≡ atom_of atoms.now t }
+{
+    &atoms[t.atom as usize]
+}
+
 /// A multiple of an atom.
-pub(crate) fn term_expr(alloc: Global, atoms: &[Expr], t: Term) -> Result<Expr, AllocError>
+pub fn term_expr(alloc: Global, atoms: &[Expr], t: Term) -> Result<Expr, AllocError>
     requires { t.atom < length atoms.now }
     ensures { IfOk result (λ e. e ≡ term_expr atoms.now t) }
 {
@@ -42,7 +64,7 @@ pub(crate) fn term_expr(alloc: Global, atoms: &[Expr], t: Term) -> Result<Expr, 
 }
 
 /// A sum of multiples of atoms.
-pub(crate) fn sum_expr(alloc: Global, atoms: &[Expr], terms: &[Term]) -> Result<Expr, AllocError>
+pub fn sum_expr(alloc: Global, atoms: &[Expr], terms: &[Term]) -> Result<Expr, AllocError>
     requires { All (λ t. t.atom < length atoms.now) terms.now }
     ensures { IfOk result (λ e. e ≡ sum_expr atoms.now terms.now) }
 {

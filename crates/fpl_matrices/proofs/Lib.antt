@@ -1,7 +1,7 @@
 mod Digits
 mod Steps
-mod Assigned
+pub mod Assigned
 pub mod Sound
 mod Faults
 mod Entries
-mod Meant
+pub mod Meant

@@ -1,8 +1,7 @@
 -- What the code needs of sound matrices: bounds of the prime, rows, and matrices that it makes.
-use Rattle.std.proofs.Common.{◌≡◌, ◌<◌, ◌≤◌, ◌+◌, ◌-◌, ◌*◌, ◌%◌, ◌^◌, ℕ, List, [], ◌∷◌, ◌++◌, length, get_or, take, drop, refl, sym, ap, ap₂, ◌∙◌, subst, arith}
-use Rattle.std.specs.Prelude.{true, map, nat_le, slice_get, Some, sum, sum_by, Result, Ok, Err, IfOk}
+use Rattle.std.proofs.Common.{◌≡◌, ◌<◌, ◌≤◌, ◌+◌, ◌-◌, ◌*◌, ◌%◌, ℕ, List, [], ◌++◌, length, get_or, take, drop, refl, sym, ap, ap₂, ◌∙◌, subst, arith}
+use Rattle.std.specs.Prelude.{true, nat_le, slice_get, Some, Result, Ok, Err, IfOk}
 use Rattle.std.proofs.Math.Seq.{take-append_seam}
-use Rattle.std.proofs.lemmas.List.Sums.{sum-map, sum_by-cons}
 use Rattle.std.proofs.lemmas.Option.{get_or_from_slice_get}
 use Rattle.std.proofs.lemmas.List.Elements.{All-contains}
 use Rattle.std.proofs.lemmas.List.Sums.{AllPass-from_list_all}
@@ -13,11 +12,7 @@ use Rattle.fpl_numbers.specs.declared.number.Kind.TheVariants.{Prime}
 use Rattle.fpl_numbers.specs.Numbers.{IsListed, accepted_primes}
 use Rattle.fpl_scalar.proofs.ResidueRows.{added_below, multiplied_below}
 use Rattle.fpl_model.specs.declared.presentation.Presentation.{Presentation}
-use Rattle.fpl_model.specs.declared.presentation.Equation.{Equation}
-use Rattle.fpl_model.specs.Meaning.{plain}
-use Rattle.fpl_model.specs.Sound.{IsTerm, count_equation}
-use Rattle.fpl_model.specs.Sound.{IsSound as IsSoundPresentation}
-use Rattle.fpl_model.proofs.Terms.{term_within}
+use Rattle.fpl_model.specs.Sound.{IsTerm}
 use Rattle.math_algebra.specs.Tree.{Tree, gen}
 use Rattle.plain_matrices.specs.Plain.{PlainMatrix, IsSquare, size_of, row_at, turned}
 use Rattle.plain_matrices.proofs.Entries.{length_row, below_row, length_turned, turned_below, length_added}
@@ -136,26 +131,6 @@ multiplied_sound x c s =
       };
       shape = s.shape;
     }
-
--- the relations of a sound presentation
-many_by : (qs : List Equation) → length qs ≤ sum_by count_equation qs
-many_by [] = omega arith
-many_by (x ∷ qs) = let h = many_by qs in rw sum_by-cons (omega (arith, h))
-
-pub few_relations : (p : Presentation) → IsSoundPresentation p → length p.relations < 2 ^ 32
-few_relations p sound =
-    let h : length p.relations ≤ sum (map count_equation p.relations) = rw sum-map (many_by p.relations) in
-    let s = sound.small in omega arith
-
-pub left_term : (p : Presentation) (at : ℕ) (q : Equation) → IsSoundPresentation p → at < length p.relations → q ≡ get_or p.relations at q →
-    IsTerm p.field (length p.generators) (plain q.left)
-left_term p at q sound lt is = (let h = sound.relations at q lt in
-    rw (sym is) at (term_within p.field (length p.generators) (plain (get_or p.relations at q).left) h.0.0))
-
-pub right_term : (p : Presentation) (at : ℕ) (q : Equation) → IsSoundPresentation p → at < length p.relations → q ≡ get_or p.relations at q →
-    IsTerm p.field (length p.generators) (plain q.right)
-right_term p at q sound lt is = (let h = sound.relations at q lt in
-    rw (sym is) at (term_within p.field (length p.generators) (plain (get_or p.relations at q).right) h.1.0))
 
 pub ok_more : {A E : Type 0} (P Q : A → Type 0) (r : Result A E) → ((x : A) → P x → Q x) → IfOk r P → IfOk r Q
 ok_more P Q (Ok x) f h = f x h

@@ -1,4 +1,4 @@
-ghost use Rattle.std.specs.Prelude.{◌≡◌, [], ◌∷◌, ◌++◌, ◌↔◌, IfOk, IsTrue, OnOk};
+ghost use Rattle.std.specs.Prelude.{◌≡◌, [], ◌∷◌, ◌++◌, ◌↔◌, IfOk, IsTrue, OnErr, OnOk};
 
 use crate::Expr;
 use sqlite_items::{Boxed, Items};
@@ -51,7 +51,8 @@ impl Members {
     }
 
     pub fn push(&mut self, e: Expr) -> Result<(), AllocError>
-        ensures { OnOk result (self.new ≡ self.old ++ e ∷ []) }
+        ensures ok { OnOk result (self.new ≡ self.old ++ e ∷ []) }
+        ensures err { OnErr result (self.new ≡ self.old) }
     {
         self.make_room()?;
         self.items.push(e)?;

@@ -1,3 +1,4 @@
+pub mod CellTexts
 pub mod Trees
 pub mod Terms
 pub mod Counts

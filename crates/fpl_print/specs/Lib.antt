@@ -1,4 +1,5 @@
 pub mod Combinations
+pub mod CellTexts
 pub mod EqualText
 pub mod GapText
 pub mod Lines

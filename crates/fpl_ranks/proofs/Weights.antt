@@ -27,7 +27,7 @@ use Rattle.plain_spans.specs.Plain.{span_of}
 use Rattle.plain_matrices.specs.Plain.{PlainMatrix}
 use Rattle.plain_matrices.specs.Relations.{AreRespected}
 use Rattle.plain_ranks.specs.Ranks.{rows_from, dimension_of, rank_of}
-use Rattle.plain_ranks.proofs.Dimensions.{rank_means}
+use Rattle.plain_ranks.proofs.Dimensions.{rank_means, rank_fits}
 use Rattle.fpl_matrices.specs.Matrices.{Assigned, numbers_in, prime_in, IsAssignment}
 use Rattle.fpl_matrices.specs.Laws.{NoneBroken}
 use Rattle.fpl_ranks.specs.Ranks.{IsFor, basis_matrix, AreBasisMatrices, row_of, IsOver, rank_at, ranks_to, ranks_of, IsRankOf, AreRanks}
@@ -182,6 +182,23 @@ prefix_by a T w (Ok before) (Ok rank) ranks below at e =
 prefix : (a : Assigned) (T : PlainTable) (w : ℕ) (ranks : List ℕ) → ranks_to a T w ≡ Ok ranks → IsPrefix a T w ranks
 prefix a T zero ranks e = let none : [] ≡ ranks = cc in subst (IsPrefix a T 0) none (refl, (λ v l. absurd (omega (arith, l))))
 prefix a T (suc w) ranks e = prefix_by a T w (ranks_to a T w) (rank_at a T (suc w)) ranks (λ before k. prefix a T w before k) refl e
+
+pub ranks_count : (a : Assigned) (T : PlainTable) (ranks : List ℕ) → ranks_of a T ≡ Ok ranks → length ranks ≡ T.weight
+ranks_count a T ranks e = (prefix a T T.weight ranks e).0
+
+-- over a prime each is there
+ranks_fit_to : (a : Assigned) (T : PlainTable) → T.kind ≡ Prime (prime_in T.kind) → (w : ℕ) → (ranks : List ℕ) × (ranks_to a T w ≡ Ok ranks)
+ranks_fit_to a T prime zero = ([], refl)
+ranks_fit_to a T prime (suc w) =
+    let below = ranks_fit_to a T prime w in
+    let here : (rank : ℕ) × (rank_at a T (suc w) ≡ Ok rank) =
+    rank_fits T.kind (prime_in T.kind) a.even (a.even + a.odd) (numbers_in a) T (suc w) prime in (
+      below.0 ++ here.0 ∷ [],
+      ap₂ (λ (r : Result (List ℕ) Unfit) (q : Result ℕ Unfit). and_then (λ ranks. map_ok (λ rank. ranks ++ rank ∷ []) q) r) below.1 here.1,
+    )
+
+pub ranks_fit : (a : Assigned) (T : PlainTable) → T.kind ≡ Prime (prime_in T.kind) → (ranks : List ℕ) × (ranks_of a T ≡ Ok ranks)
+ranks_fit a T prime = ranks_fit_to a T prime T.weight
 
 pub ranks_mean : (p : Presentation) (a : Assigned) (T : PlainTable) (ranks : List ℕ) → Holds p T → IsAssignment p a → NoneBroken p a →
     ranks_of a T ≡ Ok ranks → AreRanks p a T ranks

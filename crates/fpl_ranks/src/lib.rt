@@ -2,6 +2,7 @@
 #![tactic(auto)]
 
 mod elements;
+mod putting;
 mod ranking;
 mod texts;
 

@@ -11,7 +11,7 @@ ghost use Rattle.fpl_matrices.specs.Laws.{NoneBroken};
 ghost use Rattle.fpl_ranks.specs.Ranks.{IsFor, AreBasisMatrices, IsOver, row_of, rank_at, ranks_of, AreRanks};
 
 use crate::elements::basis_matrices;
-use fpl_echelon::Span;
+use crate::putting::closed_rows;
 use fpl_matrices::{Assignment, Matrix};
 use fpl_rows::{Row, Rows};
 use fpl_scalar::{Fault, Residue};
@@ -46,25 +46,6 @@ fn rows_of(
         rows.push(row_of(alloc, table, x)?)?;
     }
     Ok(rows)
-}
-
-// What rows span, closed.
-fn closed_rows<L: Ledger>(
-    alloc: Global,
-    table: &Table<Residue>,
-    places: u32,
-    rows: &Rows<Residue>,
-    steps: &mut Steps<L>,
-) -> Result<Rows<Residue>, Fault>
-    requires { AreRows table.now.kind places rows.now }
-    ensures value { GivesBy (λ (closed : List (List Num)). closed) result (span_of table.now.kind places (map Ok rows.now)) }
-    ensures rises { steps.old ≤ steps.new }
-{
-    let mut span = Span::start(alloc, *table.field(), places)?;
-    match span.put_all(rows, steps) {
-        Ok(()) => span.close(),
-        Err(fault) => Err(fault),
-    }
 }
 
 fn part(matrices: &[Matrix], from: u32, to: u32) -> &[Matrix]

@@ -12,7 +12,7 @@ use Rattle.fpl_reply.specs.declared.view_fault.ViewFault.{ViewFault}
 use Rattle.fpl_reply.specs.declared.view_fault.ViewFault.TheVariants as view
 use Rattle.fpl_reply.specs.declared.status.Status.{Status}
 use Rattle.fpl_reply.specs.declared.status.Status.TheVariants.{Usage, NoMemory, ReadFault, WriteFault}
-use Rattle.fpl_reply.specs.Reply.{Reply, done, usage, refused, stopped, failed_in_view, no_memory, read_fault, write_fault, fault_status, view_fault_status, status_of, text_of, with_text, line_of}
+use Rattle.fpl_reply.specs.Reply.{Reply, done, usage, refused, unsupported, stopped, failed_in_view, no_memory, read_fault, write_fault, fault_status, view_fault_status, status_of, text_of, with_text, line_of}
 use Rattle.fpl_reply.specs.Leaves.{Says, Leaves}
 use Rattle.fpl_reply.specs.Leaves.Leaves.{whole, part, front}
 
@@ -39,6 +39,7 @@ pub status_shown : (t : List ℕ) (r : Reply) → status_of (with_text t r) ≡ 
 status_shown t (done u) = refl
 status_shown t usage = refl
 status_shown t (refused place reason) = refl
+status_shown t (unsupported name) = refl
 status_shown t (stopped u fault) = refl
 status_shown t (failed_in_view fault) = refl
 status_shown t no_memory = refl

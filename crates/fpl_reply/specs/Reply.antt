@@ -1,6 +1,6 @@
 -- What a run replies.
---   Reply: how it ends, with what its output or its line shows: the text of a view; or why there is none; a run that a fault stops,
---     with what was written before
+--   Reply: how it ends, with what its output or its line shows: the text of a view; or why there is none; the name of a view that works over primes
+--     alone, where the presentation is over fractions; a run that a fault stops, with what was written before
 --   fault_status, view_fault_status: the status of a fault that stops a run, and of one in making the text of its view
 --   status_of: the status of a reply
 --   text_of: the bytes written to the output
@@ -20,12 +20,13 @@ use Rattle.fpl_reply.specs.declared.view_fault.ViewFault.TheVariants as view
 use Rattle.fpl_bytes.specs.Reasons.{byte_text}
 use Rattle.fpl_reply.specs.Faults.{spot_text, why_text}
 use Rattle.fpl_reply.specs.declared.status.Status.{Status}
-use Rattle.fpl_reply.specs.declared.status.Status.TheVariants.{Done, Usage, Refused, BadCheckpoint, Limit, Overflow, NoMemory, ReadFault, WriteFault}
+use Rattle.fpl_reply.specs.declared.status.Status.TheVariants.{Done, Usage, Refused, BadCheckpoint, Limit, Overflow, NoMemory, ReadFault, WriteFault, Unsupported}
 
 pub data Reply : Type 0 where
   done : (text : List ℕ) → Reply
   usage : Reply
   refused : (place : ℕ) (reason : List ℕ) → Reply
+  unsupported : (name : List ℕ) → Reply
   stopped : (text : List ℕ) (fault : Fault) → Reply
   failed_in_view : ViewFault → Reply
   no_memory : Reply
@@ -46,6 +47,7 @@ abbrev pub status_of : Reply → Status
 status_of (done text) = Done
 status_of usage = Usage
 status_of (refused place reason) = Refused
+status_of (unsupported name) = Unsupported
 status_of (stopped text fault) = fault_status fault
 status_of (failed_in_view fault) = view_fault_status fault
 status_of no_memory = NoMemory
@@ -56,6 +58,7 @@ abbrev pub text_of : Reply → List ℕ
 text_of (done text) = text
 text_of usage = []
 text_of (refused place reason) = []
+text_of (unsupported name) = []
 text_of (stopped text fault) = text
 text_of (failed_in_view fault) = []
 text_of no_memory = []
@@ -66,6 +69,7 @@ abbrev pub with_text : List ℕ → Reply → Reply
 with_text text (done other) = done text
 with_text text usage = usage
 with_text text (refused place reason) = refused place reason
+with_text text (unsupported name) = unsupported name
 with_text text (stopped other fault) = stopped text fault
 with_text text (failed_in_view fault) = failed_in_view fault
 with_text text no_memory = no_memory
@@ -76,6 +80,7 @@ abbrev pub IsPut : Reply → Type 0
 IsPut (done text) = Unit {0}
 IsPut usage = ⊥
 IsPut (refused place reason) = ⊥
+IsPut (unsupported name) = ⊥
 IsPut (stopped text fault) = text ≡ [] → ⊥
 IsPut (failed_in_view fault) = ⊥
 IsPut no_memory = ⊥
@@ -100,6 +105,7 @@ abbrev pub line_of : Reply → List ℕ
 line_of (done text) = []
 line_of usage = codes "usage: fplsa VIEW LIMIT [ENTRIES]\n"
 line_of (refused place reason) = codes "refused at byte " ++ decimal place ++ codes ": " ++ reason ++ codes "\n"
+line_of (unsupported name) = codes "unsupported: " ++ name ++ codes " over fractions\n"
 line_of (stopped text fault) = fault_line fault
 line_of (failed_in_view fault) = view_fault_line fault
 line_of no_memory = codes "no memory\n"
@@ -116,3 +122,4 @@ IsFree Overflow = ⊥
 IsFree NoMemory = Unit {0}
 IsFree ReadFault = Unit {0}
 IsFree WriteFault = Unit {0}
+IsFree Unsupported = ⊥

@@ -2,7 +2,7 @@
 ghost use Rattle.std.specs.Prelude.{◌≡◌, ◌≤◌, ◌++◌, codes, decimal, OnOk, OnErr};
 ghost use Rattle.fpl_outside.specs.Outside.{Rose, Takes};
 ghost use Rattle.fpl_outside.specs.Whole.{WrotePrefix};
-ghost use Rattle.fpl_reply.specs.Reply.{Reply, line_of, fault_line, view_fault_line, op_text, refused};
+ghost use Rattle.fpl_reply.specs.Reply.{Reply, line_of, fault_line, view_fault_line, op_text, refused, unsupported};
 ghost use Rattle.fpl_complete.specs.State.{unfit_of};
 ghost use Rattle.fpl_walk.specs.Walk.{too_many, bad_bytes, bad_section, overflow};
 ghost use Rattle.fpl_reply.specs.Faults.{spot_text, why_text};
@@ -40,6 +40,22 @@ fn put_refused<E: Sink>(err: &mut E, place: u64, why: Refusal) -> Result<(), Wri
             Piece::Text(b": "),
             Piece::Text(why.text()),
             Piece::Text(b"\n"),
+        ],
+    )
+}
+
+fn put_unsupported<E: Sink>(err: &mut E, name: &'static [u8]) -> Result<(), WriteFault>
+    ensures whole { OnOk result (Takes (E.taken err.old) (E.taken err.new) (line_of (unsupported name.now))) }
+    ensures part { OnErr result (WrotePrefix (E.taken err.old) (E.taken err.new) (line_of (unsupported name.now))) }
+    ensures fault { OnErr result (Rose (E.faults err.old) (E.faults err.new)) }
+    ensures later { E.faults err.old ≤ E.faults err.new }
+{
+    put_pieces(
+        err,
+        &[
+            Piece::Text(b"unsupported: "),
+            Piece::Text(name),
+            Piece::Text(b" over fractions\n"),
         ],
     )
 }
@@ -213,6 +229,7 @@ pub fn put_line<E: Sink>(err: &mut E, outcome: &Outcome) -> Result<(), WriteFaul
         Outcome::Done => write_whole(err, b""),
         Outcome::Usage => write_whole(err, b"usage: fplsa VIEW LIMIT [ENTRIES]\n"),
         Outcome::Refused { place, why } => put_refused(err, *place, *why),
+        Outcome::Unsupported(name) => put_unsupported(err, name),
         Outcome::BadBytes(bad) => put_bad_bytes(err, *bad),
         Outcome::BadSection { weight, spot, why } => put_bad_section(err, *weight, *spot, *why),
         Outcome::Limit { weight, count } => put_limit(err, *weight, *count),

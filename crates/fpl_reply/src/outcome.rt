@@ -15,6 +15,16 @@ use fpl_reader::Reason;
 pub enum Refusal {
     TooLong,
     Unread(Reason),
+    /// There is no line that separates a presentation from its matrices.
+    NoMatrices,
+    /// A piece of the matrices is missing, is left over, or isn't what stands there.
+    MapSyntax,
+    /// The matrices have no rows, or too many.
+    MapSize,
+    /// A number of a matrix isn't below the prime.
+    MapNumber,
+    /// A number other than 0 stands in a block of the other parity than its generator's.
+    MapParity,
 }
 
 /// What words and an input have come to.
@@ -24,6 +34,8 @@ pub enum Outcome {
     Done,
     Usage,
     Refused { place: u64, why: Refusal },
+    /// The view of this name works over primes alone.
+    Unsupported(&'static [u8]),
     BadBytes(BadBytes),
     BadSection { weight: u32, spot: Spot, why: Why },
     Limit { weight: u32, count: u64 },
@@ -41,6 +53,11 @@ impl Refusal {
         match self {
             Refusal::TooLong => b"input too long",
             Refusal::Unread(reason) => reason.text(),
+            Refusal::NoMatrices => b"no matrices",
+            Refusal::MapSyntax => b"map syntax",
+            Refusal::MapSize => b"map size",
+            Refusal::MapNumber => b"not a residue",
+            Refusal::MapParity => b"entry of the other parity",
         }
     }
 }
@@ -53,6 +70,7 @@ impl Outcome {
             Outcome::Done => Status::Done,
             Outcome::Usage => Status::Usage,
             Outcome::Refused { .. } => Status::Refused,
+            Outcome::Unsupported(_) => Status::Unsupported,
             Outcome::BadBytes(_) | Outcome::BadSection { .. } => Status::BadCheckpoint,
             Outcome::Limit { .. } => Status::Limit,
             Outcome::Overflow { .. } => Status::Overflow,

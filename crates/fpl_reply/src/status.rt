@@ -22,6 +22,8 @@ pub enum Status {
     ReadFault,
     /// A put to the output failed, after a prefix of the view's text.
     WriteFault,
+    /// The view works over primes alone, and the presentation is over fractions.
+    Unsupported,
 }
 
 impl Status {
@@ -39,6 +41,7 @@ impl Status {
             Status::NoMemory => 6,
             Status::ReadFault => 7,
             Status::WriteFault => 8,
+            Status::Unsupported => 10,
         }
     }
 }

@@ -1,8 +1,8 @@
 -- The relations of a sound presentation, one after the other.
 use Rattle.std.proofs.Common.{◌≡◌, ◌<◌, ◌≤◌, ◌+◌, ◌-◌, ◌^◌, ℕ, zero, suc, List, [], ◌∷◌, length, drop, get_or, map, true, false, Bool, cond, refl, sym, ap, ap₂, ◌∙◌, arith}
 use Rattle.std.proofs.lemmas.Bool.Decides.{nat_tests}
-use Rattle.std.proofs.lemmas.List.Sums.{sum-map, sum_by-cons, get_or-le-sum_by}
-use Rattle.std.specs.Prelude.{nat_eq, sum, sum_by}
+use Rattle.std.proofs.lemmas.List.Sums.{sum-map, get_or-le-sum_by}
+use Rattle.std.specs.Prelude.{nat_eq, sum}
 use Rattle.fpl_numbers.specs.declared.number.Num.{Num}
 use Rattle.fpl_numbers.specs.declared.number.Kind.{Kind}
 use Rattle.fpl_numbers.specs.Kinds.{Number}
@@ -11,8 +11,7 @@ use Rattle.math_algebra.specs.Degrees.{weight_of, weights_of, weight_of_both, of
 use Rattle.fpl_model.specs.declared.presentation.Equation.{Equation}
 use Rattle.fpl_model.specs.declared.presentation.Presentation as model
 use Rattle.fpl_model.specs.Meaning.{plain, in_field, all_in_field, tree_in, presentation_in}
-use Rattle.fpl_model.specs.Sound.{IsSound, IsTerm, count_tree, count_equation}
-use Rattle.fpl_model.proofs.Terms.{term_within}
+use Rattle.fpl_model.specs.Sound.{IsSound, count_tree, count_equation}
 use Rattle.fpl_log.specs.declared.step.Origin.TheVariants.{Relation}
 use Rattle.fpl_table.specs.Plain.{PlainTable}
 use Rattle.fpl_table.specs.Shape.{Agrees}
@@ -94,29 +93,9 @@ count_within qs at q lt is =
     let e : count_equation q ≡ count_equation (get_or qs at q) = ap count_equation is in
     rw sum-map (omega (arith, h, e))
 
-many_by : (qs : List Equation) → length qs ≤ sum_by count_equation qs
-many_by [] = omega arith
-many_by (x ∷ qs) = let h = many_by qs in rw sum_by-cons (omega (arith, h))
-
-many_within : (qs : List Equation) → length qs ≤ sum (map count_equation qs)
-many_within qs = rw sum-map (many_by qs)
-
-pub few_relations : (p : model.Presentation) → IsSound p → length p.relations < 2 ^ 32
-few_relations p sound = let h = many_within p.relations in let s = sound.small in omega arith
-
 pub small_relation : (p : model.Presentation) (at : ℕ) (q : Equation) → IsSound p → at < length p.relations → q ≡ get_or p.relations at q →
     count_tree (plain q.left) + count_tree (plain q.right) < 2 ^ 40
 small_relation p at q sound lt is = let h = count_within p.relations at q lt is in let s = sound.small in omega arith
-
-pub left_term : (p : model.Presentation) (at : ℕ) (q : Equation) → IsSound p → at < length p.relations → q ≡ get_or p.relations at q →
-    IsTerm p.field (length p.generators) (plain q.left)
-left_term p at q sound lt is = (let h = sound.relations at q lt in
-    rw (sym is) at (term_within p.field (length p.generators) (plain (get_or p.relations at q).left) h.0.0))
-
-pub right_term : (p : model.Presentation) (at : ℕ) (q : Equation) → IsSound p → at < length p.relations → q ≡ get_or p.relations at q →
-    IsTerm p.field (length p.generators) (plain q.right)
-right_term p at q sound lt is = (let h = sound.relations at q lt in
-    rw (sym is) at (term_within p.field (length p.generators) (plain (get_or p.relations at q).right) h.1.0))
 
 pub counts_by : (T : PlainTable) (p : model.Presentation) (t : Tree Num) → Agrees T p → counts T t ≡
     has_weight (weight_of (presentation_in p) (in_field p.field t))

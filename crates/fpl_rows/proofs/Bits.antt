@@ -3,13 +3,13 @@ use Rattle.std.proofs.Common.{◌≡◌, ℕ, zero, suc, ◌+◌, ◌-◌, ◌*�
 use Rattle.std.proofs.Math.ListN.{set, get_or-append}
 use Rattle.std.proofs.Math.Seq.{get_or-append_seam}
 use Rattle.std.proofs.lemmas.List.{get_or-set_same, get_or-set_other, length-set, length-replicate, ext_get_or}
-use Rattle.std.proofs.lemmas.Nat.{leading_length, one_shl}
+use Rattle.std.proofs.lemmas.Nat.{leading_length, one_shl, shr-shr}
 use Rattle.std.specs.Int.Count.{count_leading_zeros}
 use Rattle.std.proofs.lemmas.Nat.Bits.{bit_at-zero, bit_at_above, bit_at_and, bit_at_ones, bit_at-lt, bit_at_set_same, bit_at_set_other, bit_at_mask_inside, bit_at-trailing_zeros, ones_shl}
 use Rattle.std.specs.Int.{bit_at, trailing_zeros}
 use native.Mathlib.Decide.{ℕ_discrete, dec_lt}
 use mir.Syntax.{w64}
-use Rattle.fpl_rows.specs.Marking.{bit_in, bits_in, IsWithin}
+use Rattle.fpl_rows.specs.Marking.{bit_in, bits_in, IsRest, IsWithin}
 
 pub length-bits : (words : List ℕ) (n : ℕ) → length (bits_in words n) ≡ n
 length-bits words zero = refl
@@ -152,3 +152,36 @@ marked_within words low high at w l h = record {
   before = λ k b. get_or-set_other words at k w 0 (λ e. absurd (omega (arith, e, b))) ∙ h.before k (omega (arith, b));
   after = λ k b. get_or-set_other words at k w 0 (λ e. absurd (omega (arith, e, b))) ∙ h.after k (omega (arith, b));
 }
+
+-- a word that was moved down
+pub moved : (w a i : ℕ) → bit_at (w / 2 ^ a / 2) i ≡ bit_at w (a + (1 + i))
+moved w a i = ap (λ x. x % 2) (shr-shr (w / 2 ^ a) 1 i ∙ shr-shr w a (1 + i))
+
+pub rest_bit : (words : List ℕ) (place j : ℕ) → place < j → j < 64 * (place / 64 + 1) →
+    bit_at (get_or words (place / 64) 0 / 2 ^ (place % 64) / 2) (j - place - 1) ≡ 0 → bit_in words j ≡ false
+rest_bit words place j l m e =
+    let q : j / 64 ≡ place / 64 = omega arith in
+    let i : j % 64 ≡ place % 64 + (1 + (j - place - 1)) = omega arith in
+    bit_zero words j (ap (λ k. bit_at (get_or words k 0) (j % 64)) q ∙ ap (bit_at (get_or words (place / 64) 0)) i
+    ∙ sym (moved (get_or words (place / 64) 0) (place % 64) (j - place - 1)) ∙ e)
+
+-- a cursor goes on: past bits that are 0, or to what stands behind its word
+module _ (marks : List Bool) (place rest end skip : ℕ) (h : IsRest marks place rest end) (z : (i : ℕ) → i < skip → bit_at rest i ≡ 0) where
+  pub rest_skipped : IsRest marks (place + 1 + skip) (rest / 2 ^ skip / 2) end
+  rest_skipped = record {
+    within = h.within;
+    none = λ j a b e.
+        let i : j - place - 1 ≡ skip + (1 + (j - (place + 1 + skip) - 1)) = omega (arith, a) in
+        h.none j (omega (arith, a)) b (ap (bit_at rest) i ∙ sym (moved rest skip (j - (place + 1 + skip) - 1)) ∙ e);
+  }
+
+  -- no bit is left before the end
+  pub none_here : ((i : ℕ) → 64 ≤ i → bit_at rest i ≡ 0) → (skip < 64 → end ≤ place + 1 + skip) → (k : ℕ) → place + 1 ≤ k → k < end →
+      get_or marks k false ≡ false
+  none_here above out k a b = h.none k (omega (arith, a)) b (elim (dec_lt (k - place - 1) skip) [
+    | yes l ↦ z (k - place - 1) l
+    | no l ↦ above (k - place - 1) (elim (dec_lt skip 64) [
+      | yes m ↦ absurd (let o = out m in omega (arith, o, a, b, l))
+      | no m ↦ omega (arith, l, m)
+    ])
+  ])

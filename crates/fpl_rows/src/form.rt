@@ -51,6 +51,24 @@ impl<F: Field> Form<F> {
         }
     }
 
+    /// As `spread`, of lists that are given.
+    pub fn spread_vec(
+        alloc: Global,
+        field: &F,
+        size: u32,
+        places: Vec<u32>,
+        numbers: Vec<F::Elem>,
+    ) -> Result<Form<F>, AllocError>
+        requires { IsPacking size places.items (length numbers.items) }
+        ensures { IfOk result (λ form. numbers_in F.number form ≡ spread size places.items (map F.number numbers.items)) }
+    {
+        if places.len() <= most_packed(field.kind(), size as usize) {
+            Ok(Form::Sparse(Packed::of_parts(size, places, numbers)))
+        } else {
+            Ok(Form::Dense(spread_out(alloc, field, size, &places, &numbers)?))
+        }
+    }
+
     /// The same numbers, packed where that is better. Where memory is wanting they stay as they are.
     pub fn packed(self, alloc: Global, field: &F) -> Form<F>
         requires few { length (numbers_in F.number self) < 2 ^ 32 }

@@ -1,6 +1,6 @@
-ghost use Rattle.std.specs.Prelude.{◌≡◌, ◌≤◌, ◌<◌, ◌*◌, ◌^◌, true, false, ℕ, length, replicate, slice_set, slice_index_or, IfOk};
+ghost use Rattle.std.specs.Prelude.{◌≡◌, ◌≤◌, ◌<◌, ◌+◌, ◌-◌, ◌*◌, ◌/◌, ◌^◌, true, false, ℕ, length, replicate, slice_set, slice_index_or, IfOk};
 ghost use Rattle.std.specs.Int.{bit_at};
-ghost use Rattle.fpl_rows.specs.Marking.{IsWithin, bit_in};
+ghost use Rattle.fpl_rows.specs.Marking.{IsRest, IsWithin, bit_in};
 
 use std::alloc::{AllocError, Global};
 use std::marker::Model;
@@ -27,6 +27,15 @@ impl Model for Marks {
     ghost invariant = { λ m. AreBits m.words.items m.size m.low m.high };
 }
 
+/// A place, and where its word may have marks behind it: by the bits of `rest`, the first for the
+/// place after it, before place `end`.
+#[derive(Clone, Copy, Debug)]
+pub struct Cursor {
+    pub place: usize,
+    pub rest: u64,
+    pub end: usize,
+}
+
 /// After which bit of a word the last 1 stands.
 fn end_in(word: u64) -> usize
     ensures most { result ≤ 64 }
@@ -48,6 +57,7 @@ fn end_in_part(word: u64, most: usize) -> usize
 fn start_in(word: u64) -> usize
     ensures most { result ≤ 64 }
     ensures none { (i : ℕ) → i < result → bit_at word i ≡ 0 }
+    ensures above { (i : ℕ) → 64 ≤ i → bit_at word i ≡ 0 }
 {
     if word == 0 {
         64
@@ -150,6 +160,15 @@ fn start_among(words: &[u64], low: usize, high: usize, from: usize, end: usize) 
     }
 }
 
+/// The bits of the word of a place that stand behind it.
+#[inline(always)]
+fn rest_of(words: &[u64], place: usize) -> u64
+    requires { place / 64 < length words.now }
+    ensures { (j : ℕ) → place < j → j < 64 * (place / 64 + 1) → bit_at result (j - place - 1) ≡ 0 → bit_in words.now j ≡ false }
+{
+    (words[place / 64] >> (place % 64)) >> 1
+}
+
 /// Makes the words from `low` to `high` 0, which are all that may be another.
 fn unmark(words: &mut [u64], low: usize, high: usize)
     requires { IsWithin words.old low high }
@@ -203,6 +222,46 @@ impl Marks {
         ensures none { (k : ℕ) → from ≤ k → k < result → slice_index_or self.now k false ≡ false }
     {
         start_among(&self.words, self.low, self.high, from, self.size)
+    }
+
+    /// The first place from `from` on that has a mark, or the end: up to there there is none.
+    pub fn cursor_from(&self, from: usize) -> Cursor
+        requires from { from ≤ length self.now }
+        ensures at_least { from ≤ result.place }
+        ensures at_most { result.place ≤ length self.now }
+        ensures none { (k : ℕ) → from ≤ k → k < result.place → slice_index_or self.now k false ≡ false }
+        ensures rest { IsRest self.now result.place result.rest result.end }
+    {
+        let place = self.start_from(from);
+        Cursor {
+            place,
+            rest: rest_of(&self.words, place),
+            end: (64 * (place / 64 + 1)).min(self.size),
+        }
+    }
+
+    /// The next place behind one that has a mark, or the end.
+    #[inline(always)]
+    pub fn after(&self, at: Cursor) -> Cursor
+        requires place { at.place < length self.now }
+        requires rest { IsRest self.now at.place at.rest at.end }
+        ensures at_least { at.place + 1 ≤ result.place }
+        ensures at_most { result.place ≤ length self.now }
+        ensures none { (k : ℕ) → at.place + 1 ≤ k → k < result.place → slice_index_or self.now k false ≡ false }
+        ensures rest { IsRest self.now result.place result.rest result.end }
+    {
+        // its invariant bounds the places
+        let _size = self.size;
+        let skip = start_in(at.rest);
+        if skip < 64 && at.place + 1 + skip < at.end {
+            Cursor {
+                place: at.place + 1 + skip,
+                rest: (at.rest >> skip) >> 1,
+                end: at.end,
+            }
+        } else {
+            self.cursor_from(at.end.max(at.place + 1))
+        }
     }
 
     /// Takes each mark off.

@@ -15,7 +15,8 @@ use std::marker::Model;
 
 /// A vector, as its number at each position. Positions count from 1.
 ///
-/// After a `Fault` a row has its length and no promised numbers.
+/// Where memory is wanting a row stays as it was. After an operation that doesn't fit it has its
+/// length and no promised numbers.
 #[derive(Drop)]
 pub struct Row<F: Field> {
     // tells which element is 0
@@ -72,6 +73,23 @@ impl<F: Field> Row<F> {
         Ok(Row {
             field: *field,
             form: Form::spread(alloc, field, size, places, numbers)?,
+        })
+    }
+
+    /// As `spread`, of lists that are given.
+    pub fn spread_vec(
+        alloc: Global,
+        field: &F,
+        size: u32,
+        places: Vec<u32>,
+        numbers: Vec<F::Elem>,
+    ) -> Result<Row<F>, AllocError>
+        requires { IsPacking size places.items (length numbers.items) }
+        ensures { IfOk result (λ r. r ≡ spread size places.items (map F.number numbers.items)) }
+    {
+        Ok(Row {
+            field: *field,
+            form: Form::spread_vec(alloc, field, size, places, numbers)?,
         })
     }
 
@@ -203,6 +221,7 @@ impl<F: Field> Row<F> {
         ensures value { Gives result self.new (added_at (F.kind_of field.now) self.old (s - 1) (F.number c)) }
         ensures elements { OnOk result (AreElements (F.kind_of field.now) self.new) }
         ensures length { length self.new ≡ length self.old }
+        ensures memory { IfErr result (λ fault. fault ≡ Fault.NoMemory → self.new ≡ self.old) }
     {
         let place = s as usize - 1;
         let done = match &mut self.form {
@@ -230,6 +249,7 @@ impl<F: Field> Row<F> {
         ensures value { Gives result self.new (axpy_of (F.kind_of field.now) self.old (F.number c) other.now) }
         ensures elements { OnOk result (AreElements (F.kind_of field.now) self.new) }
         ensures length { length self.new ≡ length self.old }
+        ensures memory { IfErr result (λ fault. fault ≡ Fault.NoMemory → self.new ≡ self.old) }
     {
         let done = match &mut self.form {
             Form::Dense(numbers) => other.form.axpy_to(field, numbers, c),
@@ -253,6 +273,7 @@ impl<F: Field> Row<F> {
         ensures value { Gives result self.new (scale_of (F.kind_of field.now) (F.number c) self.old) }
         ensures elements { OnOk result (AreElements (F.kind_of field.now) self.new) }
         ensures length { length self.new ≡ length self.old }
+        ensures memory { IfErr result (λ fault. fault ≡ Fault.NoMemory → self.new ≡ self.old) }
     {
         let done = match &mut self.form {
             Form::Dense(numbers) => places::scale(field, numbers, c),

@@ -3,11 +3,11 @@ ghost use Rattle.fpl_numbers.specs.Numbers.{IsElement, residue};
 ghost use Rattle.fpl_numbers.specs.Results.{Answers, GivesBy};
 ghost use Rattle.fpl_scalar.specs.Vectors.{AreElements, axpy_of, scale_of};
 ghost use Rattle.fpl_rows.specs.Positions.{lead_below, added_at};
-ghost use Rattle.fpl_rows.specs.Marking.{IsMarked};
+ghost use Rattle.fpl_rows.specs.Marking.{IsMarked, IsRest};
 ghost use Rattle.fpl_rows.specs.Packing.{IsPacking, spread};
 
 use crate::Row;
-use crate::marks::Marks;
+use crate::marks::{Cursor, Marks};
 use fpl_scalar::{Fault, Field, Unfit};
 use std::alloc::{AllocError, Global};
 use std::marker::Model;
@@ -57,27 +57,56 @@ fn empty<F: Field>(field: &F, sums: &mut [F::Sum], marks: &Marks)
     ensures room { All (λ s. F.has_room field.now s ≡ true) sums.new }
 {
     let blank = field.blank();
-    let mut s = marks.start_from(0);
-    while s < sums.len() {
-        sums[s] = blank;
-        s = marks.start_from(s + 1);
+    let mut s = marks.cursor_from(0);
+    while s.place < sums.len() {
+        sums[s.place] = blank;
+        s = marks.after(s);
     }
 }
 
-/// The least place from `from` on whose number is not 0, or the end.
-fn next_filled<F: Field>(field: &F, sums: &[F::Sum], marks: &Marks, from: usize) -> usize
-    requires from { from ≤ length sums.now }
+/// From the least place behind `from` with a mark on, whose number is not 0, or the end.
+#[inline(always)]
+fn next_filled<F: Field>(field: &F, sums: &[F::Sum], marks: &Marks, from: Cursor) -> Cursor
+    requires from { from.place ≤ length sums.now }
+    requires rest { IsRest marks.now from.place from.rest from.end }
     requires marked { IsMarked marks.now (map (F.summed field.now) sums.now) }
     requires elements { AreElements (F.kind_of field.now) (map (F.summed field.now) sums.now) }
-    ensures at_least { from ≤ result }
-    ensures at_most { result ≤ length sums.now }
-    ensures none { (k : ℕ) → from ≤ k → k < result → slice_index_or (map (F.summed field.now) sums.now) k (residue 0) ≡ residue 0 }
+    ensures at_least { from.place ≤ result.place }
+    ensures at_most { result.place ≤ length sums.now }
+    ensures none { (k : ℕ) → from.place ≤ k → k < result.place → slice_index_or (map (F.summed field.now) sums.now) k (residue 0) ≡ residue 0 }
+    ensures rest { IsRest marks.now result.place result.rest result.end }
 {
-    let mut s = marks.start_from(from);
-    while s < sums.len() && field.is_zero(field.settle(sums[s])) {
-        s = marks.start_from(s + 1);
+    let mut s = from;
+    while s.place < sums.len() && field.is_zero(field.settle(sums[s.place])) {
+        s = marks.after(s);
     }
     s
+}
+
+/// 1 where the number is not 0.
+#[inline(always)]
+fn is_filled<F: Field>(field: &F, sum: F::Sum) -> usize
+    ensures { result ≤ 1 }
+{
+    if field.is_zero(field.settle(sum)) {
+        0
+    } else {
+        1
+    }
+}
+
+/// How many numbers are not 0: so much room is asked for.
+fn count_filled<F: Field>(field: &F, sums: &[F::Sum], marks: &Marks) -> usize
+    requires marked { IsMarked marks.now (map (F.summed field.now) sums.now) }
+    ensures { result ≤ length sums.now }
+{
+    let mut count = 0;
+    let mut s = marks.cursor_from(0);
+    while s.place < sums.len() {
+        count += is_filled(field, sums[s.place]);
+        s = marks.after(s);
+    }
+    count
 }
 
 /// The numbers of a row that are not 0, with their places.
@@ -99,13 +128,14 @@ fn collect<F: Field>(
     ensures value { IfOk result (λ kept. spread (length sums.now) kept.places.items (map F.number kept.numbers.items) ≡ map (F.summed field.now) sums.now) }
     ensures elements { IfOk result (λ kept. AreElements (F.kind_of field.now) (map F.number kept.numbers.items)) }
 {
-    let mut places = Vec::new(alloc);
-    let mut numbers = Vec::new(alloc);
-    let mut s = next_filled(field, sums, marks, 0);
-    while s < sums.len() {
-        places.push(s as u32)?;
-        numbers.push(field.settle(sums[s]))?;
-        s = next_filled(field, sums, marks, s + 1);
+    let count = count_filled(field, sums, marks);
+    let mut places = Vec::with_capacity(alloc, count)?;
+    let mut numbers = Vec::with_capacity(alloc, count)?;
+    let mut s = next_filled(field, sums, marks, marks.cursor_from(0));
+    while s.place < sums.len() {
+        places.push(s.place as u32)?;
+        numbers.push(field.settle(sums[s.place]))?;
+        s = next_filled(field, sums, marks, marks.after(s));
     }
     Ok(Gathered { places, numbers })
 }

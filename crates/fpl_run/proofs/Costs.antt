@@ -3,7 +3,7 @@ use Rattle.std.proofs.Common.{◌≡◌, ℕ, ◌≤◌, ◌+◌, ◌⊎◌, inl
 use Rattle.std.specs.declared.option.Option.{Option}
 use Rattle.fpl_run.specs.declared.words.Command.{Command}
 use Rattle.fpl_run.specs.declared.task.Way.{Way}
-use Rattle.fpl_run.specs.declared.task.Way.TheVariants.{Write}
+use Rattle.fpl_run.specs.declared.task.Way.TheVariants.{Write, Rank}
 use Rattle.fpl_run.specs.Words.{IsCommand}
 use Rattle.fpl_run.specs.Task.{way_of, task_for, IsCounted}
 use Rattle.fpl_run.specs.Start.{Start, cost_for}
@@ -34,6 +34,12 @@ module _ (c : Command) (bytes : List ℕ) (s : Start) (a b : Option (List ℕ)) 
     stays = λ none. absurd (none s is);
     paced = λ t made also. subst (λ (x : Start). IsPaced (task_for c Write) x a b old new) (same_start t also) (paced made);
   }
+
+  -- of ranks the rows aren't counted
+  pub costs_ranked : way_of c.view ≡ Rank → old ≤ new → Spends c bytes a b old new
+  costs_ranked made rises =
+      costs_start rises (λ way also counted. let same : way ≡ Rank = sym also ∙ made in absurd (subst IsCounted same counted))
+      (λ writes. let no : Write ≡ Rank = sym writes ∙ made in cc)
 
 -- a task, told by its command
 pub costs_task : (c : Command) (s : Start) (made : Way) → way_of c.view ≡ made → (old new : ℕ) →

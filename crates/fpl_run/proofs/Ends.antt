@@ -4,6 +4,7 @@ use Rattle.std.specs.Prelude.{IfOk, IfErr}
 use Rattle.std.specs.declared.result.Result.{Result}
 use Rattle.std.specs.declared.option.Option.{Option}
 use Rattle.fpl_model.specs.declared.presentation.Presentation.{Presentation}
+use Rattle.fpl_matrices.specs.Matrices.{Assigned}
 use Rattle.fpl_walk.specs.Stops.{PlainRun, stored_in}
 use Rattle.fpl_walk.specs.Walk.{Stage, ended, Walked, begun, walk_of, cost_of}
 use Rattle.fpl_reply.specs.declared.view_fault.ViewFault.{ViewFault}
@@ -15,11 +16,12 @@ use Rattle.fpl_views.specs.declared.shown.Shown.{Shown}
 use Rattle.fpl_views.specs.Views.{text_of_view}
 use Rattle.fpl_run.specs.declared.start.Begin.{Begin}
 use Rattle.fpl_run.specs.declared.task.Way.{Way}
-use Rattle.fpl_run.specs.declared.task.Way.TheVariants.{Show, Check}
+use Rattle.fpl_run.specs.declared.task.Way.TheVariants.{Show, Check, Rank}
 use Rattle.fpl_run.specs.declared.task.Task.{Task}
 use Rattle.fpl_run.specs.Task.{does_compute}
 use Rattle.fpl_run.specs.CheckText.{check_text}
-use Rattle.fpl_run.specs.Start.{Start, walk_for, HasCome, cost_for}
+use Rattle.fpl_run.specs.Matrices.{text_of_ranks}
+use Rattle.fpl_run.specs.Start.{Start, with_matrices, walk_for, HasCome, cost_for}
 use Rattle.fpl_run.specs.Begin.{start_in, start_from, HasBegun, HasEnded, HasFailed, Stops}
 use Rattle.fpl_run.specs.Begin.Stops.{out_of_memory, at_fault, in_view}
 use Rattle.fpl_run.specs.Answer.{AnswersTask, IsFront, text_of_way, written_before}
@@ -85,6 +87,12 @@ module _ (t : Task) (run : PlainRun) (bytes : List ℕ) (has_begun : HasBegun ru
       Stops t (start_from run bytes) r
   failed_begun stage r quiet h = task_failed t s stage r quiet (subst (λ (w : Walked). HasFailed stage w r) (sym walk_begun) h)
 
+  pub failed_with : (a : Assigned) (stage : Stage) (r : Reply) →
+      written_before t.way run.presentation (walk_for t (start_from run bytes)).stage.sections ≡ [] →
+      HasFailed stage (walk_of (does_compute t.way) t.entries run.presentation (stored_in run bytes) t.limit run.stage) r →
+      Stops t (with_matrices a (start_from run bytes)) r
+  failed_with a stage r quiet h = task_failed t (with_matrices a s) stage r quiet (subst (λ (w : Walked). HasFailed stage w r) (sym walk_begun) h)
+
   module _ (new : PlainRun) (kept : new.presentation ≡ run.presentation)
       (whole : HasEnded new.stage (walk_of (does_compute t.way) t.entries run.presentation (stored_in run bytes) t.limit run.stage)) where
     over : HasEnded new.stage (walk_for t s)
@@ -93,24 +101,42 @@ module _ (t : Task) (run : PlainRun) (bytes : List ℕ) (has_begun : HasBegun ru
     come : HasCome t s
     come = ended_stop new.stage (walk_for t s) over
 
-    there : (way : Way) → t.way ≡ way → text_of_way t.way s t.limit (walk_for t s).stage ≡ text_of_way way s t.limit new.stage
+    there : (way : Way) → t.way ≡ way → text_of_way t.way s t (walk_for t s).stage ≡ text_of_way way s t new.stage
     there way is =
-        ap (text_of_way t.way s t.limit) (ended_stage new.stage (walk_for t s) over) ∙ ap (λ (x : Way). text_of_way x s t.limit new.stage) is
+        ap (text_of_way t.way s t) (ended_stage new.stage (walk_for t s) over) ∙ ap (λ (x : Way). text_of_way x s t new.stage) is
 
     module _ (v : Shown) (way : t.way ≡ Show v) where
-      text_there : (r : Result (List ℕ) ViewFault) → text_of_view v new.presentation new.stage.table new.stage.sections ≡ r →
-          text_of_way t.way s t.limit (walk_for t s).stage ≡ r
+      text_there : (r : Result (List ℕ) ViewFault) → text_of_view v t.entries new.presentation new.stage.table new.stage.sections ≡ r →
+          text_of_way t.way s t (walk_for t s).stage ≡ r
       text_there r e =
-          there (Show v) way ∙ ap (λ (p : Presentation). text_of_view v p new.stage.table new.stage.sections) (sym kept) ∙ e
+          there (Show v) way ∙ ap (λ (p : Presentation). text_of_view v t.entries p new.stage.table new.stage.sections) (sym kept) ∙ e
 
-      pub show_text : (text : List ℕ) → text_of_view v new.presentation new.stage.table new.stage.sections ≡ Ok text →
+      pub show_text : (text : List ℕ) → text_of_view v t.entries new.presentation new.stage.table new.stage.sections ≡ Ok text →
           AnswersTask t (start_from run bytes) (done text)
       show_text text e = shown come text (text_there (Ok text) e)
 
       pub show_fault : (r : Reply) → (r ≡ no_memory) ⊎ ((f : ViewFault) × (r ≡ failed_in_view f) ×
-          (text_of_view v new.presentation new.stage.table new.stage.sections ≡ Err f)) → Stops t (start_from run bytes) r
+          (text_of_view v t.entries new.presentation new.stage.table new.stage.sections ≡ Err f)) → Stops t (start_from run bytes) r
       show_fault r (inl e) = subst (λ x. Stops t s x) (sym e) out_of_memory
       show_fault r (inr h) = subst (λ x. Stops t s x) (sym h.1) (in_view h.0 (fails_in_view come h.0 (text_there (Err h.0) h.2)))
+
+    module _ (a : Assigned) (way : t.way ≡ Rank) where
+      rank_there : (r : Result (List ℕ) ViewFault) → text_of_ranks new.presentation a new.stage.table ≡ r →
+          text_of_way t.way (with_matrices a s) t (walk_for t s).stage ≡ r
+      rank_there r e =
+          ap (text_of_way t.way (with_matrices a s) t) (ended_stage new.stage (walk_for t s) over)
+          ∙ ap (λ (x : Way). text_of_way x (with_matrices a s) t new.stage) way
+          ∙ ap (λ (p : Presentation). text_of_ranks p a new.stage.table) (sym kept) ∙ e
+
+      pub rank_text : (text : List ℕ) → text_of_ranks new.presentation a new.stage.table ≡ Ok text →
+          AnswersTask t (with_matrices a (start_from run bytes)) (done text)
+      rank_text text e = shown come text (rank_there (Ok text) e)
+
+      pub rank_fault : (r : Reply) → (r ≡ no_memory) ⊎ ((f : ViewFault) × (r ≡ failed_in_view f) ×
+          (text_of_ranks new.presentation a new.stage.table ≡ Err f)) → Stops t (with_matrices a (start_from run bytes)) r
+      rank_fault r (inl e) = subst (λ x. Stops t (with_matrices a s) x) (sym e) out_of_memory
+      rank_fault r (inr h) =
+          subst (λ x. Stops t (with_matrices a s) x) (sym h.1) (in_view h.0 (fails_in_view come h.0 (rank_there (Err h.0) h.2)))
 
     pub check_made : t.way ≡ Check → (text : List ℕ) →
         text ≡ check_text new.presentation.field t.limit new.stage.table.weight (length bytes - new.stage.place) →

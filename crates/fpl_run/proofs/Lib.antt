@@ -5,10 +5,13 @@ pub mod Ends
 pub mod Streams
 pub mod Streaming
 pub mod Pacing
+pub mod Separators
 pub mod Replies
 pub mod OneReply
+pub mod Begun
 pub mod Costs
 pub mod Meaning
+pub mod Maps
 pub mod Standing
 pub mod Own
 pub mod Within

@@ -22,7 +22,7 @@ use Rattle.plain_walks.proofs.Walking.{walks_are_standard}
 use Rattle.fpl_reply.specs.declared.status.Status.TheVariants.{Done}
 use Rattle.fpl_reply.specs.declared.view_fault.ViewFault.{ViewFault}
 use Rattle.fpl_reply.specs.declared.view_fault.ViewFault.TheVariants as view
-use Rattle.fpl_reply.specs.Reply.{Reply, done, usage, refused, stopped, failed_in_view, no_memory, read_fault, write_fault, fault_status, view_fault_status, status_of, text_of, with_text}
+use Rattle.fpl_reply.specs.Reply.{Reply, done, usage, refused, unsupported, stopped, failed_in_view, no_memory, read_fault, write_fault, fault_status, view_fault_status, status_of, text_of, with_text}
 use Rattle.fpl_reply.specs.Leaves.{Leaves}
 use Rattle.fpl_reply.specs.Leaves.Leaves.{whole, part, front}
 use Rattle.fpl_reply.proofs.Leaving.{status_shown}
@@ -30,18 +30,20 @@ use Rattle.fpl_views.specs.declared.shown.Shown.{Shown}
 use Rattle.fpl_views.proofs.Texts.{texts_show}
 use Rattle.fpl_run.specs.declared.words.Command.{Command}
 use Rattle.fpl_run.specs.declared.task.Way.{Way}
-use Rattle.fpl_run.specs.declared.task.Way.TheVariants.{Show}
+use Rattle.fpl_run.specs.declared.task.Way.TheVariants.{Show, Rank}
 use Rattle.fpl_run.specs.declared.task.Task.{Task}
 use Rattle.fpl_run.specs.Words.{IsCommand, most_limit}
-use Rattle.fpl_run.specs.Task.{way_of, task_for, does_compute}
+use Rattle.fpl_run.specs.Task.{way_of, task_for, does_compute, IsServed}
 use Rattle.fpl_run.specs.Start.{Start, begun_for, walk_for, HasCome}
-use Rattle.fpl_run.specs.Read.{IsUnread, IsStart, most_bytes}
-use Rattle.fpl_run.specs.Read.IsStart.{from_text, from_head, built_in}
+use Rattle.fpl_run.specs.Read.{IsUnread, Presents, IsStart, most_bytes}
+use Rattle.fpl_run.specs.Read.Presents.{from_text, from_head, built_in}
+use Rattle.fpl_run.specs.Read.IsStart.{plain, with_map}
 use Rattle.fpl_run.specs.Answer.{AnswersTask, Answers, Fronts, text_of_way}
 use Rattle.fpl_run.specs.Answer.AnswersTask.{stopped_at, fails_in_view, shown}
 use Rattle.fpl_run.specs.Run.{ReadsNothing, IfTold, Means}
 use Rattle.fpl_run.proofs.Names.{command_in_range, one_command}
 use Rattle.fpl_run.proofs.OneReply.{of_words, task_reply, started}
+use Rattle.fpl_run.proofs.Separators.{text_shorter}
 use Rattle.fpl_run.proofs.Walks.{never_ends}
 
 pub no_bytes : IsBytes []
@@ -62,15 +64,24 @@ head_sound bytes h short fits has =
 
 -- a start has a sound presentation, and bytes are stored for it
 module _ (c : Command) (bytes : List ℕ) (fits : (IsUnread c.view → ⊥) → IsBytes bytes) where
+  pub presented_sound : c.limit ≤ most_limit c.view → (s : Start) → Presents c bytes s → IsSound s.presentation
+  presented_sound low _ (from_text u l a x e p h) =
+      presentation_sound x p (let shorter = text_shorter (way_of c.view) bytes x e in omega (arith, l, shorter)) h
+  presented_sound low _ (from_head u l a h k) = head_sound bytes h l (fits u) k
+  presented_sound low _ (built_in u) = type_a_is_sound c.limit (subst (λ v. c.limit ≤ most_limit v) u low)
+
   pub start_sound : c.limit ≤ most_limit c.view → (s : Start) → IsStart c bytes s → IsSound s.presentation
-  start_sound low _ (from_text u l a p h) = presentation_sound bytes p (omega (arith, l)) h
-  start_sound low _ (from_head u l a h k) = head_sound bytes h l (fits u) k
-  start_sound low _ (built_in u) = type_a_is_sound c.limit (subst (λ v. c.limit ≤ most_limit v) u low)
+  start_sound low _ (plain s h sv n) = presented_sound low s h
+  start_sound low _ (with_map s h sv made a i) = presented_sound low s h
+
+  presented_bytes : (s : Start) → Presents c bytes s → IsBytes s.stored.bytes
+  presented_bytes _ (from_text u l a x e p h) = no_bytes
+  presented_bytes _ (from_head u l a h k) = fits u
+  presented_bytes _ (built_in u) = no_bytes
 
   pub start_bytes : (s : Start) → IsStart c bytes s → IsBytes s.stored.bytes
-  start_bytes _ (from_text u l a p h) = no_bytes
-  start_bytes _ (from_head u l a h k) = fits u
-  start_bytes _ (built_in u) = no_bytes
+  start_bytes _ (plain s h sv n) = presented_bytes s h
+  start_bytes _ (with_map s h sv made a i) = presented_bytes s h
 
 pub walk_standard : (words : List (List ℕ)) (c : Command) (way : Way) (bytes : List ℕ) (s : Start) → IsCommand words c → ((IsUnread c.view → ⊥) → IsBytes bytes) → IsStart c bytes s →
     IsStandardWalk s.presentation c.entries c.limit (walk_for (task_for c way) s)
@@ -79,13 +90,22 @@ walk_standard words c way bytes s is fits from =
     walks_are_standard (does_compute way) c.entries c.limit s.place s.has s.presentation s.stored (start_sound c bytes fits is.most s from) range.1 range.0
     (start_bytes c bytes fits s from)
 
+-- a view works over the field of its start
+pub start_served : (c : Command) (bytes : List ℕ) (s : Start) → IsStart c bytes s → IsServed (way_of c.view) s.presentation.field
+start_served c bytes _ (plain s h sv n) = sv
+start_served c bytes _ (with_map s h sv made a i) = sv
+
+shown_plain : (c : Command) (v : Shown) → way_of c.view ≡ Show v → way_of c.view ≡ Rank → ⊥
+shown_plain c v made also = let no : Show v ≡ Rank = sym made ∙ also in cc
+
 -- what a reply says of its walk
 abbrev pub Tells : Task → Start → Reply → Type 0
-Tells t s (done text) = HasCome t s × (text_of_way t.way s t.limit (walk_for t s).stage ≡ Ok text)
+Tells t s (done text) = HasCome t s × (text_of_way t.way s t (walk_for t s).stage ≡ Ok text)
 Tells t s usage = Unit {0}
 Tells t s (refused place reason) = Unit {0}
+Tells t s (unsupported name) = Unit {0}
 Tells t s (stopped text fault) = (walk_for t s).stop ≡ Some (failed fault)
-Tells t s (failed_in_view fault) = HasCome t s × (text_of_way t.way s t.limit (walk_for t s).stage ≡ Err fault)
+Tells t s (failed_in_view fault) = HasCome t s × (text_of_way t.way s t (walk_for t s).stage ≡ Err fault)
 Tells t s no_memory = Unit {0}
 Tells t s read_fault = Unit {0}
 Tells t s write_fault = Unit {0}
@@ -105,12 +125,12 @@ pub shown_through : (c : Command) (v : Shown) (s : Start) → HasCome (task_for 
 shown_through c v s (inl e) = e
 shown_through c v s (inr e) = absurd (never_ends c.entries s.presentation s.stored c.limit (begun_for s) e)
 
-table_at : (p : Presentation) (T : PlainTable) (d e : ℕ) → d ≡ e → IsTableOf p d T → IsTableOf p e T
+pub table_at : (p : Presentation) (T : PlainTable) (d e : ℕ) → d ≡ e → IsTableOf p d T → IsTableOf p e T
 table_at p T d e same h = subst (λ n. IsTableOf p n T) same h
 
 meant : (words : List (List ℕ)) (c : Command) (v : Shown) (bytes : List ℕ) (s : Start) (text : List ℕ) → IsCommand words c →
-    ((IsUnread c.view → ⊥) → IsBytes bytes) → IsStart c bytes s → Tells (task_for c (Show v)) s (done text) → Means c bytes v text
-meant words c v bytes s text is fits from told =
+    way_of c.view ≡ Show v → ((IsUnread c.view → ⊥) → IsBytes bytes) → IsStart c bytes s → Tells (task_for c (Show v)) s (done text) → Means c bytes v text
+meant words c v bytes s text is made fits from told =
     let w = walk_for (task_for c (Show v)) s in
     let standard : IsStandardWalk s.presentation c.entries c.limit w = walk_standard words c (Show v) bytes s is fits from in
     record {
@@ -120,13 +140,13 @@ meant words c v bytes s text is fits from told =
       standard = table_at s.presentation w.stage.table w.stage.table.weight c.limit (standard.whole (shown_through c v s told.0)) standard.table;
       sections = w.stage.sections;
       accepted = standard.accepted;
-      shows = texts_show v s.presentation w.stage.table w.stage.sections text (start_sound c bytes fits is.most s from) (record {
+      shows = texts_show v c.entries s.presentation w.stage.table w.stage.sections text (start_sound c bytes fits is.most s from) (record {
         standard = standard.table;
         raised = standard.raised;
         shape = standard.shape;
         of_weights = standard.sections;
         accepted = standard.accepted;
-      }) told.1;
+      }) (subst (λ (w : Way). IsServed w s.presentation.field) made (start_served c bytes s from)) told.1;
     }
 
 -- a reply with a text
@@ -144,6 +164,7 @@ done_text : (r : Reply) → status_of r ≡ Done → r ≡ done (text_of r)
 done_text (done text) e = refl
 done_text usage e = cc
 done_text (refused place reason) e = cc
+done_text (unsupported name) e = cc
 done_text (stopped text fault) e = absurd (fault_not_done fault e)
 done_text (failed_in_view fault) e = absurd (view_fault_not_done fault e)
 done_text no_memory e = cc
@@ -157,30 +178,39 @@ Meaning words oo on bytes =
 start_of_answer : (words : List (List ℕ)) (c : Command) (v : Shown) (bytes text : List ℕ) → IsCommand words c → way_of c.view ≡ Show v →
     ((IsUnread c.view → ⊥) → IsBytes bytes) → Answers words bytes (done text) →
     Means c bytes v text
-start_of_answer words c v bytes text is made fits a = found (started c bytes (done text) tt (of_words words bytes c is (done text) a))
+start_of_answer words c v bytes text is made fits a = found (started c bytes (done text) (shown_plain c v made) tt (of_words words bytes c is (done text) a))
   where
     found : (s : Start) × IsStart c bytes s → Means c bytes v text
-    found s = meant words c v bytes s.0 text is fits s.1 (reply_tells words c (Show v) bytes s.0 (done text) is made s.1 a)
+    found s = meant words c v bytes s.0 text is made fits s.1 (reply_tells words c (Show v) bytes s.0 (done text) is made s.1 a)
 
 -- words of a view that reads
-not_silent : (words : List (List ℕ)) (c : Command) → IsCommand words c → (IsUnread c.view → ⊥) → ReadsNothing words → ⊥
+pub not_silent : (words : List (List ℕ)) (c : Command) → IsCommand words c → (IsUnread c.view → ⊥) → ReadsNothing words → ⊥
 not_silent words c is reads (inl none) = none c is
 not_silent words c is reads (inr d) = reads (subst (λ (x : Command). IsUnread x.view) (one_command words d.0 c d.1 is) d.2)
 
-done_means : (words : List (List ℕ)) (oo on : Option (List ℕ)) (bytes : List ℕ) (r : Reply) → ((ReadsNothing words → ⊥) → IsBytes bytes) →
-    Leaves (Answers words bytes) (Fronts words bytes) oo on r → status_of r ≡ Done → Meaning words oo on bytes
-done_means words oo on bytes _ fits (whole r text a t) e = λ c v is made.
+-- a text that was written is that of a reply
+done_shows : (words : List (List ℕ)) (oo on : Option (List ℕ)) (bytes : List ℕ) (P : List ℕ → Type 0) →
+    ((text : List ℕ) → Answers words bytes (done text) → P text) → (r : Reply) → Leaves (Answers words bytes) (Fronts words bytes) oo on r →
+    status_of r ≡ Done → (text : List ℕ) × Takes oo on text × P text
+done_shows words oo on bytes P f _ (whole r text a t) e =
     let x = with_text text r in
     let same : x ≡ done (text_of x) = done_text x (status_shown text r ∙ e) in
-    (text_of x, t, start_of_answer words c v bytes (text_of x) is made (λ reads. fits (not_silent words c is reads)) (subst (Answers words bytes) same a))
-done_means words oo on bytes _ fits (part r a put t) e = cc
-done_means words oo on bytes _ fits (front h) e = cc
+    (text_of x, t, f (text_of x) (subst (Answers words bytes) same a))
+done_shows words oo on bytes P f _ (part r a put t) e = cc
+done_shows words oo on bytes P f _ (front h) e = cc
+
+pub reply_shows : (words : List (List ℕ)) (oo on : Option (List ℕ)) (bytes : List ℕ) (P : List ℕ → Type 0) →
+    ((text : List ℕ) → Answers words bytes (done text) → P text) → (r : Reply) →
+    (r ≡ read_fault) ⊎ Leaves (Answers words bytes) (Fronts words bytes) oo on r → status_of r ≡ Done → (text : List ℕ) × Takes oo on text × P text
+reply_shows words oo on bytes P f r (inl k) e = let no : read_fault ≡ done (text_of r) = sym k ∙ done_text r e in cc
+reply_shows words oo on bytes P f r (inr h) e = done_shows words oo on bytes P f r h e
 
 reply_means : (words : List (List ℕ)) (oo on : Option (List ℕ)) (bytes : List ℕ) (r : Reply) → status_of r ≡ Done →
     ((ReadsNothing words → ⊥) → IsBytes bytes) →
     (r ≡ read_fault) ⊎ Leaves (Answers words bytes) (Fronts words bytes) oo on r → Meaning words oo on bytes
-reply_means words oo on bytes r e fits (inl k) = let no : read_fault ≡ done (text_of r) = sym k ∙ done_text r e in cc
-reply_means words oo on bytes r e fits (inr h) = done_means words oo on bytes r fits h e
+reply_means words oo on bytes r e fits h = λ c v is made.
+    reply_shows words oo on bytes (Means c bytes v)
+    (λ text a. start_of_answer words c v bytes text is made (λ reads. fits (not_silent words c is reads)) a) r h e
 
 pub means : (words : List (List ℕ)) (left oo on : Option (List ℕ)) (r : Reply) →
     (status_of r ≡ Done → (ReadsNothing words → ⊥) → IfSome left IsBytes) →

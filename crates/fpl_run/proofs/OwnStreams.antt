@@ -1,5 +1,5 @@
 -- What the view checkpoint writes for a text is a checkpoint of its presentation.
-use Rattle.std.proofs.Common.{◌≡◌, ℕ, ◌^◌, ◌<◌, inl, inr, List, length, take, Ok, Some, refl, sym, ap, ◌∙◌, subst, arith}
+use Rattle.std.proofs.Common.{◌≡◌, ℕ, ◌^◌, ◌<◌, ◌≤◌, inl, inr, List, length, take, Ok, Some, refl, sym, ap, ◌∙◌, subst, arith}
 use Rattle.std.specs.declared.option.Option.{Option}
 use Rattle.std.specs.declared.result.Result.{Result}
 use Rattle.fpl_log.specs.declared.section.Section.{Section}
@@ -16,12 +16,14 @@ use Rattle.fpl_reply.specs.declared.view_fault.ViewFault.{ViewFault}
 use Rattle.fpl_reply.specs.Reply.{Reply, text_of}
 use Rattle.fpl_run.specs.declared.words.Command.{Command}
 use Rattle.fpl_run.specs.declared.task.Way.{Way}
-use Rattle.fpl_run.specs.declared.task.Way.TheVariants.{Write, Check}
-use Rattle.fpl_run.specs.Task.{way_of, task_for}
+use Rattle.fpl_run.specs.declared.task.Way.TheVariants.{Write, Check, Rank}
+use Rattle.fpl_run.specs.Task.{way_of, task_for, IsServed}
 use Rattle.fpl_run.specs.Stream.{stream_text}
 use Rattle.fpl_run.specs.Start.{of_text, walk_for}
-use Rattle.fpl_run.specs.Read.{IsCheckpoint}
-use Rattle.fpl_run.specs.Read.IsStart.{from_text}
+use Rattle.fpl_run.specs.Separator.{IsTextOf}
+use Rattle.fpl_run.specs.Read.{IsCheckpoint, IsStart, most_text}
+use Rattle.fpl_run.specs.Read.IsStart.{plain as whole_start}
+use Rattle.fpl_run.specs.Read.Presents.{from_text}
 use Rattle.fpl_run.specs.Answer.{AnswersTask}
 use Rattle.fpl_run.specs.Answer.AnswersTask.{stopped_at, fails_in_view, shown}
 use Rattle.fpl_run.specs.Laws.{CheckpointsAreOwn}
@@ -50,7 +52,14 @@ module _ (c : Command) (p : Presentation) (end : ℕ) where
 -- a view that writes reads a text as a text
 plain : (c : Command) (p : Presentation) (bytes : List ℕ) → way_of c.view ≡ Write → HasPresentation bytes p → IsCheckpoint c bytes → ⊥
 plain c p bytes made said (inl e) = let no : Write ≡ Check = sym made ∙ ap way_of e in cc
-plain c p bytes made said (inr m) = no_mark bytes p said m
+plain c p bytes made said (inr m) = no_mark bytes p said m.0
+
+written_start : (c : Command) (p : Presentation) (text : List ℕ) → way_of c.view ≡ Write → length text ≤ most_text → HasPresentation text p →
+    IsStart c text (of_text p)
+written_start c p text made short said =
+    whole_start (of_text p)
+    (from_text (written_reads c made) short (plain c p text made said) text (subst (λ way. IsTextOf way text text) (sym made) refl) p said)
+    (subst (λ way. IsServed way p.field) (sym made) (λ over. absurd over)) (λ also. let no : Write ≡ Rank = sym made ∙ also in cc)
 
 pub checkpoints_are_own : CheckpointsAreOwn
 checkpoints_are_own words c p text r end is made short said a long =
@@ -60,5 +69,5 @@ checkpoints_are_own words c p text r end is made short said a long =
     let kept : IsStreamOf p (take end (stream_text p (sections c p end))) =
     subst (λ x. IsStreamOf p (take end x)) (sym (written_is p (sections c p end)))
     (runs_write_streams p c.entries c.limit end sound canonical range.1 range.0 long) in
-    task_writes c p end kept r (task_reply c text Write made (of_text p) (from_text (written_reads c made) short (plain c p text made said) p said) r
+    task_writes c p end kept r (task_reply c text Write made (of_text p) (written_start c p text made short said) r
     (of_words words text c is r a))

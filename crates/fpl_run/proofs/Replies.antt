@@ -4,6 +4,7 @@ use Rattle.std.specs.Prelude.{IfSome}
 use Rattle.std.specs.declared.option.Option.{Option}
 use Rattle.std.specs.Io.KnownBytes.{IsAtEnd}
 use Rattle.std.proofs.lemmas.List.{append-nil}
+use Rattle.fpl_model.specs.declared.presentation.Presentation.{Presentation}
 use Rattle.fpl_outside.specs.Outside.{Gives, Takes}
 use Rattle.fpl_outside.specs.Whole.{PassedMax}
 use Rattle.fpl_walk.specs.Walk.{Fault, too_many, bad_bytes, bad_section, overflow}
@@ -16,13 +17,15 @@ use Rattle.fpl_views.specs.declared.shown.Shown.TheVariants.{Sample}
 use Rattle.fpl_run.specs.declared.words.View.{View}
 use Rattle.fpl_run.specs.declared.words.Command.{Command}
 use Rattle.fpl_run.specs.declared.task.Way.{Way}
-use Rattle.fpl_run.specs.declared.task.Way.TheVariants.{Show, Write, Check}
+use Rattle.fpl_run.specs.declared.task.Way.TheVariants.{Show, Write, Check, Rank}
 use Rattle.fpl_run.specs.declared.task.Task.{Task}
 use Rattle.fpl_run.specs.Words.{IsCommand}
 use Rattle.fpl_run.specs.Task.{way_of, task_for}
 use Rattle.fpl_run.specs.Start.{Start}
-use Rattle.fpl_run.specs.Read.{IsUnread, IsStart, IsNoStart}
-use Rattle.fpl_run.specs.Read.IsNoStart.{input_too_long, text_too_long, no_presentation, no_head}
+use Rattle.fpl_run.specs.Read.{IsUnread, PresentsNone, IsNotMapped, IsStart, IsNoStart}
+use Rattle.fpl_run.specs.Read.PresentsNone.{input_too_long, text_too_long, no_presentation, no_head}
+use Rattle.fpl_run.specs.Read.IsNotMapped.{no_matrices, map_fails, relation_breaks}
+use Rattle.fpl_run.specs.Read.IsNoStart.{nothing_presented, unserved, not_mapped}
 use Rattle.fpl_run.specs.Answer.{AnswersTask, AnswersStart, AnswersCommand, Answers, IsFront, FrontsStart, FrontsCommand, Fronts}
 use Rattle.fpl_run.specs.Answer.AnswersTask.{stopped_at, fails_in_view, shown}
 use Rattle.fpl_run.specs.Answer.AnswersCommand.{no_start, start}
@@ -74,11 +77,21 @@ module _ (c : Command) (bytes : List ℕ) where
   start_inner : (s : Start) (r : Reply) → AnswersStart c s r → IsInner (status_of r)
   start_inner s r a = task_inner (task_for c (way_of c.view)) s r a
 
+  none_presented_inner : (r : Reply) → PresentsNone c bytes r → IsInner (status_of r)
+  none_presented_inner _ (input_too_long l) = (λ e. cc, λ e. cc, λ e. cc, λ e. cc)
+  none_presented_inner _ (text_too_long l m k) = (λ e. cc, λ e. cc, λ e. cc, λ e. cc)
+  none_presented_inner _ (no_presentation l m x f place reason k) = (λ e. cc, λ e. cc, λ e. cc, λ e. cc)
+  none_presented_inner _ (no_head l m b k) = fault_inner (bad_bytes b)
+
+  not_mapped_inner : (limit : ℕ) (p : Presentation) (r : Reply) → IsNotMapped limit bytes p r → IsInner (status_of r)
+  not_mapped_inner limit p _ (no_matrices none) = (λ e. cc, λ e. cc, λ e. cc, λ e. cc)
+  not_mapped_inner limit p _ (map_fails at first x fails place why k) = (λ e. cc, λ e. cc, λ e. cc, λ e. cc)
+  not_mapped_inner limit p _ (relation_breaks a given k breaks) = (λ e. cc, λ e. cc, λ e. cc, λ e. cc)
+
   no_start_inner : (r : Reply) → IsNoStart c bytes r → IsInner (status_of r)
-  no_start_inner _ (input_too_long l) = (λ e. cc, λ e. cc, λ e. cc, λ e. cc)
-  no_start_inner _ (text_too_long l m k) = (λ e. cc, λ e. cc, λ e. cc, λ e. cc)
-  no_start_inner _ (no_presentation l m place reason k) = (λ e. cc, λ e. cc, λ e. cc, λ e. cc)
-  no_start_inner _ (no_head l m b k) = fault_inner (bad_bytes b)
+  no_start_inner _ (nothing_presented r h) = none_presented_inner r h
+  no_start_inner _ (unserved s h over rational) = (λ e. cc, λ e. cc, λ e. cc, λ e. cc)
+  no_start_inner _ (not_mapped s h sv made r i) = not_mapped_inner c.limit s.presentation r i
 
   pub command_inner : (r : Reply) → AnswersCommand c bytes r → IsInner (status_of r)
   command_inner _ (no_start u r h) = no_start_inner r h
@@ -104,20 +117,31 @@ module _ (c : Command) (bytes : List ℕ) where
   task_quiet s (Show v) is _ (stopped_at f e) never = refl
   task_quiet s Write is _ (stopped_at f e) never = absurd (never (fault_may_put c.view f is))
   task_quiet s Check is _ (stopped_at f e) never = refl
+  task_quiet s Rank is _ (stopped_at f e) never = refl
   task_quiet s way is _ (fails_in_view come f e) never = refl
   task_quiet s way is _ (shown come text e) never = absurd (never tt)
 
   start_quiet : (s : Start) (r : Reply) → AnswersStart c s r → (MayPut c.view (status_of r) → ⊥) → text_of r ≡ []
   start_quiet s r a never = task_quiet s (way_of c.view) refl r a never
 
-  no_start_quiet : (r : Reply) → IsNoStart c bytes r → text_of r ≡ []
-  no_start_quiet _ (input_too_long l) = refl
-  no_start_quiet _ (text_too_long l m k) = refl
-  no_start_quiet _ (no_presentation l m place reason k) = refl
-  no_start_quiet _ (no_head l m b k) = refl
+  none_presented_quiet : (r : Reply) → PresentsNone c bytes r → text_of r ≡ []
+  none_presented_quiet _ (input_too_long l) = refl
+  none_presented_quiet _ (text_too_long l m k) = refl
+  none_presented_quiet _ (no_presentation l m x f place reason k) = refl
+  none_presented_quiet _ (no_head l m b k) = refl
+
+  not_mapped_quiet : (limit : ℕ) (p : Presentation) (r : Reply) → IsNotMapped limit bytes p r → (MayPut c.view (status_of r) → ⊥) → text_of r ≡ []
+  not_mapped_quiet limit p _ (no_matrices none) never = refl
+  not_mapped_quiet limit p _ (map_fails at first x fails place why k) never = refl
+  not_mapped_quiet limit p _ (relation_breaks a given k breaks) never = absurd (never tt)
+
+  no_start_quiet : (r : Reply) → IsNoStart c bytes r → (MayPut c.view (status_of r) → ⊥) → text_of r ≡ []
+  no_start_quiet _ (nothing_presented r h) never = none_presented_quiet r h
+  no_start_quiet _ (unserved s h over rational) never = refl
+  no_start_quiet _ (not_mapped s h sv made r i) never = not_mapped_quiet c.limit s.presentation r i never
 
   command_quiet : (r : Reply) → AnswersCommand c bytes r → (MayPut c.view (status_of r) → ⊥) → text_of r ≡ []
-  command_quiet _ (no_start u r h) never = no_start_quiet r h
+  command_quiet _ (no_start u r h) never = no_start_quiet r h never
   command_quiet _ (start s is r h) never = start_quiet s r h never
 
   pub quiet_output : (oo on : Option (List ℕ)) (r : Reply) → Leaves (AnswersCommand c bytes) (FrontsCommand c bytes) oo on r →
@@ -142,6 +166,10 @@ told_always left P f = (always left P f, λ silent. f [])
 -- a view that writes its sections reads its input
 pub written_reads : (c : Command) → way_of c.view ≡ Write → IsUnread c.view → ⊥
 written_reads c made unread = let no : Write ≡ Show Sample = sym made ∙ ap way_of unread in cc
+
+-- and one that takes matrices
+pub ranked_reads : (c : Command) → way_of c.view ≡ Rank → IsUnread c.view → ⊥
+ranked_reads c made unread = let no : Rank ≡ Show Sample = sym made ∙ ap way_of unread in cc
 
 -- words of a view that reads nothing
 pub silent_view : (words : List (List ℕ)) (c : Command) → IsCommand words c → ((d : Command) → IsCommand words d → d ≡ c) → ReadsNothing words → IsUnread c.view

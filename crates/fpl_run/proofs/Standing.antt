@@ -76,9 +76,9 @@ primes_fit n words c bytes s text w u is fits from prime a =
     (start_sound c bytes (λ reads. fits) is.most s from) range.1 range.0 (start_bytes c bytes (λ reads. fits) s from) prime
     (reply_tells words c (way_of c.view) bytes s (stopped text (overflow w u)) is refl from a)
 
-one_shown : (v : Shown) (p q : Presentation) (T S : PlainTable) (ss rr : List Section) (text also : List ℕ) → text_of_view v p T ss ≡ Ok text →
-    text_of_view v q S rr ≡ Ok also → text_of_view v p T ss ≡ text_of_view v q S rr → text ≡ also
-one_shown v p q T S ss rr text also e k same = let both : ◌≡◌ {A = Result (List ℕ) ViewFault} (Ok text) (Ok also) = sym e ∙ same ∙ k in cc
+one_shown : (v : Shown) (n : ℕ) (p q : Presentation) (T S : PlainTable) (ss rr : List Section) (text also : List ℕ) → text_of_view v n p T ss ≡ Ok text →
+    text_of_view v n q S rr ≡ Ok also → text_of_view v n p T ss ≡ text_of_view v n q S rr → text ≡ also
+one_shown v n p q T S ss rr text also e k same = let both : ◌≡◌ {A = Result (List ℕ) ViewFault} (Ok text) (Ok also) = sym e ∙ same ∙ k in cc
 
 pub one_text : OneText
 one_text words c v bytes more s t text also is made of_table fits fits_too from from_too same a b =
@@ -95,7 +95,7 @@ one_text words c v bytes more s t text also is made of_table fits fits_too from 
     (start_bytes c bytes (λ reads. fits) s from) (start_bytes c more (λ reads. fits_too) t from_too) (shown_through c v s told.0) over in
     let table : x.stage.table ≡ y.stage.table =
     tables ∙ ap (λ (p : Presentation). (walk_of true c.entries p t.stored c.limit (begun p t.place t.has)).stage.table) same in
-    one_shown v s.presentation t.presentation x.stage.table y.stage.table x.stage.sections y.stage.sections text also told.1 told_too.1
-    (ap (λ (p : Presentation). text_of_view v p x.stage.table x.stage.sections) same ∙
-    ap (λ (T : PlainTable). text_of_view v t.presentation T x.stage.sections) table
-    ∙ texts_of_tables v of_table t.presentation y.stage.table x.stage.sections y.stage.sections)
+    one_shown v c.entries s.presentation t.presentation x.stage.table y.stage.table x.stage.sections y.stage.sections text also told.1 told_too.1
+    (ap (λ (p : Presentation). text_of_view v c.entries p x.stage.table x.stage.sections) same ∙
+    ap (λ (T : PlainTable). text_of_view v c.entries t.presentation T x.stage.sections) table
+    ∙ texts_of_tables v of_table c.entries t.presentation y.stage.table x.stage.sections y.stage.sections)

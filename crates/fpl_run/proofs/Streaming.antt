@@ -99,7 +99,7 @@ module _ (t : Task) (s : Start) (w : Walked) (way : t.way ≡ Write) (same : w �
   pub streamed_task : (r : Reply) → IsStreamed s.presentation w r → AnswersTask t s r
   streamed_task _ (to_the_limit e) =
       shown (subst (λ (v : Walked). (v.stop ≡ None) ⊎ (v.stop ≡ Some ended)) same e) (stream_text s.presentation w.stage.sections)
-      (ap (λ (x : Way). text_of_way x s t.limit (walk_for t s).stage) way ∙ ap (λ (v : Walked). text_of_way Write s t.limit v.stage) (sym same))
+      (ap (λ (x : Way). text_of_way x s t (walk_for t s).stage) way ∙ ap (λ (v : Walked). text_of_way Write s t v.stage) (sym same))
   streamed_task _ (to_a_fault f e) =
       let stop : (walk_for t s).stop ≡ Some (failed f) = ap (λ (v : Walked). v.stop) (sym same) ∙ e in
       let text : written_before t.way s.presentation (walk_for t s).stage.sections ≡ stream_text s.presentation w.stage.sections =

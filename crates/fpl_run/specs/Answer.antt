@@ -1,6 +1,6 @@
 -- The reply to words and the bytes of an input. At each step exactly one of the cases holds.
---   text_of_way way s limit stage: the text of a view over the last stage of its walk, or a fault of its own: the text of the table; the checkpoint; or how
---   many sections passed a check, and how many bytes stand after them
+--   text_of_way way s t stage: for a task t the text of a view over the last stage of its walk, or a fault of its own: the text of the table; the checkpoint;
+--   how many sections passed a check, and how many bytes stand after them; or the ranks by the matrices
 --   written_before way p sections: what a view has written when a fault stops its walk: a checkpoint the head and the sections of
 --     the weights below, others nothing
 --   AnswersTask t s: a fault stops the walk at a weight; or it comes to its end, and the view has a fault of its own; or a text
@@ -18,30 +18,33 @@ use Rattle.fpl_reply.specs.Reply.{Reply, done, usage, stopped, failed_in_view}
 use Rattle.fpl_views.specs.Views.{text_of_view}
 use Rattle.fpl_run.specs.declared.words.Command.{Command}
 use Rattle.fpl_run.specs.declared.task.Way.{Way}
-use Rattle.fpl_run.specs.declared.task.Way.TheVariants.{Show, Write, Check}
+use Rattle.fpl_run.specs.declared.task.Way.TheVariants.{Show, Write, Check, Rank}
 use Rattle.fpl_run.specs.declared.task.Task.{Task}
 use Rattle.fpl_run.specs.Words.{IsCommand, IsNoCommand}
 use Rattle.fpl_run.specs.Task.{way_of, task_for}
+use Rattle.fpl_run.specs.Matrices.{text_of_ranks}
 use Rattle.fpl_run.specs.Start.{Start, walk_for, HasCome}
 use Rattle.fpl_run.specs.CheckText.{check_text}
 use Rattle.fpl_run.specs.Stream.{stream_text}
 use Rattle.fpl_run.specs.Read.{IsUnread, IsStart, IsNoStart}
 
-abbrev pub text_of_way : Way → Start → (limit : ℕ) → Stage → Result (List ℕ) ViewFault
-text_of_way (Show v) s limit stage = text_of_view v s.presentation stage.table stage.sections
-text_of_way Write s limit stage = Ok (stream_text s.presentation stage.sections)
-text_of_way Check s limit stage = Ok (check_text s.presentation.field limit stage.table.weight (length s.stored.bytes - stage.place))
+abbrev pub text_of_way : Way → Start → Task → Stage → Result (List ℕ) ViewFault
+text_of_way (Show v) s t stage = text_of_view v t.entries s.presentation stage.table stage.sections
+text_of_way Write s t stage = Ok (stream_text s.presentation stage.sections)
+text_of_way Check s t stage = Ok (check_text s.presentation.field t.limit stage.table.weight (length s.stored.bytes - stage.place))
+text_of_way Rank s t stage = text_of_ranks s.presentation s.matrices stage.table
 
 abbrev pub written_before : Way → Presentation → List Section → List ℕ
 written_before (Show v) p sections = []
 written_before Write p sections = stream_text p sections
 written_before Check p sections = []
+written_before Rank p sections = []
 
 pub data AnswersTask (t : Task) (s : Start) : Reply → Type 0 where
   stopped_at : (fault : Fault) → (walk_for t s).stop ≡ Some (failed fault) → AnswersTask t s
       (stopped (written_before t.way s.presentation (walk_for t s).stage.sections) fault)
-  fails_in_view : HasCome t s → (fault : ViewFault) → text_of_way t.way s t.limit (walk_for t s).stage ≡ Err fault → AnswersTask t s (failed_in_view fault)
-  shown : HasCome t s → (text : List ℕ) → text_of_way t.way s t.limit (walk_for t s).stage ≡ Ok text → AnswersTask t s (done text)
+  fails_in_view : HasCome t s → (fault : ViewFault) → text_of_way t.way s t (walk_for t s).stage ≡ Err fault → AnswersTask t s (failed_in_view fault)
+  shown : HasCome t s → (text : List ℕ) → text_of_way t.way s t (walk_for t s).stage ≡ Ok text → AnswersTask t s (done text)
 
 abbrev pub AnswersStart : Command → Start → Reply → Type 0
 AnswersStart c s reply = AnswersTask (task_for c (way_of c.view)) s reply

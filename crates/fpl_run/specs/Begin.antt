@@ -14,14 +14,15 @@ use Rattle.fpl_reply.specs.declared.view_fault.ViewFault.{ViewFault}
 use Rattle.fpl_reply.specs.Reply.{Reply, stopped, failed_in_view, no_memory}
 use Rattle.fpl_run.specs.declared.start.Begin.{Begin}
 use Rattle.fpl_run.specs.declared.task.Task.{Task}
+use Rattle.fpl_run.specs.Matrices.{none_given}
 use Rattle.fpl_run.specs.Start.{Start}
 use Rattle.fpl_run.specs.Answer.{AnswersTask}
 
 abbrev pub start_in : Begin → List ℕ → Start
-start_in b bytes = record { presentation = b.presentation; stored = record { version = b.version; bytes = bytes }; place = b.place; has = b.stored }
+start_in b bytes = record { presentation = b.presentation; stored = record { version = b.version; bytes = bytes }; place = b.place; has = b.stored; matrices = none_given }
 
 abbrev pub start_from : PlainRun → List ℕ → Start
-start_from run bytes = record { presentation = run.presentation; stored = stored_in run bytes; place = run.stage.place; has = run.stage.stored }
+start_from run bytes = record { presentation = run.presentation; stored = stored_in run bytes; place = run.stage.place; has = run.stage.stored; matrices = none_given }
 
 abbrev pub HasBegun : PlainRun → Type 0
 HasBegun run = run.stage ≡ begun run.presentation run.stage.place run.stage.stored

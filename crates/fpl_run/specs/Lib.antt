@@ -1,5 +1,7 @@
 pub mod Words
 pub mod Task
+pub mod Separator
+pub mod Matrices
 pub mod Start
 pub mod Read
 pub mod CheckText

@@ -3,6 +3,7 @@
 --   IfTold silent left P: what holds of the bytes of an input, where it tells them; and where nothing is read, of none
 --   Means c bytes v text: the text shows a view of a table that is the standard table of the presentation that was read, through the limit, and was raised by
 --   sections that a check accepts
+--   MeansMap c bytes text: the text shows what matrices that were read see of the presentation
 --   IsWritten view: sections are written along the way
 --   MayPut view status: something may stand in the output of a view that has ended with this status: its text after Done, a part of it after a failing put; of
 --   a checkpoint also what was written before a fault stopped the run or memory ran out
@@ -10,11 +11,13 @@
 --   it stayed where there is no start; and a checkpoint's sections are written as its weights are done
 use Rattle.std.specs.Prelude.{◌≡◌, ℕ, ◌+◌, ◌≤◌, ◌⊎◌, List, [], Option, Some, IfSome}
 use Rattle.fpl_log.specs.declared.section.Section.{Section}
+use Rattle.fpl_matrices.specs.Matrices.{Assigned}
+use Rattle.fpl_model.specs.declared.presentation.Presentation.{Presentation}
 use Rattle.fpl_table.specs.Plain.{PlainTable}
 use Rattle.fpl_table.specs.Standard.{IsTableOf}
 use Rattle.fpl_complete.specs.State.{AreAccepted}
 use Rattle.fpl_reply.specs.declared.status.Status.{Status}
-use Rattle.fpl_reply.specs.declared.status.Status.TheVariants.{Done, Usage, Refused, BadCheckpoint, Limit, Overflow, NoMemory, ReadFault, WriteFault}
+use Rattle.fpl_reply.specs.declared.status.Status.TheVariants.{Done, Usage, Refused, BadCheckpoint, Limit, Overflow, NoMemory, ReadFault, WriteFault, Unsupported}
 use Rattle.fpl_views.specs.declared.shown.Shown.{Shown}
 use Rattle.fpl_views.specs.Views.{Shows}
 use Rattle.fpl_run.specs.declared.words.View.{View}
@@ -23,8 +26,9 @@ use Rattle.fpl_run.specs.declared.task.Way.{Way}
 use Rattle.fpl_run.specs.declared.task.Way.TheVariants.{Write}
 use Rattle.fpl_run.specs.Words.{IsCommand, IsNoCommand}
 use Rattle.fpl_run.specs.Task.{way_of, task_for, IsCounted}
-use Rattle.fpl_run.specs.Start.{Start, cost_for}
-use Rattle.fpl_run.specs.Read.{IsUnread, IsStart}
+use Rattle.fpl_run.specs.Matrices.{HasMatrices, ShowsMap}
+use Rattle.fpl_run.specs.Start.{Start, of_text, cost_for}
+use Rattle.fpl_run.specs.Read.{IsUnread, Presents, IsStart}
 use Rattle.fpl_run.specs.Pace.{IsPaced}
 
 abbrev pub ReadsNothing : List (List ℕ) → Type 0
@@ -42,6 +46,13 @@ pub record Means (c : Command) (bytes : List ℕ) (v : Shown) (text : List ℕ) 
   pub accepted : AreAccepted start.presentation table sections
   pub shows : Shows v start.presentation table sections text
 
+pub record MeansMap (c : Command) (bytes text : List ℕ) : Type 0 where
+  pub presentation : Presentation
+  pub read : Presents c bytes (of_text presentation)
+  pub matrices : Assigned
+  pub given : HasMatrices bytes presentation matrices
+  pub shows : ShowsMap presentation matrices c.limit text
+
 abbrev pub IsWritten : View → Type 0
 IsWritten view = way_of view ≡ Write
 
@@ -55,6 +66,7 @@ MayPut view Overflow = IsWritten view
 MayPut view NoMemory = IsWritten view
 MayPut view ReadFault = ⊥
 MayPut view WriteFault = Unit {0}
+MayPut view Unsupported = ⊥
 
 pub record Spends (c : Command) (bytes : List ℕ) (out_old out_new : Option (List ℕ)) (old new : ℕ) : Type 0 where
   pub rises : old ≤ new

@@ -1,7 +1,8 @@
 -- A run through the weights of what was read.
---   Start: a presentation, what is stored for it, the place where its sections begin, and whether there are any
+--   Start: a presentation, what is stored for it, the place where its sections begin, whether there are any, and matrices of the generators
 --   of_text p: nothing is stored for the presentation of a text, or for one that is built in
 --   of_head bytes h: sections may stand in these bytes, after their head
+--   with_matrices a s: the same with these matrices
 --   begun_for s: the stage at weight 0
 --   walk_for t s: the weights through the task's limit, or as many as come before a stop
 --   HasCome t s: the walk comes to the limit, or, where nothing is computed, to the end of what is stored
@@ -9,21 +10,27 @@
 use Rattle.std.specs.Prelude.{ℕ, ◌≡◌, ◌⊎◌, List, [], Bool, true, false, Some, None}
 use Rattle.fpl_model.specs.declared.presentation.Presentation.{Presentation}
 use Rattle.fpl_checkpoint.specs.declared.head.Head.{Head}
+use Rattle.fpl_matrices.specs.Matrices.{Assigned}
 use Rattle.fpl_walk.specs.Walk.{Stored, Stage, Walked, ended, begun, walk_of, cost_of}
 use Rattle.fpl_run.specs.declared.task.Task.{Task}
 use Rattle.fpl_run.specs.Task.{does_compute}
+use Rattle.fpl_run.specs.Matrices.{none_given}
 
 pub record Start : Type 0 where
   pub presentation : Presentation
   pub stored : Stored
   pub place : ℕ
   pub has : Bool
+  pub matrices : Assigned
 
 abbrev pub of_text : Presentation → Start
-of_text p = record { presentation = p; stored = record { version = 2; bytes = [] }; place = 0; has = false }
+of_text p = record { presentation = p; stored = record { version = 2; bytes = [] }; place = 0; has = false; matrices = none_given }
 
 abbrev pub of_head : List ℕ → Head → Start
-of_head bytes h = record { presentation = h.presentation; stored = record { version = h.version; bytes = bytes }; place = h.end; has = true }
+of_head bytes h = record { presentation = h.presentation; stored = record { version = h.version; bytes = bytes }; place = h.end; has = true; matrices = none_given }
+
+abbrev pub with_matrices : Assigned → Start → Start
+with_matrices a s = record { presentation = s.presentation; stored = s.stored; place = s.place; has = s.has; matrices = a }
 
 abbrev pub begun_for : Start → Stage
 begun_for s = begun s.presentation s.place s.has

@@ -1,16 +1,20 @@
 -- How a command is done.
---   way_of view: how a view is made: a text of the table; sections written along the way; or a check of those stored
+--   way_of view: how a view is made: a text of the table; sections written along the way; a check of those stored; or how much matrices see of the table
 --   task_for c way: a command that is done so
 --   does_compute way: whether the weights are computed whose sections aren't stored, as all do but a check
 --   IsCounted way: a row that it gives to an elimination is an origin of a weight
-use Rattle.std.specs.Prelude.{Bool, true, false}
+--   IsOverPrimes way: it works over primes alone
+--   IsServed way kind: so it works over numbers of this kind
+use Rattle.std.specs.Prelude.{◌≡◌, Bool, true, false}
+use Rattle.fpl_numbers.specs.declared.number.Kind.{Kind}
+use Rattle.fpl_numbers.specs.declared.number.Kind.TheVariants.{Rational}
 use Rattle.fpl_views.specs.declared.shown.Shown.TheVariants as shown
 use Rattle.fpl_views.specs.Views as views
 use Rattle.fpl_run.specs.declared.words.View.{View}
 use Rattle.fpl_run.specs.declared.words.View.TheVariants as view
 use Rattle.fpl_run.specs.declared.words.Command.{Command}
 use Rattle.fpl_run.specs.declared.task.Way.{Way}
-use Rattle.fpl_run.specs.declared.task.Way.TheVariants.{Show, Write, Check}
+use Rattle.fpl_run.specs.declared.task.Way.TheVariants.{Show, Write, Check, Rank}
 use Rattle.fpl_run.specs.declared.task.Task.{Task}
 
 abbrev pub way_of : View → Way
@@ -24,8 +28,10 @@ way_of view.Cohomology = Show shown.Cohomology
 way_of view.Centre = Show shown.Centre
 way_of view.Lcs = Show shown.Lcs
 way_of view.Ideal = Show shown.Ideal
+way_of view.Envelope = Show shown.Envelope
 way_of view.Checkpoint = Write
 way_of view.Check = Check
+way_of view.Map = Rank
 
 abbrev pub task_for : Command → Way → Task
 task_for c way = record { way = way; limit = c.limit; entries = c.entries }
@@ -38,3 +44,13 @@ abbrev pub IsCounted : Way → Type 0
 IsCounted (Show v) = views.IsCounted v
 IsCounted Write = Unit {0}
 IsCounted Check = Unit {0}
+IsCounted Rank = ⊥
+
+abbrev pub IsOverPrimes : Way → Type 0
+IsOverPrimes (Show v) = views.IsOverPrimes v
+IsOverPrimes Write = ⊥
+IsOverPrimes Check = ⊥
+IsOverPrimes Rank = Unit {0}
+
+abbrev pub IsServed : Way → Kind → Type 0
+IsServed way kind = IsOverPrimes way → kind ≡ Rational → ⊥

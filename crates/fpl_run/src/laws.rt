@@ -1,7 +1,7 @@
 //! What the replies obey.
 //!
 //! Each function does nothing: what it ensures are laws.
-ghost use Rattle.fpl_run.specs.Laws.{OneReply, OneText, WalksAreStandard, PrimesFit, StopsMean, LimitComes, FaultsCome, OwnCheckpoints, CheckpointsAreOwn, WithinLimits};
+ghost use Rattle.fpl_run.specs.Laws.{OneReply, OneText, WalksAreStandard, PrimesFit, StopsMean, LimitComes, FaultsCome, OwnCheckpoints, CheckpointsAreOwn, WithinLimits, FractionsUnsupported};
 
 /// Words and the bytes of an input have at most one reply: so the status, the text and the line of a run are
 /// exactly those that they have, but for want of memory and faults.
@@ -35,7 +35,9 @@ pub fn own_checkpoints()
     ensures written { CheckpointsAreOwn }
 {}
 
-/// Where the symbols stay within the entries, and over fractions every operation fits, the reply is a text.
+/// Where the symbols stay within the entries, and over fractions every operation fits, the reply is a text. A view that
+/// works over primes alone is unsupported over fractions.
 pub fn within_limits()
-    ensures { WithinLimits }
+    ensures within { WithinLimits }
+    ensures unsupported { FractionsUnsupported }
 {}

@@ -7,7 +7,7 @@ ghost use Rattle.fpl_reply.specs.Outcome.{reply_of};
 ghost use Rattle.fpl_reply.specs.Leaves.{Leaves};
 ghost use Rattle.fpl_views.specs.Views.{text_of_view};
 ghost use Rattle.fpl_run.specs.Words.{IsInRange};
-ghost use Rattle.fpl_run.specs.Task.{IsCounted};
+ghost use Rattle.fpl_run.specs.Task.{IsCounted, IsServed};
 ghost use Rattle.fpl_run.specs.CheckText.{check_text};
 ghost use Rattle.fpl_run.specs.Start.{Start, cost_for};
 ghost use Rattle.fpl_run.specs.Answer.{AnswersTask, IsFront};
@@ -20,21 +20,24 @@ use fpl_outside::Sink;
 use fpl_reply::{Outcome, Status, put_whole};
 use fpl_scalar::Field;
 use fpl_steps::Steps;
-use fpl_views::{ShowError, Shown, show};
+use fpl_views::{ShowError, Shown, Viewed, show};
 use fpl_walk::Run;
 use std::alloc::Global;
 use std::sync::ledger::Ledger;
 
 // The text of a view of the table, or what comes in place of it.
-fn shown_text<F: Field, L: Ledger>(
+fn shown_text<F: Viewed, L: Ledger>(
     alloc: Global,
     shown: Shown,
+    entries: u64,
     run: &Run<F>,
     steps: &mut Steps<L>,
 ) -> Result<Vec<u8>, Outcome>
-    ensures text { IfOk result (λ text. text_of_view shown run.now.presentation run.now.stage.table run.now.stage.sections ≡ Ok text.items) }
+    requires entries { entries ≤ 2000000 }
+    requires served { IsServed (Way.Show shown) run.now.presentation.field }
+    ensures text { IfOk result (λ text. text_of_view shown entries run.now.presentation run.now.stage.table run.now.stage.sections ≡ Ok text.items) }
     ensures fault { IfErr result (λ outcome. (reply_of outcome ≡ no_memory) ⊎ ((fault : ViewFault) × (reply_of outcome ≡ failed_in_view fault)
-        × (text_of_view shown run.now.presentation run.now.stage.table run.now.stage.sections ≡ Err fault))) }
+        × (text_of_view shown entries run.now.presentation run.now.stage.table run.now.stage.sections ≡ Err fault))) }
     ensures write { IfErr result (λ outcome. status_of (reply_of outcome) ≡ Status.WriteFault → ⊥) }
     ensures rises { steps.old ≤ steps.new }
     ensures idle { IsCounted (Way.Show shown) → steps.new ≡ steps.old }
@@ -44,6 +47,7 @@ fn shown_text<F: Field, L: Ledger>(
     match show(
         alloc,
         shown,
+        entries,
         state.presentation(),
         state.table(),
         sections,
@@ -75,7 +79,7 @@ fn checked_text<F: Field>(
 }
 
 /// The text of a view of the table, after the weights.
-pub(crate) fn show_through<F: Field, L: Ledger>(
+pub(crate) fn show_through<F: Viewed, L: Ledger>(
     alloc: Global,
     task: Task,
     shown: Shown,
@@ -84,6 +88,7 @@ pub(crate) fn show_through<F: Field, L: Ledger>(
     steps: &mut Steps<L>,
 ) -> Result<Vec<u8>, Outcome>
     requires way { task.way ≡ Way.Show shown }
+    requires served { IsServed (Way.Show shown) run.old.presentation.field }
     requires range { IsInRange task.limit task.entries }
     requires begun { HasBegun run.old }
     requires version { (run.old.version ≡ 1) ⊎ (run.old.version ≡ 2) }
@@ -94,7 +99,7 @@ pub(crate) fn show_through<F: Field, L: Ledger>(
     ensures cost { IsCounted task.way → steps.new ≤ steps.old + cost_for task (start_from run.old bytes.now) }
 {
     match walk(run, bytes, task, steps) {
-        Ok(()) => shown_text(alloc, shown, run, steps),
+        Ok(()) => shown_text(alloc, shown, task.entries, run, steps),
         Err(outcome) => Err(outcome),
     }
 }

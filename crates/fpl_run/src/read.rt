@@ -1,17 +1,26 @@
 //! From the bytes of an input to what they come to.
-ghost use Rattle.std.specs.Prelude.{◌≡◌, ◌≢◌, ◌≤◌, ◌⊎◌, ◌↔◌, ℕ, List, length, IfSome, IsTrue};
+ghost use Rattle.std.specs.Prelude.{◌≡◌, ◌≢◌, ◌≤◌, ◌<◌, ◌^◌, ◌⊎◌, ◌↔◌, ℕ, List, length, IfSome, IsTrue};
 ghost use Rattle.std.specs.Io.KnownBytes.{IsAtEnd};
 ghost use Rattle.fpl_bytes.specs.Codes.{IsBytes};
+ghost use Rattle.fpl_model.specs.Sound.{IsSound};
+ghost use Rattle.fpl_canonical.specs.Canonical.{canonical_of};
 ghost use Rattle.fpl_outside.specs.Outside.{Rose};
 ghost use Rattle.fpl_reply.specs.Reply.{read_fault, status_of};
 ghost use Rattle.fpl_reply.specs.Outcome.{reply_of};
 ghost use Rattle.fpl_reply.specs.Leaves.{Leaves};
 ghost use Rattle.fpl_run.specs.Words.{IsInRange, most_limit};
-ghost use Rattle.fpl_run.specs.Read.{IsUnread, IsMarked, IsCheckpoint, most_bytes};
+ghost use Rattle.fpl_run.specs.Read.{IsUnread, IsMarked, IsCheckpoint, Presents, most_bytes};
+ghost use Rattle.fpl_run.specs.declared.task.Way.{Way};
 ghost use Rattle.fpl_run.specs.Answer.{AnswersCommand, FrontsCommand};
+ghost use Rattle.fpl_run.specs.Begin.{start_in};
+ghost use Rattle.fpl_run.specs.Task.{way_of};
 ghost use Rattle.fpl_run.specs.Run.{IfTold, MayPut, Spends};
 
+use crate::map::answer_map;
+use crate::separator::text_of;
+use crate::spelling::name_of;
 use crate::start::{Begin, answer_start};
+use crate::task::{is_unserved, takes_matrices, way_of};
 use crate::words::{Command, View};
 use fpl_checkpoint::{CHECKPOINT_MARK, ScanError, scan_head};
 use fpl_outside::{ReadError, Sink, Source, read_whole};
@@ -42,7 +51,36 @@ fn is_marked(bytes: &[u8]) -> bool
 fn is_checkpoint(c: Command, bytes: &[u8]) -> bool
     ensures { IsTrue result ↔ IsCheckpoint c bytes.now }
 {
-    matches!(c.view, View::Check) || is_marked(bytes)
+    matches!(c.view, View::Check) || is_marked(bytes) && !takes_matrices(way_of(c.view))
+}
+
+// What a command comes to for a presentation.
+fn answer_presented<O: Sink, L: Ledger>(
+    alloc: Global,
+    c: Command,
+    begin: Begin,
+    bytes: &[u8],
+    stored: &[u8],
+    out: &mut O,
+    steps: &mut Steps<L>,
+) -> Outcome
+    requires sound { IsSound begin.presentation }
+    requires short { way_of c.view ≡ Way.Write → length (canonical_of begin.presentation) < 2 ^ 32 }
+    requires version { (begin.version ≡ 1) ⊎ (begin.version ≡ 2) }
+    requires range { IsInRange c.limit c.entries }
+    requires read { IsUnread c.view → ⊥ }
+    requires presents { Presents c bytes.now (start_in begin stored.now) }
+    ensures reply { Leaves (AnswersCommand c bytes.now) (FrontsCommand c bytes.now) (O.taken out.old) (O.taken out.new) (reply_of result) }
+    ensures fault { status_of (reply_of result) ≡ Status.WriteFault → Rose (O.faults out.old) (O.faults out.new) }
+    ensures cost { Spends c bytes.now (O.taken out.old) (O.taken out.new) steps.old steps.new }
+{
+    if is_unserved(way_of(c.view), begin.presentation.field) {
+        return Outcome::Unsupported(name_of(c.view));
+    }
+    if takes_matrices(way_of(c.view)) {
+        return answer_map(alloc, c, begin, bytes, stored, out, steps);
+    }
+    answer_start(alloc, c, begin, stored, out, steps)
 }
 
 fn answer_text<O: Sink, L: Ledger>(
@@ -66,7 +104,7 @@ fn answer_text<O: Sink, L: Ledger>(
             why: Refusal::TooLong,
         };
     }
-    match read(alloc, bytes) {
+    match read(alloc, text_of(way_of(c.view), bytes)) {
         Ok(presentation) => {
             let begin = Begin {
                 presentation,
@@ -74,7 +112,7 @@ fn answer_text<O: Sink, L: Ledger>(
                 place: 0,
                 stored: false,
             };
-            answer_start(alloc, c, begin, b"", out, steps)
+            answer_presented(alloc, c, begin, bytes, b"", out, steps)
         }
         Err(ReaderError::Refused { place, reason }) => Outcome::Refused {
             place,
@@ -107,7 +145,7 @@ fn answer_checkpoint<O: Sink, L: Ledger>(
                 place: head.end,
                 stored: true,
             };
-            answer_start(alloc, c, begin, bytes, out, steps)
+            answer_presented(alloc, c, begin, bytes, bytes, out, steps)
         }
         Err(ScanError::Bad(bad)) => Outcome::BadBytes(bad),
         Err(ScanError::NoMemory) => Outcome::NoMemory,

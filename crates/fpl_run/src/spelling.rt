@@ -23,8 +23,32 @@ fn view_named(word: &str) -> Option<View>
         "cohomology" => Some(View::Cohomology),
         "equal" => Some(View::Equal),
         "check" => Some(View::Check),
+        "map" => Some(View::Map),
         "sample" => Some(View::Sample),
+        "envelope" => Some(View::Envelope),
         _ => None,
+    }
+}
+
+/// The name of a view.
+pub(crate) fn name_of(view: View) -> &'static [u8]
+    ensures { result.now ≡ view_name view }
+{
+    match view {
+        View::Table => b"table",
+        View::Series => b"series",
+        View::Gap => b"gap",
+        View::Log => b"log",
+        View::Checkpoint => b"checkpoint",
+        View::Centre => b"centre",
+        View::Lcs => b"lcs",
+        View::Ideal => b"ideal",
+        View::Cohomology => b"cohomology",
+        View::Equal => b"equal",
+        View::Check => b"check",
+        View::Map => b"map",
+        View::Sample => b"sample",
+        View::Envelope => b"envelope",
     }
 }
 

@@ -9,7 +9,7 @@ ghost use Rattle.fpl_reply.specs.Reply.{status_of};
 ghost use Rattle.fpl_reply.specs.Outcome.{reply_of};
 ghost use Rattle.fpl_reply.specs.Leaves.{Leaves};
 ghost use Rattle.fpl_run.specs.Words.{IsInRange};
-ghost use Rattle.fpl_run.specs.Task.{way_of, task_for, IsCounted};
+ghost use Rattle.fpl_run.specs.Task.{way_of, task_for, IsCounted, IsServed};
 ghost use Rattle.fpl_run.specs.Start.{Start, cost_for};
 ghost use Rattle.fpl_run.specs.Answer.{AnswersTask, AnswersStart, IsFront, FrontsStart};
 ghost use Rattle.fpl_run.specs.Begin.{start_in, start_from, HasBegun};
@@ -25,6 +25,7 @@ use fpl_outside::Sink;
 use fpl_reply::{Outcome, Status};
 use fpl_scalar::{Field, Fraction, Residue};
 use fpl_steps::Steps;
+use fpl_views::Viewed;
 use fpl_walk::Run;
 use std::alloc::{AllocError, Global};
 use std::sync::ledger::Ledger;
@@ -39,7 +40,7 @@ pub(crate) struct Begin {
 }
 
 // What a task comes to.
-fn through<F: Field, O: Sink, L: Ledger>(
+fn through<F: Viewed, O: Sink, L: Ledger>(
     alloc: Global,
     task: Task,
     run: &mut Run<F>,
@@ -50,6 +51,8 @@ fn through<F: Field, O: Sink, L: Ledger>(
     requires range { IsInRange task.limit task.entries }
     requires begun { HasBegun run.old }
     requires version { (run.old.version ≡ 1) ⊎ (run.old.version ≡ 2) }
+    requires served { IsServed task.way run.old.presentation.field }
+    requires plain { task.way ≡ Way.Rank → ⊥ }
     requires short { task.way ≡ Way.Write → length (canonical_of run.old.presentation) < 2 ^ 32 }
     ensures reply { Leaves (AnswersTask task (start_from run.old bytes.now)) (IsFront task (start_from run.old bytes.now)) (O.taken out.old) (O.taken out.new)
         (reply_of result) }
@@ -62,11 +65,16 @@ fn through<F: Field, O: Sink, L: Ledger>(
         Way::Write => stream(alloc, task, run, bytes, out, steps),
         Way::Show(shown) => put_made(out, show_through(alloc, task, shown, run, bytes, steps)),
         Way::Check => put_made(out, check_through(alloc, task, run, bytes, steps)),
+        Way::Rank => unreachable!(),
     }
 }
 
-// A run at weight 0.
-fn begin_run<F: Field>(alloc: Global, field: F, begin: Begin) -> Result<Run<F>, AllocError>
+/// A run at weight 0.
+pub(crate) fn begin_run<F: Field>(
+    alloc: Global,
+    field: F,
+    begin: Begin,
+) -> Result<Run<F>, AllocError>
     requires kind { F.kind_of field ≡ begin.presentation.field }
     requires sound { IsSound begin.presentation }
     ensures { IfOk result (λ run. run ≡ record {
@@ -87,7 +95,7 @@ fn begin_run<F: Field>(alloc: Global, field: F, begin: Begin) -> Result<Run<F>, 
 }
 
 // What a task comes to, where there was memory to begin.
-fn run_through<F: Field, O: Sink, L: Ledger>(
+fn run_through<F: Viewed, O: Sink, L: Ledger>(
     alloc: Global,
     task: Task,
     begun: Result<Run<F>, AllocError>,
@@ -98,6 +106,8 @@ fn run_through<F: Field, O: Sink, L: Ledger>(
     requires range { IsInRange task.limit task.entries }
     requires begun { IfOk begun HasBegun }
     requires version { IfOk begun (λ run. (run.version ≡ 1) ⊎ (run.version ≡ 2)) }
+    requires served { IfOk begun (λ run. IsServed task.way run.presentation.field) }
+    requires plain { task.way ≡ Way.Rank → ⊥ }
     requires short { task.way ≡ Way.Write → IfOk begun (λ run. length (canonical_of run.presentation) < 2 ^ 32) }
     ensures reply { (s : Start) → IfOk begun (λ run. start_from run bytes.now ≡ s) → Leaves (AnswersTask task s) (IsFront task s) (O.taken out.old)
         (O.taken out.new) (reply_of result) }
@@ -112,8 +122,8 @@ fn run_through<F: Field, O: Sink, L: Ledger>(
     }
 }
 
-// The residues, where the kind is a prime.
-fn residues(kind: Kind) -> Option<Residue>
+/// The residues, where the kind is a prime.
+pub(crate) fn residues(kind: Kind) -> Option<Residue>
     requires { IsField kind }
     ensures some { IfSome result (λ field. ⟦<Residue as Field>⟧.kind_of field ≡ kind) }
     ensures none { IfNone result (kind ≡ Kind.Rational) }
@@ -134,6 +144,8 @@ pub(crate) fn answer_start<O: Sink, L: Ledger>(
     steps: &mut Steps<L>,
 ) -> Outcome
     requires sound { IsSound begin.presentation }
+    requires served { IsServed (way_of c.view) begin.presentation.field }
+    requires plain { way_of c.view ≡ Way.Rank → ⊥ }
     requires short { way_of c.view ≡ Way.Write → length (canonical_of begin.presentation) < 2 ^ 32 }
     requires version { (begin.version ≡ 1) ⊎ (begin.version ≡ 2) }
     requires range { IsInRange c.limit c.entries }

@@ -8,11 +8,11 @@ ghost use Rattle.fpl_reply.specs.Outcome.{reply_of};
 ghost use Rattle.fpl_reply.specs.Leaves.{Says, Leaves, IsAnswered};
 ghost use Rattle.fpl_views.specs.declared.shown.Shown.{Shown};
 ghost use Rattle.fpl_run.specs.declared.words.Command.{Command};
-ghost use Rattle.fpl_run.specs.declared.task.Way.TheVariants.{Show};
+ghost use Rattle.fpl_run.specs.declared.task.Way.TheVariants.{Show, Rank};
 ghost use Rattle.fpl_run.specs.Words.{spelled, IsCommand, IsNoCommand};
 ghost use Rattle.fpl_run.specs.Task.{way_of};
 ghost use Rattle.fpl_run.specs.Answer.{Answers, Fronts};
-ghost use Rattle.fpl_run.specs.Run.{ReadsNothing, IfTold, Means, MayPut, Spends};
+ghost use Rattle.fpl_run.specs.Run.{ReadsNothing, IfTold, Means, MeansMap, MayPut, Spends};
 
 use crate::read::answer_command;
 use crate::spelling::command;
@@ -69,6 +69,10 @@ pub fn run<I: Source, O: Sink, E: Sink, L: Ledger>(
     // What was written shows the standard table of the presentation that was read, in the words of the algebra.
     ensures means { result ≡ Status.Done → IfTold (ReadsNothing (spelled words.now.items)) (I.left input.old) (λ bytes. (c : Command) (v : Shown) → IsCommand (spelled words.now.items) c →
         way_of c.view ≡ Show v → (text : List ℕ) × Takes (O.taken out.old) (O.taken out.new) text × Means c bytes v text) }
+
+    // Of matrices, what was written shows whether the presentation's relations hold for them, and what they see of its standard table.
+    ensures maps { result ≡ Status.Done → IfTold (ReadsNothing (spelled words.now.items)) (I.left input.old) (λ bytes. (c : Command) → IsCommand (spelled words.now.items) c →
+        way_of c.view ≡ Rank → (text : List ℕ) × Takes (O.taken out.old) (O.taken out.new) text × MeansMap c bytes text) }
 
     ensures line { (reply : Reply) × (status_of reply ≡ result) × Says (E.taken err.old) (E.taken err.new) (E.faults err.old) (E.faults err.new) (line_of reply) }
 

@@ -25,8 +25,12 @@ pub enum View {
     Equal,
     /// How many sections of a checkpoint pass its tests.
     Check,
+    /// Whether matrices of the generators respect the presentation, and how much of each weight they see.
+    Map,
     /// A summary of a built-in presentation.
     Sample,
+    /// The enveloping superalgebra, in ordered words.
+    Envelope,
 }
 
 /// A view through a weight limit.

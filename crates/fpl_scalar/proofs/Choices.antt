@@ -1,5 +1,5 @@
 -- A value that is there exactly where a test holds, and a number of 128 bits read back from its bits.
-use Rattle.std.specs.Prelude.{ℕ, ◌≡◌, ◌≤◌, ℤ, unsigned_abs, Bool, true, false, ◌&&◌, nat_le, Option, Some, None, if◌then◌else◌, FitsSigned}
+use Rattle.std.specs.Prelude.{ℕ, ◌≡◌, ◌≤◌, ℤ, unsigned_abs, Bool, true, false, ◌&&◌, nat_le, Option, Some, None, IfSome, if◌then◌else◌, FitsSigned}
 use Rattle.std.specs.Int.{w128}
 use Rattle.std.proofs.Common.{to_z, of_z}
 use Rattle.std.proofs.lemmas.Int.{to_z-of_z, ints}
@@ -26,6 +26,10 @@ choose false v x h e = absurd (let k : ⊥ = cc in k)
 pub choose_none : {T : Type 0} (t : Bool) (v : T) → t ≡ false → None ≡ (if t then Some v else None)
 choose_none true v h = absurd (let k : ⊥ = cc in k)
 choose_none false v h = refl
+
+pub some_if : {T : Type 0} (r v : Option T) → r ≡ v → IfSome r (λ c. Some c ≡ v)
+some_if (Some x) v e = e
+some_if None v e = tt
 
 pub false_left : (a b : Bool) → a ≡ false → (a && b) ≡ false
 false_left a b e = ap (λ w. w && b) e

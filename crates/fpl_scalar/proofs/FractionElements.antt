@@ -1,5 +1,5 @@
 -- What the calls of the fractions answer are canonical numbers within the bound.
-use Rattle.std.specs.Prelude.{◌≡◌, ◌≤◌, ℤ, pos, negsuc, neg_ℤ, ◌-ℤ◌, ◌<ℤ◌, ◌≤ℤ◌, unsigned_abs, false, Some, None, if◌then◌else◌}
+use Rattle.std.specs.Prelude.{◌≡◌, ◌≤◌, ℤ, pos, negsuc, neg_ℤ, ◌-ℤ◌, ◌<ℤ◌, ◌≤ℤ◌, unsigned_abs, false, Option, Some, None, IfSome, if◌then◌else◌}
 use Rattle.std.proofs.lemmas.Int.{ints}
 use mathlib.Core.Path.{refl, sym, ◌∙◌, subst}
 use native.Mathlib.Omega.{arith}
@@ -17,6 +17,11 @@ pub sum_element : (a b c : Num) → IsElement Rational a → IsElement Rational 
 sum_element a b c is_a is_b e =
     let f = chosen (fraction_fits Add a b) (fraction_sum a b) c e in
     subst (IsElement Rational) (sym f.1) (((kind_reads_exactly Rational tt).sum a b is_a.0 is_b.0).0, result_fits Rational Add a b f.0)
+
+pub sum_element_if : (a b : Num) (r : Option Num) → IsElement Rational a → IsElement Rational b →
+    IfSome r (λ c. Some c ≡ (if fraction_fits Add a b then Some (fraction_sum a b) else None)) → IfSome r (λ c. IsElement Rational c)
+sum_element_if a b (Some c) is_a is_b e = sum_element a b c is_a is_b e
+sum_element_if a b None is_a is_b e = tt
 
 pub product_element : (a b c : Num) → IsElement Rational a → IsElement Rational b → Some c ≡
     (if fraction_fits Mul a b then Some (fraction_product a b) else None) → IsElement Rational c

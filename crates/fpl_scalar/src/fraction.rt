@@ -1,46 +1,18 @@
-ghost use Rattle.std.specs.Prelude.{◌≡◌, true, ◌≤◌, ◌<◌, ◌*◌, ◌/◌, ◌+ℤ◌, ◌*ℤ◌, pos, nat_le, unsigned_abs, option_map, if◌then◌else◌};
+ghost use Rattle.std.specs.Prelude.{◌≡◌, true, ◌≤◌, ◌<◌, ◌*◌, ◌/◌, ◌*ℤ◌, pos, nat_le, unsigned_abs, IfOk, if◌then◌else◌};
 ghost use Rattle.fpl_numbers.specs.declared.number.Kind.TheVariants.{Rational};
 ghost use Rattle.fpl_numbers.specs.declared.number.Op.TheVariants.{Add, Mul};
 ghost use Rattle.fpl_numbers.specs.Numbers.{IsElement, most_number, divided, fraction_fits, fraction_product, fraction_sum, is_within};
-ghost use Rattle.fpl_numbers.specs.Quotients.{whole};
+ghost use Rattle.fpl_numbers.specs.Results.{Answers};
+ghost use Rattle.fpl_scalar.specs.Vectors.{fused};
 
 use crate::Field;
 use crate::divisor::{gcd, over};
+use crate::whole::{plus, times, whole, whole_fused};
 use fpl_numbers::{Kind, Num, Op, Unfit};
 
 /// The fractions whose numerator and denominator are at most 2^127 - 1 in magnitude.
 #[derive(Clone, Copy, Debug)]
 pub struct Fraction;
-
-/// The product of two whole numbers, where it is within the bound.
-fn times(a: i128, b: i128) -> Option<i128>
-    ensures { result ≡ (if is_within (a *ℤ b) then Some (a *ℤ b) else None) }
-{
-    match (i64::try_from(a), i64::try_from(b)) {
-        // at most 2^126, so that no test is needed
-        (Ok(x), Ok(y)) => Some(i128::from(x) * i128::from(y)),
-        _ => wide_times(a, b),
-    }
-}
-
-fn wide_times(a: i128, b: i128) -> Option<i128>
-    ensures { result ≡ (if is_within (a *ℤ b) then Some (a *ℤ b) else None) }
-{
-    match a.checked_mul(b) {
-        Some(product) if product != i128::MIN => Some(product),
-        _ => None,
-    }
-}
-
-/// The sum of two whole numbers, where it is within the bound.
-fn plus(a: i128, b: i128) -> Option<i128>
-    ensures { result ≡ (if is_within (a +ℤ b) then Some (a +ℤ b) else None) }
-{
-    match a.checked_add(b) {
-        Some(sum) if sum != i128::MIN => Some(sum),
-        _ => None,
-    }
-}
 
 /// `a` times the quotient of `n` by `d`, where it is within the bound.
 fn multiple(a: i128, n: u128, d: u128) -> Option<i128>
@@ -82,19 +54,6 @@ fn below(a: Num) -> u128
     ensures fits { result ≤ most_number }
 {
     a.denominator.unsigned_abs()
-}
-
-/// A whole number as a fraction.
-fn whole(n: Option<i128>) -> Option<Num>
-    ensures { result ≡ option_map (whole Rational) n }
-{
-    match n {
-        Some(numerator) => Some(Num {
-            numerator,
-            denominator: 1,
-        }),
-        None => None,
-    }
 }
 
 /// The exact sum, where it fits.
@@ -176,6 +135,20 @@ fn reduced_product(a: Num, b: Num) -> Option<Num>
         numerator,
         denominator,
     })
+}
+
+/// The product before the sum.
+fn fused(sum: Num, c: Num, x: Num) -> Result<Num, Unfit>
+    requires sum { IsElement Rational sum }
+    requires factor { IsElement Rational c }
+    requires other { IsElement Rational x }
+    ensures value { Answers (λ s. s) result (fused Rational sum c x) }
+    ensures element { IfOk result (λ s. IsElement Rational s) }
+{
+    match Fraction.mul(c, x) {
+        Ok(product) => Fraction.add(sum, product),
+        Err(u) => Err(u),
+    }
 }
 
 impl Field for Fraction {
@@ -268,10 +241,11 @@ impl Field for Fraction {
         self.zero()
     }
 
+    #[inline(always)]
     fn fuse(&self, sum: Num, c: Num, x: Num) -> Result<Num, Unfit> {
-        match self.mul(c, x) {
-            Ok(product) => self.add(sum, product),
-            Err(u) => Err(u),
+        match whole_fused(sum, c, x) {
+            Some(total) => Ok(total),
+            None => fused(sum, c, x),
         }
     }
 

@@ -8,6 +8,7 @@ mod quotients;
 mod residue;
 #[cfg(test)]
 mod tests;
+mod whole;
 
 pub use field::Field;
 pub use fpl_numbers::{Fault, Kind, Num, Op, PRIMES, Unfit};

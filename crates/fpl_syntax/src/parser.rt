@@ -1,4 +1,4 @@
-ghost use Rattle.std.specs.Prelude.{◌≡◌, ◌⊎◌, ℕ, List, IfOk};
+ghost use Rattle.std.specs.Prelude.{◌≡◌, ◌⊎◌, ℕ, List, IfOk, OnErr};
 ghost use Rattle.fpl_syntax.specs.Sight.{sight};
 ghost use Rattle.fpl_syntax.specs.Grammar.{Scope as Sense};
 ghost use Rattle.fpl_syntax.specs.Grammar.{Says, IsFaultAt, IsSentence};
@@ -110,7 +110,8 @@ fn end_side(
     claims: &mut Vec<Claim>,
     side: Side,
 ) -> Result<Option<State>, AllocError>
-    ensures { IfOk result (λ next. Goes claims.new.items next (end_side claims.old.items side (finished (sight scope.now) side.partial side.wait))) }
+    ensures unchanged { OnErr result (claims.new.items ≡ claims.old.items) }
+    ensures next { IfOk result (λ next. Goes claims.new.items next (end_side claims.old.items side (finished (sight scope.now) side.partial side.wait))) }
 {
     let Side {
         kind: claim,
@@ -163,7 +164,8 @@ fn step_side(
     side: Side,
     terminal: Terminal,
 ) -> Result<Option<State>, AllocError>
-    ensures { IfOk result (λ next. Goes claims.new.items next (step_side (sight scope.now) claims.old.items side terminal)) }
+    ensures unchanged { OnErr result (claims.new.items ≡ claims.old.items) }
+    ensures next { IfOk result (λ next. Goes claims.new.items next (step_side (sight scope.now) claims.old.items side terminal)) }
 {
     match terminal {
         Terminal::Semicolon => end_side(alloc, scope, claims, side),
@@ -198,7 +200,8 @@ pub fn step_state(
     state: State,
     terminal: Terminal,
 ) -> Result<Option<State>, AllocError>
-    ensures { IfOk result (λ next. Goes claims.new.items next (step_state (sight scope.now) claims.old.items state terminal)) }
+    ensures unchanged { OnErr result (claims.new.items ≡ claims.old.items) }
+    ensures next { IfOk result (λ next. Goes claims.new.items next (step_state (sight scope.now) claims.old.items state terminal)) }
 {
     match state {
         State::Side(side) => step_side(alloc, scope, claims, side, terminal),

@@ -15,3 +15,4 @@ pub mod Pushed
 pub mod PushedTrees
 pub mod PushedFields
 pub mod Truncated
+pub mod GrownTrees

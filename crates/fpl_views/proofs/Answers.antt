@@ -1,9 +1,7 @@
 -- Queries: an answer says whether the two sides are derivably equal; over a prime there is one.
-use Rattle.std.proofs.Common.{◌≡◌, ◌∙◌, ℕ, suc, ◌<◌, ◌≤◌, List, [], ◌∷◌, Ok, Err, Bool, true, false, cond, refl, sym, ap, subst, arith}
-use Rattle.std.specs.Prelude.{All, ◌↔◌, nat_lt, length}
+use Rattle.std.proofs.Common.{◌≡◌, ◌∙◌, ℕ, suc, List, [], ◌∷◌, Ok, Err, Bool, true, false, cond, refl, sym, ap, subst, arith}
+use Rattle.std.specs.Prelude.{All, ◌↔◌, length}
 use Rattle.std.specs.declared.result.Result.{Result}
-use Rattle.std.proofs.lemmas.Bool.Decides.{nat_tests}
-use Rattle.std.proofs.lemmas.List.{length-map}
 use Rattle.fpl_numbers.specs.declared.number.Num.{Num}
 use Rattle.fpl_numbers.specs.declared.number.Unfit.{Unfit}
 use Rattle.fpl_numbers.specs.Results.{map_ok}
@@ -13,19 +11,15 @@ use Rattle.fpl_rows.specs.Meaning.{vector_in}
 use Rattle.fpl_rows.proofs.Fits.{ok_same, first_fits, part_fits}
 use Rattle.fpl_rows.proofs.Readings.{vectors_same}
 use Rattle.math_linear.specs.Vector.{Vector}
-use Rattle.math_algebra.specs.Tree.{IsOver}
-use Rattle.math_algebra.specs.Degrees.{Degree, any, exact, mixed, weight_of_both, top}
 use Rattle.math_algebra.specs.Table.{val}
-use Rattle.math_theorems.proofs.ValueLaws.{weight_bounds_top}
 use Rattle.fpl_model.specs.declared.presentation.Presentation.{Presentation}
 use Rattle.fpl_model.specs.declared.presentation.Equation.{Equation}
 use Rattle.fpl_model.specs.declared.expr.Expr.{Expr}
-use Rattle.fpl_model.specs.Meaning.{plain, tree_in, generator_in, presentation_in}
+use Rattle.fpl_model.specs.Meaning.{plain, tree_in}
 use Rattle.fpl_model.specs.Sound.{IsSound, IsWithin, IsSoundEquation}
 use Rattle.fpl_table.specs.Plain.{PlainTable, table_in}
 use Rattle.fpl_table.specs.Value.{value_of}
 use Rattle.fpl_log.specs.declared.section.Section.{Section}
-use Rattle.plain_tables.proofs.Holding.{within_over}
 use Rattle.plain_sources.specs.Premises.{IsTableFor, IsFor}
 use Rattle.plain_sources.specs.PrimeLaws.{DoesFit}
 use Rattle.plain_sources.proofs.Laws.{value_stands}
@@ -35,7 +29,9 @@ use Rattle.fpl_print.specs.EqualText.{Answer, same, different, beyond, equal_tex
 use Rattle.fpl_reply.specs.declared.view_fault.ViewFault.{ViewFault}
 use Rattle.fpl_reply.specs.declared.view_fault.ViewFault.TheVariants.{Overflow}
 use Rattle.fpl_views.specs.Overflows.{in_view}
-use Rattle.fpl_views.specs.Equal.{is_past, is_beyond, same_row, compared, answer_by, answer_of, answers_of, text_of_equal, IsBeyond, AreEqual, IsAnswer, AreAnswers, ShowsEqual}
+use Rattle.fpl_queries.specs.Queries.{is_beyond, IsBeyond, AreEqual}
+use Rattle.fpl_queries.proofs.Within.{not_beyond, beyond_if, one_value}
+use Rattle.fpl_views.specs.Equal.{same_row, compared, answer_by, answer_of, answers_of, text_of_equal, IsAnswer, AreAnswers, ShowsEqual}
 use Rattle.fpl_views.specs.Equal.IsAnswer.{is_beyond_limit, is_same, is_different}
 use Rattle.fpl_views.specs.Laws.{IsMadeOf}
 use Rattle.fpl_views.proofs.Made.{made_table_for}
@@ -44,85 +40,49 @@ use Rattle.fpl_views.proofs.SameRows.{row_is, row_itself}
 bool_no : false ≡ true → ⊥
 bool_no e = cc
 
-past_is : (d w : ℕ) → nat_lt d w ≡ true → d < w
-past_is d w e = grind (arith, nat_tests)
-
-past_if : (d w : ℕ) → d < w → nat_lt d w ≡ true
-past_if d w l = grind (arith, nat_tests)
-
-not_past : (d w : ℕ) → nat_lt d w ≡ false → w ≤ d
-not_past d w e = grind (arith, nat_tests)
-
 module _ (p : Presentation) (T : PlainTable) (sections : List Section) (sound : IsSound p) (made : IsMadeOf p T sections) where
-  abbrev weight : Equation → Degree ℕ
-  weight q = weight_of_both (presentation_in p) (tree_in p.field q.left) (tree_in p.field q.right)
-
   abbrev value : Expr → Vector (field_of p.field)
   value e = val (field_of p.field) (table_in p.field T) (tree_in p.field e)
 
   is_table : IsTableFor p T
   is_table = made_table_for p T sections sound made
 
-  over : (e : Expr) → IsWithin p.field (length p.generators) (plain e) → IsOver (presentation_in p) (tree_in p.field e)
-  over e h = within_over p.field (presentation_in p) (plain e) (subst (λ n. IsWithin p.field n (plain e)) (sym (length-map p.generators generator_in)) h)
-
   stands : (e : Expr) → IsWithin p.field (length p.generators) (plain e) → (v : List Num) → value_of T (plain e) ≡ Ok v →
       IsFor p.field (field_of p.field) (number_of p.field) (length T.basis) (value e) v
   stands e h v f = value_stands p T is_table.kind is_table.generators sound is_table.rows is_table.weights (plain e) h v f
 
   module _ (q : Equation) (s : IsSoundEquation p q) where
-    -- a query that isn't past the table's weight has sides within it
-    tops : (d : Degree ℕ) → weight q ≡ d → is_past T.weight d ≡ false →
-        (top (presentation_in p) (tree_in p.field q.left) ≤ T.weight) × (top (presentation_in p) (tree_in p.field q.right) ≤ T.weight)
-    tops any e f =
-        let r = (weight_bounds_top (field_of p.field) (presentation_in p) (tree_in p.field q.left) (tree_in p.field q.right) (over q.left s.0.0)
-        (over q.right s.1.0)).1 e in
-        (omega (arith, r.0), omega (arith, r.1))
-    tops (exact w) e f =
-        let r = (weight_bounds_top (field_of p.field) (presentation_in p) (tree_in p.field q.left) (tree_in p.field q.right) (over q.left s.0.0)
-        (over q.right s.1.0)).0 w e in
-        let l = not_past T.weight w f in
-        (omega (arith, r.0, l), omega (arith, r.1, l))
-    tops mixed e f = absurd (s.2.0 e)
-
-    not_beyond : is_past T.weight (weight q) ≡ false → IsBeyond p T q → ⊥
-    not_beyond f b = bool_no (sym f ∙ ap (is_past T.weight) b.1 ∙ past_if T.weight b.0 b.2)
-
-    beyond_if : (d : Degree ℕ) → weight q ≡ d → is_past T.weight d ≡ true → IsBeyond p T q
-    beyond_if any e f = absurd (bool_no f)
-    beyond_if (exact w) e f = (w, e, past_is T.weight w f)
-    beyond_if mixed e f = absurd (bool_no f)
-
-    module _ (f : is_past T.weight (weight q) ≡ false) (l r : List Num) (el : value_of T (plain q.left) ≡ Ok l) (er : value_of T (plain q.right) ≡ Ok r) where
+    module _ (f : is_beyond p T q ≡ false) (l r : List Num) (el : value_of T (plain q.left) ≡ Ok l) (er : value_of T (plain q.right) ≡ Ok r) where
       left : IsFor p.field (field_of p.field) (number_of p.field) (length T.basis) (value q.left) l
       left = stands q.left s.0.0 l el
 
       right : IsFor p.field (field_of p.field) (number_of p.field) (length T.basis) (value q.right) r
       right = stands q.right s.1.0 r er
 
-      one_value : (value q.left ≡ value q.right) ↔ AreEqual p q
-      one_value =
-          let t = tops (weight q) refl f in
-          made.standard.values (tree_in p.field q.left) (tree_in p.field q.right) (over q.left s.0.0) (over q.right s.1.0) t.0 t.1
+      near : IsBeyond p T q → ⊥
+      near = not_beyond p T q f
+
+      same_values : (value q.left ≡ value q.right) ↔ AreEqual p q
+      same_values = one_value p T q s made.standard near
 
       one_row : AreEqual p q → l ≡ r
       one_row d =
           vectors_same p.field (field_of p.field) (number_of p.field) (kind_reads p.field sound.field) l r left.elements right.elements
-          (left.long ∙ sym right.long) (left.vector ∙ one_value.1 d ∙ sym right.vector)
+          (left.long ∙ sym right.long) (left.vector ∙ same_values.1 d ∙ sym right.vector)
 
       compared_is : IsAnswer p T q (compared l r)
       compared_is = go (same_row l r) refl
         where
           go : (b : Bool) → same_row l r ≡ b → IsAnswer p T q (cond b same (different l r))
-          go true e = is_same (not_beyond f) (one_value.0 (sym left.vector ∙ ap (vector_in p.field) (row_is l r e) ∙ right.vector))
+          go true e = is_same near (same_values.0 (sym left.vector ∙ ap (vector_in p.field) (row_is l r e) ∙ right.vector))
           go false e =
-              is_different l r (not_beyond f) (λ d. bool_no (sym e ∙ ap (same_row l) (sym (one_row d)) ∙ row_itself l)) left.vector right.vector
+              is_different l r near (λ d. bool_no (sym e ∙ ap (same_row l) (sym (one_row d)) ∙ row_itself l)) left.vector right.vector
 
     answer_is : (a : Answer) → answer_of p T q ≡ Ok a → IsAnswer p T q a
-    answer_is a e = go (is_past T.weight (weight q)) refl e
+    answer_is a e = go (is_beyond p T q) refl e
       where
-        go : (b : Bool) → is_past T.weight (weight q) ≡ b → cond b (Ok beyond) (answer_by T q) ≡ Ok a → IsAnswer p T q a
-        go true f e = subst (IsAnswer p T q) (ok_same e) (is_beyond_limit (beyond_if (weight q) refl f))
+        go : (b : Bool) → is_beyond p T q ≡ b → cond b (Ok beyond) (answer_by T q) ≡ Ok a → IsAnswer p T q a
+        go true f e = subst (IsAnswer p T q) (ok_same e) (is_beyond_limit (beyond_if p T q s f))
         go false f e =
             let x = first_fits (λ left. map_ok (compared left) (value_of T (plain q.right))) (value_of T (plain q.left)) a e in
             let y = part_fits (compared x.0) (value_of T (plain q.right)) a x.1.1 in

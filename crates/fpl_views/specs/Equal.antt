@@ -1,40 +1,28 @@
 -- The view `equal`: is each query's equation a consequence of the relations?
---   is_past d w: a weight as written is past d
---   is_beyond p T q: the two sides of the query, taken as one sum, have a weight, and it is past the table's
 --   same_row, compared: rows with the same numbers; the answer by the values of both sides
 --   answer_of, answers_of: the answer to a query, and those to all, in order: the value of the left side is formed, then that of the right; or the first
 --   operation that doesn't fit
 --   text_of_equal: the text of the answers
---   IsBeyond p T q, AreEqual p q: its weight is past the table's; its sides are derivably equal
 --   IsAnswer p T q a: what an answer says of a query
 --   ShowsEqual p T text: the text is that of answers, one for each query, in order: `beyond` exactly where the weight is past the limit, else `equal` exactly
 --   where the two sides are derivably equal, else the values of both sides
-use Rattle.std.specs.Prelude.{ℕ, ◌≡◌, ◌<◌, List, [], ◌∷◌, Bool, true, false, nat_lt, ◌&&◌, Result, Ok, if◌then◌else◌}
+use Rattle.std.specs.Prelude.{ℕ, ◌≡◌, List, [], ◌∷◌, Bool, true, false, ◌&&◌, Result, Ok, if◌then◌else◌}
 use Rattle.fpl_numbers.specs.declared.number.Num.{Num}
 use Rattle.fpl_numbers.specs.declared.number.Unfit.{Unfit}
 use Rattle.fpl_numbers.specs.Results.{and_then, map_ok}
 use Rattle.fpl_numbers.specs.Kinds.{field_of}
 use Rattle.fpl_rows.specs.Meaning.{vector_in}
-use Rattle.math_algebra.specs.Degrees.{Degree, any, exact, mixed, weight_of_both}
-use Rattle.math_algebra.specs.Derives.{Derives}
 use Rattle.math_algebra.specs.Table.{val}
 use Rattle.fpl_model.specs.declared.presentation.Presentation.{Presentation}
 use Rattle.fpl_model.specs.declared.presentation.Equation.{Equation}
-use Rattle.fpl_model.specs.Meaning.{plain, tree_in, presentation_in}
+use Rattle.fpl_model.specs.Meaning.{plain, tree_in}
 use Rattle.fpl_table.specs.Plain.{PlainTable, table_in}
 use Rattle.fpl_table.specs.Value.{value_of}
 use Rattle.fpl_check.specs.ClosedRows.{same_num}
 use Rattle.fpl_print.specs.EqualText.{Answer, same, different, beyond, equal_text}
+use Rattle.fpl_queries.specs.Queries.{is_beyond, IsBeyond, AreEqual}
 use Rattle.fpl_reply.specs.declared.view_fault.ViewFault.{ViewFault}
 use Rattle.fpl_views.specs.Overflows.{in_view}
-
-abbrev pub is_past : ℕ → Degree ℕ → Bool
-is_past d any = false
-is_past d (exact w) = nat_lt d w
-is_past d mixed = false
-
-abbrev pub is_beyond : Presentation → PlainTable → Equation → Bool
-is_beyond p T q = is_past T.weight (weight_of_both (presentation_in p) (tree_in p.field q.left) (tree_in p.field q.right))
 
 abbrev pub same_row : List Num → List Num → Bool
 same_row [] [] = true
@@ -57,12 +45,6 @@ answers_of p T (q ∷ qs) = and_then (λ a. map_ok (λ rest. a ∷ rest) (answer
 
 abbrev pub text_of_equal : Presentation → PlainTable → Result (List ℕ) ViewFault
 text_of_equal p T = in_view (map_ok (equal_text T) (answers_of p T p.queries))
-
-abbrev pub IsBeyond : Presentation → PlainTable → Equation → Type 0
-IsBeyond p T q = (w : ℕ) × (weight_of_both (presentation_in p) (tree_in p.field q.left) (tree_in p.field q.right) ≡ exact w) × (T.weight < w)
-
-abbrev pub AreEqual : Presentation → Equation → Type 0
-AreEqual p q = Derives (field_of p.field) (presentation_in p) (tree_in p.field q.left) (tree_in p.field q.right)
 
 pub data IsAnswer (p : Presentation) (T : PlainTable) (q : Equation) : Answer → Type 0 where
   is_beyond_limit : IsBeyond p T q → IsAnswer p T q beyond

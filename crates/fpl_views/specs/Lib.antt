@@ -9,5 +9,6 @@ pub mod Cohomology
 pub mod Centre
 pub mod Lcs
 pub mod Ideal
+pub mod Envelope
 pub mod Views
 pub mod Laws

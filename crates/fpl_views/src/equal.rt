@@ -7,11 +7,12 @@ ghost use Rattle.fpl_table.specs.Shape.{Agrees};
 ghost use Rattle.fpl_table.specs.Standard.{IsTableOf};
 ghost use Rattle.fpl_print.specs.EqualText.{answer_in, IsOfKind, AreOfKind};
 ghost use Rattle.fpl_reply.specs.declared.view_fault.ViewFault.{ViewFault};
-ghost use Rattle.fpl_views.specs.Equal.{is_beyond, same_row, compared, answer_by, answer_of, answers_of, text_of_equal};
+ghost use Rattle.fpl_views.specs.Equal.{same_row, compared, answer_by, answer_of, answers_of, text_of_equal};
 
 use crate::shown::ShowError;
-use fpl_model::{Degree, Equation, Presentation};
+use fpl_model::{Equation, Presentation};
 use fpl_print::{Answer, Answers, equal_text};
+use fpl_queries::is_beyond;
 use fpl_reply::ViewFault;
 use fpl_rows::Row;
 use fpl_scalar::{Fault, Field};
@@ -30,18 +31,6 @@ fn is_same<F: Field>(field: &F, left: &Row<F>, right: &Row<F>) -> bool
         }
     }
     true
-}
-
-fn is_beyond<F: Field>(p: &Presentation, table: &Table<F>, q: &Equation) -> bool
-    requires sound { IsSound p.now }
-    requires query { IsSoundEquation p.now q.now }
-    requires small { count_equation q.now < 2 ^ 40 }
-    ensures { result ≡ is_beyond p.now table.now q.now }
-{
-    match p.equation_weight(q) {
-        Degree::Exact(w) => w > u64::from(table.weight()),
-        Degree::Any | Degree::Mixed => false,
-    }
 }
 
 fn compared<F: Field>(field: &F, left: Row<F>, right: Row<F>) -> Answer<F>

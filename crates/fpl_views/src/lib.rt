@@ -3,6 +3,7 @@
 
 mod centre;
 mod cohomology;
+mod envelope;
 mod equal;
 mod gap;
 mod ideal;
@@ -14,6 +15,8 @@ mod series;
 mod shown;
 mod space;
 mod table;
+mod viewed;
 
 pub use laws::{views_of_tables, views_show};
 pub use shown::{ShowError, Shown, show};
+pub use viewed::{Viewed, residues};

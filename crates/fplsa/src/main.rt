@@ -8,11 +8,11 @@ ghost use Rattle.fpl_reply.specs.Reply.{Reply, no_memory, status_of, line_of};
 ghost use Rattle.fpl_reply.specs.Leaves.{Says, IsAnswered};
 ghost use Rattle.fpl_views.specs.declared.shown.Shown.{Shown};
 ghost use Rattle.fpl_run.specs.declared.words.Command.{Command};
-ghost use Rattle.fpl_run.specs.declared.task.Way.TheVariants.{Show};
+ghost use Rattle.fpl_run.specs.declared.task.Way.TheVariants.{Show, Rank};
 ghost use Rattle.fpl_run.specs.Words.{spelled, IsCommand, IsNoCommand};
 ghost use Rattle.fpl_run.specs.Task.{way_of};
 ghost use Rattle.fpl_run.specs.Answer.{Answers, Fronts};
-ghost use Rattle.fpl_run.specs.Run.{ReadsNothing, Means, MayPut};
+ghost use Rattle.fpl_run.specs.Run.{ReadsNothing, Means, MeansMap, MayPut};
 
 use fpl_outside::{Sink, Source, StdSink, StdSource};
 use fpl_reply::{Outcome, Status, put_line};
@@ -41,6 +41,8 @@ fn run_uncounted<L: Ledger, I: Source, O: Sink, E: Sink>(
         (O.taken out.old) (O.taken out.new) (E.taken err.old) (E.taken err.new) (E.faults err.old) (E.faults err.new)) }
     ensures means { result ≡ Status.Done → IfSome (I.left input.old) (λ bytes. (c : Command) (v : Shown) → IsCommand (spelled words.now.items) c →
         way_of c.view ≡ Show v → (text : List ℕ) × Takes (O.taken out.old) (O.taken out.new) text × Means c bytes v text) }
+    ensures maps { result ≡ Status.Done → IfSome (I.left input.old) (λ bytes. (c : Command) → IsCommand (spelled words.now.items) c →
+        way_of c.view ≡ Rank → (text : List ℕ) × Takes (O.taken out.old) (O.taken out.new) text × MeansMap c bytes text) }
     ensures line { (reply : Reply) × (status_of reply ≡ result) × Says (E.taken err.old) (E.taken err.new) (E.faults err.old) (E.faults err.new) (line_of reply) }
     ensures read { result ≡ Status.ReadFault → Rose (I.faults input.old) (I.faults input.new) × (ReadsNothing (spelled words.now.items) → ⊥) }
     ensures write { result ≡ Status.WriteFault → Rose (O.faults out.old) (O.faults out.new) }

@@ -2,7 +2,6 @@
 use Rattle.std.proofs.Common.{ℕ, zero, suc, ◌+◌, ◌-◌, ◌<◌, ◌≤◌, ◌≡◌, List, [], ◌∷◌, ◌++◌, length, get_or, true, false, refl, sym, ap, ap₂, ◌∙◌, subst, arith}
 use Rattle.std.specs.Prelude.{Bool, cond, nat_eq}
 use Rattle.std.proofs.lemmas.List.{append-nil}
-use native.Mathlib.Decide.{dec_lt}
 use Rattle.math_fields.specs.Field.{Field}
 use Rattle.math_linear.specs.Lists.{joined}
 use Rattle.math_linear.proofs.Numbers.{times-nought}

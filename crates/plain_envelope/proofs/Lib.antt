@@ -7,3 +7,5 @@ pub mod Straightened
 pub mod Passing
 pub mod Sums
 pub mod ByWeight
+pub mod Joining
+pub mod Products

@@ -69,7 +69,7 @@ module _ (K : Field) where
   Apart zs = (k l : ℕ) → k < l → l < length zs → get_or zs k [] ≡ get_or zs l [] → ⊥
 
   -- a word of the list
-  spread_word : (zs : List Word) (f : Form K) (k : ℕ) → k < length zs → Apart zs → spread (λ g. g (get_or zs k [])) zs f ≡ f (get_or zs k [])
+  pub spread_word : (zs : List Word) (f : Form K) (k : ℕ) → k < length zs → Apart zs → spread (λ g. g (get_or zs k [])) zs f ≡ f (get_or zs k [])
   unfolding spread at_word
   spread_word [] f k l h = absurd (omega arith)
   spread_word (z ∷ zs) f zero l h =

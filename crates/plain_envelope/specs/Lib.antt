@@ -1,3 +1,5 @@
 pub mod Listing
 pub mod Straight
 pub mod Laws
+pub mod Products
+pub mod ProductLaws

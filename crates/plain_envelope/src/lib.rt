@@ -7,6 +7,7 @@
 ghost use Rattle.fpl_numbers.specs.declared.number.Kind.{Kind};
 ghost use Rattle.fpl_numbers.specs.Kinds.{field_of};
 ghost use Rattle.plain_envelope.specs.Laws.{LimitIsFirst, OneStraightened, ProductOfValues, StraightenedIsStraight, WordsAreListed};
+ghost use Rattle.plain_envelope.specs.ProductLaws.{ProductsAreListed};
 
 /// The listed words are the ordered words, and their limit is the least weight through which there are more.
 pub fn words_are_listed()
@@ -23,4 +24,9 @@ pub fn straightened_is_straight()
 /// The product of two polys, word by word, is the product of what they stand for.
 pub fn product_of_values()
     ensures { (k : Kind) → ProductOfValues (field_of k) }
+{}
+
+/// The listed products are those of a basis element and an ordered word that aren't ordered together, each with its straight form.
+pub fn products_are_listed()
+    ensures { (k : Kind) → ProductsAreListed (field_of k) }
 {}

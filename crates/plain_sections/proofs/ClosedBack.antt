@@ -20,7 +20,7 @@ use Rattle.plain_elimination.proofs.Ascending.{AscendsFrom}
 use Rattle.fpl_check.specs.declared.fault.Spot.TheVariants.{Closed as AtClosed}
 use Rattle.fpl_check.specs.declared.fault.Why.TheVariants.{NotClosed, Differs}
 use Rattle.fpl_check.specs.Refusal.{passing, demand}
-use Rattle.fpl_check.specs.ClosedRows.{same_num, test_same, test_conclusions, test_lead_at, lead_or_none, test_leads, is_lead, test_crossing, test_apart}
+use Rattle.fpl_check.specs.ClosedRows.{same_num, test_same, test_conclusions, test_lead_at, lead_or_none, test_leads, is_greatest, test_crossing, test_apart}
 use Rattle.fpl_check.proofs.RowLoops.{same_is, and_true, below_true}
 use Rattle.fpl_check.proofs.PassedRows.{same_count}
 use Rattle.plain_sections.proofs.Tests.{same_true}
@@ -82,18 +82,18 @@ crossing_pass k leads lead s (c ∷ cs) h =
     (λ t l. subst (λ w. MayStand leads lead w (get_or cs t (residue 0))) (let e : s + suc t ≡ s + 1 + t = omega arith in e) (h (suc t) (omega (arith, l))))
 
 apart_pass : (k : ℕ) (all rows : List (List Num)) →
-    ((i m : ℕ) → i < length rows → test_crossing m (is_lead all) (lead_or_none (get_or rows i [])) 1 (get_or rows i []) ≡ Ok tt) → test_apart k all rows ≡ Ok tt
+    ((i m : ℕ) → i < length rows → test_crossing m (is_greatest all) (lead_or_none (get_or rows i [])) 1 (get_or rows i []) ≡ Ok tt) → test_apart k all rows ≡ Ok tt
 apart_pass k all [] h = refl
 apart_pass k all (row ∷ rows) h =
     ap (λ t. passing t (test_apart (k + 1) all rows)) (h 0 k (omega arith)) ∙ apart_pass (k + 1) all rows (λ i m l. h (suc i) m (omega (arith, l)))
 
 -- a symbol that is some row's greatest
-lead_of_one : (rows : List (List Num)) (s : ℕ) → is_lead rows s ≡ true → (j : ℕ) × ((j < length rows) × (lead_or_none (get_or rows j []) ≡ s))
+lead_of_one : (rows : List (List Num)) (s : ℕ) → is_greatest rows s ≡ true → (j : ℕ) × ((j < length rows) × (lead_or_none (get_or rows j []) ≡ s))
 lead_of_one [] s e = absurd (let k : ⊥ = cc in k)
 lead_of_one (row ∷ rows) s e = go (nat_eq (lead_or_none row) s) refl e (λ f. lead_of_one rows s f)
   where
-    go : (b : Bool) → nat_eq (lead_or_none row) s ≡ b → (b || is_lead rows s) ≡ true →
-        (is_lead rows s ≡ true → (j : ℕ) × ((j < length rows) × (lead_or_none (get_or rows j []) ≡ s))) →
+    go : (b : Bool) → nat_eq (lead_or_none row) s ≡ b → (b || is_greatest rows s) ≡ true →
+        (is_greatest rows s ≡ true → (j : ℕ) × ((j < length rows) × (lead_or_none (get_or rows j []) ≡ s))) →
         (j : ℕ) × ((j < length (row ∷ rows)) × (lead_or_none (get_or (row ∷ rows) j []) ≡ s))
     go true f g later = (0, (omega arith, same_count _ _ f))
     go false f g later = let h = later g in (suc h.0, ((let l = h.1.0 in omega (arith, l)), h.1.1))
@@ -107,13 +107,13 @@ module _ (kind : Kind) (listed : IsField kind) (n : ℕ) (rows : List (List Num)
   pivot_at None t e = absurd (omega (arith, e))
   pivot_at (Some s) t e = let f : s - 1 ≡ t = omega (arith, e) in f
 
-  stands : (i t : ℕ) → i < length rows → t < length (get_or rows i []) → (b : Bool) → is_lead rows (1 + t) ≡ b →
-      MayStand (is_lead rows) (lead_or_none (get_or rows i [])) (1 + t) (get_or (get_or rows i []) t (residue 0))
+  stands : (i t : ℕ) → i < length rows → t < length (get_or rows i []) → (b : Bool) → is_greatest rows (1 + t) ≡ b →
+      MayStand (is_greatest rows) (lead_or_none (get_or rows i [])) (1 + t) (get_or (get_or rows i []) t (residue 0))
   stands i t l m false e = inr (inr e)
   stands i t l m true e = let j = lead_of_one rows (1 + t) e in go j.0 j.1.0 j.1.1 (ℕ_discrete j.0 i)
     where
       go : (j : ℕ) → j < length rows → lead_or_none (get_or rows j []) ≡ 1 + t → Dec (j ≡ i) →
-          MayStand (is_lead rows) (lead_or_none (get_or rows i [])) (1 + t) (get_or (get_or rows i []) t (residue 0))
+          MayStand (is_greatest rows) (lead_or_none (get_or rows i [])) (1 + t) (get_or (get_or rows i []) t (residue 0))
       go j k f (yes d) = inr (inl (sym (ap (λ w. lead_or_none (get_or rows w [])) (sym d) ∙ f)))
       go j k f (no d) =
           let is = closed.are_rows i [] l in
@@ -124,4 +124,4 @@ module _ (kind : Kind) (listed : IsField kind) (n : ℕ) (rows : List (List Num)
 
   pub apart_passes : test_apart 1 rows rows ≡ Ok tt
   apart_passes = apart_pass 1 rows rows
-      (λ i m l. crossing_pass m (is_lead rows) (lead_or_none (get_or rows i [])) 1 (get_or rows i []) (λ t k. stands i t l k (is_lead rows (1 + t)) refl))
+      (λ i m l. crossing_pass m (is_greatest rows) (lead_or_none (get_or rows i [])) 1 (get_or rows i []) (λ t k. stands i t l k (is_greatest rows (1 + t)) refl))

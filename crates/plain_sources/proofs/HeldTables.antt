@@ -1,8 +1,7 @@
 -- What the origins of a held table stand for: the row of each reads a vector, and these vectors are the source rows.
 use Rattle.std.specs.Prelude.{ℕ, ◌≡◌, List, ◌++◌, length, Ok, Contains}
 use mathlib.Core.Path.{sym, subst}
-use Rattle.math_linear.specs.Vector.{Vector, vzero}
-use Rattle.math_linear.specs.Linear.{IsLinear}
+use Rattle.math_linear.specs.Vector.{Vector}
 use Rattle.math_linear.specs.Span.{Spanned}
 use Rattle.math_linear.proofs.Span.{spanned_one, spanned_through}
 use Rattle.fpl_numbers.specs.declared.number.Num.{Num}
@@ -22,7 +21,7 @@ use Rattle.fpl_rewrite.specs.Rows.{row_of_origin}
 use Rattle.plain_sources.specs.Premises.{HasRows, HasWeights}
 use Rattle.plain_sources.specs.RowLaws.{Stands}
 use Rattle.plain_sources.specs.TableLaws.{vector_of_origin}
-use Rattle.plain_sources.specs.Late.{IsReach, IsCut}
+use Rattle.plain_sources.specs.Late.{IsReach, IsCut, Follows}
 use Rattle.plain_sources.proofs.Late.{late_follow}
 use Rattle.plain_sources.proofs.Laws.{rows_of_shape, weights_of_built, rows_stand, origins_are_sources, sources_are_origins}
 
@@ -77,10 +76,8 @@ module _ (p : Presentation) (T : PlainTable) where
         (origins_are_sources p T holds.kind holds.generators holds.sound rows weights a.0 a.1)))
         v h
 
-    -- a linear function that is 0 at the vectors of the origins before the late ones is 0 at theirs
+    -- the vectors of late origins follow those of the origins before them
     pub late_origins : (bound : ℕ) → IsReach T bound → (done os : List Origin) → done ++ os ≡ origins_of T p → IsCut bound os →
-        (f : Vector (field_of p.field) → Vector (field_of p.field)) → IsLinear (field_of p.field) f →
-        ((o : Origin) → Contains done o → f (origin_vector o) ≡ vzero (field_of p.field)) →
-        (o : Origin) → Contains os o → f (origin_vector o) ≡ vzero (field_of p.field)
+        Follows p.field done os origin_vector
     unfolding origin_vector
     late_origins bound reach done os e cut f linear before o c = late_follow p T bound holds reach done os e cut f linear before o c

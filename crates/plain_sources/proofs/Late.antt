@@ -1,36 +1,40 @@
 -- The origins of a weight rise by the first member of their triples, so those behind the last generator come last; and what their rows stand for follows from
 -- the rows before.
-use Rattle.std.specs.Prelude.{◌≡◌, ◌≢◌, ℕ, zero, suc, ◌+◌, ◌-◌, ◌<◌, ◌≤◌, ◌⊎◌, List, [], ◌∷◌, ◌++◌, length, get_or, map, Bool, true, false, cond, nat_lt, Contains}
-use mathlib.Core.Path.{sym, refl, ap, ◌∙◌, subst}
+use Rattle.std.specs.Prelude.{◌≡◌, ℕ, zero, suc, ◌+◌, ◌-◌, ◌<◌, ◌≤◌, ◌⊎◌, List, [], ◌∷◌, ◌++◌, length, get_or, Bool, true, false, cond, Contains}
+use mathlib.Core.Path.{sym, refl, ap, subst}
 use mathlib.Core.Logic.{inl, inr}
 use native.Mathlib.Omega.{arith}
 use Rattle.std.proofs.lemmas.List.Elements.{Contains-append_left, Contains-append_right, Contains-append_cases}
 use Rattle.math_linear.specs.Vector.{Vector, vzero}
 use Rattle.math_linear.specs.Linear.{IsLinear}
 use Rattle.math_linear.specs.Lists.{joined}
-use Rattle.math_algebra.specs.Tree.{Generator}
-use Rattle.math_algebra.specs.Table.{Symbol, of_generator, of_pair}
 use Rattle.math_generators.specs.Triples.{IsEarlySource}
-use Rattle.math_generators.specs.Triples.IsEarlySource.{early_relation, early_triple, early_cube}
 use Rattle.math_generators.proofs.Triples.{late_triples_follow}
-use Rattle.math_algebra.specs.SourceRows.IsSource.{of_relation, of_triple, of_cube}
 use Rattle.fpl_numbers.specs.declared.number.Kind.{Kind}
-use Rattle.fpl_numbers.specs.declared.number.Kind.TheVariants.{Rational, Prime}
 use Rattle.fpl_numbers.specs.Kinds.{field_of}
 use Rattle.fpl_model.specs.declared.presentation.Presentation.{Presentation}
 use Rattle.fpl_model.specs.Meaning.{presentation_in}
 use Rattle.fpl_log.specs.declared.step.Origin.{Origin}
-use Rattle.fpl_log.specs.declared.step.Origin.TheVariants.{Relation, Jacobi, Cube, Row}
-use Rattle.fpl_table.specs.Plain.{PlainTable, plain_basis, table_in}
+use Rattle.fpl_log.specs.declared.step.Origin.TheVariants.{Jacobi, Cube}
+use Rattle.fpl_table.specs.Plain.{PlainTable, table_in}
 use Rattle.fpl_rewrite.specs.Origins.{is_triple, is_cube, relations_of, triples_of, cubes_of, is_three, origins_of}
 use Rattle.fpl_rewrite.proofs.Listed.{one_if, in_joined}
 use Rattle.plain_tables.specs.Holds.{Holds}
 use Rattle.plain_tables.proofs.Holding.{sound_is_sound}
 use Rattle.plain_sources.specs.Premises.{HasRows, HasWeights}
 use Rattle.plain_sources.specs.TableLaws.{vector_of_origin}
-use Rattle.plain_sources.specs.Late.{first_of, is_late, IsOtherPrime, IsReach, IsCut, LateComeLast, LateFollow}
-use Rattle.plain_sources.proofs.Listed.{IsTriple, IsListed, listed, listed_relation, listed_triple, listed_cube, in_relations, in_triples}
+use Rattle.plain_sources.specs.Late.{first_of, is_late, IsOtherPrime, IsReach, IsCut}
+use Rattle.plain_sources.proofs.Listed.{IsListed, listed, listed_relation, listed_triple, listed_cube, in_relations}
 use Rattle.plain_sources.proofs.Laws.{rows_of_shape, weights_of_built, early_origins, origins_are_sources}
+
+-- an origin of a part of the list is one of the weight
+pub in_done : (p : Presentation) (T : PlainTable) (done os : List Origin) → done ++ os ≡ origins_of T p → (o : Origin) → Contains done o →
+    Contains (origins_of T p) o
+in_done p T done os all o c = subst (λ xs. Contains xs o) all (Contains-append_left done os o c)
+
+pub in_rest : (p : Presentation) (T : PlainTable) (done os : List Origin) → done ++ os ≡ origins_of T p → (o : Origin) → Contains os o →
+    Contains (origins_of T p) o
+in_rest p T done os all o c = subst (λ xs. Contains xs o) all (Contains-append_right done os o c)
 
 -- each comes before those whose triples have greater first members
 abbrev Rises : List Origin → Type 0

@@ -4,8 +4,9 @@
 --   is_late bound o     the test for a triple whose first basis element is numbered above a bound
 --   IsReach T bound     no triple is late, or the field is a prime other than 3 and no generator is numbered above the bound
 --   IsCut bound os      a list of origins begins with a late one, or is empty
+--   Follows k done os vector   a linear function that is 0 at the vectors of the first origins is 0 at those of the rest
 --   LateComeLast        what comes behind a late origin of a weight is late
---   LateFollow          a linear function that is 0 at the vectors of all origins before the late ones is 0 at those of the late ones
+--   LateFollow          the vectors of the late origins follow those of all origins before them
 use Rattle.std.specs.Prelude.{ℕ, ◌≡◌, ◌≢◌, ◌<◌, ◌≤◌, ◌⊎◌, List, [], ◌∷◌, ◌++◌, length, Bool, true, nat_lt, Contains}
 use Rattle.math_linear.specs.Vector.{Vector, vzero}
 use Rattle.math_linear.specs.Linear.{IsLinear}
@@ -43,6 +44,11 @@ abbrev pub IsCut : ℕ → List Origin → Type 0
 IsCut bound [] = Unit {0}
 IsCut bound (o ∷ os) = is_late bound o ≡ true
 
+abbrev pub Follows : (k : Kind) → (done os : List Origin) → (Origin → Vector (field_of k)) → Type 0
+Follows k done os vector =
+    (f : Vector (field_of k) → Vector (field_of k)) → IsLinear (field_of k) f → ((o : Origin) → Contains done o → f (vector o) ≡ vzero (field_of k)) →
+    (o : Origin) → Contains os o → f (vector o) ≡ vzero (field_of k)
+
 abbrev pub LateComeLast : Presentation → Type 0
 LateComeLast p =
     (T : PlainTable) (bound : ℕ) → IsReach T bound → (done os : List Origin) → done ++ os ≡ origins_of T p → IsCut bound os → (o : Origin) →
@@ -51,7 +57,4 @@ LateComeLast p =
 abbrev pub LateFollow : Presentation → Type 0
 LateFollow p =
     (T : PlainTable) (bound : ℕ) → Holds p T → IsReach T bound → (done os : List Origin) → done ++ os ≡ origins_of T p → IsCut bound os →
-    (f : Vector (field_of p.field) → Vector (field_of p.field)) → IsLinear (field_of p.field) f →
-    ((o : Origin) → Contains done o →
-    f (vector_of_origin (field_of p.field) (presentation_in p) (table_in p.field T) o) ≡ vzero (field_of p.field)) →
-    (o : Origin) → Contains os o → f (vector_of_origin (field_of p.field) (presentation_in p) (table_in p.field T) o) ≡ vzero (field_of p.field)
+    Follows p.field done os (λ o. vector_of_origin (field_of p.field) (presentation_in p) (table_in p.field T) o)

@@ -16,7 +16,7 @@ use Rattle.fpl_table.proofs.Leads.{free_few}
 use Rattle.math_linear.specs.Lists.{joined}
 use Rattle.fpl_model.specs.Degrees.{is_exactly}
 use Rattle.fpl_rewrite.specs.Origins.{relation_weight, relations_from, relations_of, is_triple, triples_of, is_cube, is_three, cubes_of, origins_of}
-use Rattle.fpl_rewrite.proofs.Relations.{few_relations}
+use Rattle.fpl_model.proofs.Relations.{few_relations}
 use Rattle.fpl_rewrite.proofs.SymbolCounts.{symbols_counted}
 use Rattle.plain_weights.proofs.Counts.{counts_pushed}
 

@@ -23,7 +23,7 @@ use Rattle.plain_elimination.specs.Plain.{Held, rows_of}
 use Rattle.fpl_model.specs.declared.presentation.Presentation.{Presentation}
 use Rattle.fpl_table.specs.Plain.{PlainTable, symbols_in}
 use Rattle.plain_tables.specs.Holds.{Holds}
-use Rattle.fpl_rewrite.proofs.Relations.{few_relations}
+use Rattle.fpl_model.proofs.Relations.{few_relations}
 use Rattle.plain_sources.proofs.HeldTables.{is_field}
 use Rattle.plain_sources.proofs.Listed.{IsListed as IsOfWeight, listed_relation, listed_triple, listed_cube, listed}
 use Rattle.plain_weights.specs.Weight.{close_weight}

@@ -1,16 +1,15 @@
 -- Each tree of a basis element is that of its symbol over the trees before it: of the standard table, and of the printed list.
-use Rattle.std.specs.Prelude.{ℕ, zero, suc, List, [], ◌∷◌, ◌++◌, ◌≡◌, ◌⊎◌, ◌<◌, ◌≤◌, ◌+◌, length, get_or}
+use Rattle.std.specs.Prelude.{ℕ, zero, suc, List, [], ◌≡◌, ◌⊎◌, ◌<◌, ◌≤◌, ◌+◌, length, get_or}
 use mathlib.Core.Path.{sym, refl, ap, ap₂, ◌∙◌, subst}
 use mathlib.Core.Logic.{inl, inr}
 use native.Mathlib.Omega.{arith}
-use Rattle.std.proofs.lemmas.List.{length-append, append_assoc, get_or-append-add}
 use Rattle.math_fields.specs.Field.{Field}
 use Rattle.fpl_numbers.specs.declared.number.Num.{Num}
 use Rattle.fpl_numbers.specs.declared.number.Kind.{Kind}
 use Rattle.fpl_numbers.specs.Kinds.{Number, field_of}
 use Rattle.math_algebra.specs.Tree.{Tree, gen, none, bracket_of, Presentation}
 use Rattle.math_algebra.specs.Derives.{Derives, Expression}
-use Rattle.math_algebra.specs.Table.{Table, Symbol, of_generator, of_pair, Basis, no_basis, basis_at}
+use Rattle.math_algebra.specs.Table.{Table, Symbol, of_generator, of_pair, basis_at}
 use Rattle.math_algebra.specs.Symbols.{symbol_at, symbol_tree, IsSymbol}
 use Rattle.math_algebra.specs.Symbols.IsSymbol.{is_generator, is_pair}
 use Rattle.math_algebra.specs.Standard.{combined, IsStandard}
@@ -19,8 +18,7 @@ use Rattle.math_values.proofs.SymbolLists.{place_symbol}
 use Rattle.math_standard.proofs.NewPlaces.{trees_same}
 use Rattle.fpl_model.specs.Meaning.{in_field}
 use Rattle.fpl_table.specs.Shape.{IsBefore, grown, symbol_tree_in}
-use Rattle.fpl_table.proofs.PushedTrees.{tree_same}
-use Rattle.fpl_table.proofs.Truncated.{grows}
+use Rattle.fpl_table.proofs.GrownTrees.{grown_at}
 use Rattle.math_standard.proofs.Agreement.{split_add}
 
 -- ---- the standard table
@@ -84,28 +82,7 @@ module _ (K : Field) (P : Presentation K.Carrier) where
       same : (v : _) → combined K tree' (length T'.basis) v ≡ combined K twig' (length T'.basis) v
       same v = trees_same K P twig' tree' (length T'.basis) v e
 
--- ---- the printed list
-grown_at : (ts : List (Tree Num)) (bs : List Basis) → ((q : ℕ) → q < length bs → IsBefore (length ts + q) (get_or bs q no_basis).symbol) → (q : ℕ) →
-    q < length bs →
-    get_or (grown ts bs) (length ts + q) none ≡ symbol_tree_in (grown ts bs) (get_or bs q no_basis).symbol
-unfolding grown
-grown_at ts [] h q l = absurd (omega arith)
-grown_at ts (b ∷ bs) h zero l =
-    let t = symbol_tree_in ts b.symbol in
-    let s = grows (ts ++ t ∷ []) bs in
-    let e : grown (ts ++ t ∷ []) bs ≡ ts ++ (t ∷ s.0) = s.1 ∙ append_assoc ts (t ∷ []) s.0 in
-    let first : IsBefore (length ts) b.symbol = subst (λ n. IsBefore n b.symbol) (let k : length ts + 0 ≡ length ts = omega arith in k) (h 0 (omega arith)) in
-    ap (λ w. get_or w (length ts + 0) none) e ∙ get_or-append-add ts (t ∷ s.0) 0 none
-    ∙ sym (tree_same ts (t ∷ s.0) b.symbol (λ i j is. subst (IsBefore (length ts)) is first))
-    ∙ ap (λ w. symbol_tree_in w b.symbol) (sym e)
-grown_at ts (b ∷ bs) h (suc q) l =
-    let t = symbol_tree_in ts b.symbol in
-    let size : length (ts ++ t ∷ []) ≡ length ts + 1 = length-append ts (t ∷ []) in
-    let shift : (q : ℕ) → length (ts ++ t ∷ []) + q ≡ length ts + suc q = λ q. omega (arith, size) in
-    ap (λ n. get_or (grown (ts ++ t ∷ []) bs) n none) (sym (shift q))
-    ∙ grown_at (ts ++ t ∷ []) bs (λ m k. subst (λ n. IsBefore n (get_or bs m no_basis).symbol) (sym (shift m)) (h (suc m) (omega arith))) q (omega arith)
-
--- ---- both
+-- ---- the standard and the printed list
 module _ (k : Kind) (P : Presentation (Number k)) (T : Table (field_of k)) (tree : ℕ → Expression (field_of k))
     (standard : IsStandard (field_of k) P T tree) where
   abbrev ts : List (Tree Num)

@@ -17,10 +17,12 @@ use Rattle.fpl_numbers.proofs.KindReads.{listed_prime}
 use Rattle.plain_texts.proofs.Coefficients.{listed_small}
 use Rattle.plain_texts.proofs.SpelledParts.{zero_text}
 use Rattle.math_algebra.specs.Tree.{Tree, Trees, gen, none, sum_of, multiple, bracket_of, more}
+use Rattle.fpl_model.specs.Sound.{many}
 use Rattle.fpl_syntax.specs.Grammar.{signed, or_nought, coefficient_of}
 use Rattle.fpl_canonical.specs.declared.expression.Stand.TheVariants.{Alone, Member, Factor as Behind}
 use Rattle.fpl_spelling.specs.Spelling.{is_below_nought, below_text, magnitude_text, sign_text}
-use Rattle.fpl_canonical.specs.Canonical.{begins_below, in_parentheses, expression_text, sum_text}
+use Rattle.fpl_canonical.specs.Canonical.{begins_below, in_parentheses, is_small, in_small, expression_text, sum_text}
+use Rattle.fpl_canonical.proofs.Small.{not_small}
 use Rattle.fpl_numbers.proofs.WholeFractions.{times-one}
 
 -- texts of expressions
@@ -77,14 +79,14 @@ module _ (names : List (List ℕ)) where
   pub alone_behind : (t : Tree Num) → alone t ≤ behind t
   alone_behind (gen g) = omega arith
   alone_behind none = omega arith
-  alone_behind (sum_of es) = omega (arith, bare (sum_text names true es), enclosed (sum_text names true es))
+  alone_behind (sum_of es) = omega (arith, bare (in_small (is_small es) (sum_text names true es)), enclosed (in_small (is_small es) (sum_text names true es)))
   alone_behind (multiple c e) = omega (arith, alone_is c e, behind_is c e)
   alone_behind (bracket_of a b) = omega arith
 
   pub behind_alone : (t : Tree Num) → behind t ≤ alone t + 2
   behind_alone (gen g) = omega arith
   behind_alone none = omega arith
-  behind_alone (sum_of es) = omega (arith, bare (sum_text names true es), enclosed (sum_text names true es))
+  behind_alone (sum_of es) = omega (arith, bare (in_small (is_small es) (sum_text names true es)), enclosed (in_small (is_small es) (sum_text names true es)))
   behind_alone (multiple c e) = omega (arith, alone_is c e, behind_is c e)
   behind_alone (bracket_of a b) = omega arith
 
@@ -101,8 +103,8 @@ module _ (names : List (List ℕ)) where
       let B = expression_text names Alone b in
       omega (arith, length-append (codes "[" ++ A ++ codes "," ++ B) (codes "]"), length-append (codes "[" ++ A ++ codes ",") B, length-append A (codes ","))
 
-  pub sum_long : (es : Trees Num) → alone (sum_of es) ≡ length (sum_text names true es)
-  sum_long es = bare (sum_text names true es)
+  pub sum_long : (es : Trees Num) → 2 ≤ many es → alone (sum_of es) ≡ length (sum_text names true es)
+  sum_long es two = bare (in_small (is_small es) (sum_text names true es)) ∙ ap length (not_small es two (sum_text names true es))
 
   pub more_long : (first : Bool) (e : Tree Num) (es : Trees Num) → length (sum_text names first (more e es)) ≡
       length (sign_text first (begins_below e)) + member e + length (sum_text names false es)

@@ -172,7 +172,7 @@ module _ (text : List ℕ) (kind : Kind) (gs : List Generator) (field : IsField 
   total_long x [] n h k = omega arith
   total_long x (y ∷ ys) n h k =
       subst (λ t. alone ns t ≤ n + length (sum_text ns false (trees (map plain (y ∷ ys))))) (sym (plain-Sum (x ∷ y ∷ ys)))
-      (omega (arith, sum_long ns (trees (map plain (x ∷ y ∷ ys))), more_long ns true (plain x) (trees (map plain (y ∷ ys)))))
+      (omega (arith, sum_long ns (trees (map plain (x ∷ y ∷ ys))) (omega arith), more_long ns true (plain x) (trees (map plain (y ∷ ys)))))
 
   mutual
     pub sum_cost : (s : Sum) → IsKnown (events_sum s) → (after : List Terminal) → alone ns (plain (expression_of scope s)) +

@@ -21,7 +21,8 @@ use Rattle.fpl_reader.specs.Events.{events_scale, events_terms, events_factor}
 use Rattle.fpl_reader.specs.Reading.{scope_of}
 use Rattle.fpl_canonical.specs.declared.expression.Stand.TheVariants.{Alone, Member, Factor as Behind}
 use Rattle.fpl_spelling.specs.Spelling.{is_below_nought, below_text, magnitude_text, sign_text}
-use Rattle.fpl_canonical.specs.Canonical.{begins_below, expression_text, sum_text}
+use Rattle.fpl_canonical.specs.Canonical.{begins_below, is_small, in_small, expression_text, sum_text}
+use Rattle.fpl_canonical.proofs.Small.{not_small}
 use Rattle.plain_texts.proofs.NameTerminals.{names, AreDistinct, name_terminal, number_there}
 use Rattle.plain_texts.proofs.Coefficients.{coefficient_back, parts_small, denominator_some}
 use Rattle.plain_texts.proofs.Spelled.{IsLeft, place, later, bytes_there, Spells, spells_word, spells_number, spells_mark}
@@ -203,12 +204,16 @@ module _ (text : List ℕ) (kind : Kind) (gs : List Generator) (field : IsField 
   terms_none : (held : ℕ) → AsTerms last 0 held []
   terms_none held after terminals depth stops left s = record { terms = end; spells = s; value = refl; fine = (refl, refl) }
 
+  -- a sum without parentheses
+  abbrev whole : Trees Num → List ℕ
+  whole es = in_small (is_small es) (sum_text ns true es)
+
   -- an expression wherever it stands
   mutual
     pub summed : (t : Tree Num) → IsWithin kind (length gs) t → (held : ℕ) → AsSum t (deep t) held (expression_text ns Alone t)
     summed (gen g) w held = alone (gen g) 0 held (get_or ns (g - 1) []) refl (factor_name held g w.0 w.1)
     summed none w held = alone none 0 held (codes "0") refl (factor_zero text kind gs held)
-    summed (sum_of es) w held = subst (AsSum (sum_of es) (deep_members es) held) (sym (append-nil (sum_text ns true es))) (membered es w.1 w.0 held)
+    summed (sum_of es) w held = subst (AsSum (sum_of es) (deep_members es) held) (sym (append-nil (whole es))) (membered es w.1 w.0 held)
     summed (multiple c e) w held = subst (AsSum (multiple c e) (deep_factor e) held) (sym (append-nil _))
         (sum_multiple held c e w.0 (expression_text ns Behind e) (factored e w.1 held))
     summed (bracket_of a b) w held = alone (bracket_of a b) (max (deep a) (deep b) + 1) held (expression_text ns Behind (bracket_of a b)) refl
@@ -217,7 +222,7 @@ module _ (text : List ℕ) (kind : Kind) (gs : List Generator) (field : IsField 
     factored : (t : Tree Num) → IsWithin kind (length gs) t → (held : ℕ) → AsFactor t (deep_factor t) held (expression_text ns Behind t)
     factored (gen g) w held = factor_name held g w.0 w.1
     factored none w held = factor_zero text kind gs held
-    factored (sum_of es) w held = factor_group text kind gs held (deep_members es) (sum_of es) (sum_text ns true es) (membered es w.1 w.0 (held + 1))
+    factored (sum_of es) w held = factor_group text kind gs held (deep_members es) (sum_of es) (whole es) (membered es w.1 w.0 (held + 1))
     factored (multiple c e) w held = factor_group text kind gs held (deep_factor e) (multiple c e) _
         (sum_multiple (held + 1) c e w.0 (expression_text ns Behind e)
         (factored e w.1 (held + 1)))
@@ -227,15 +232,16 @@ module _ (text : List ℕ) (kind : Kind) (gs : List Generator) (field : IsField 
     termed (gen g) w held = as_member (gen g) 0 held (get_or ns (g - 1) []) refl (factor_name held g w.0 w.1)
     termed none w held = as_member none 0 held (codes "0") refl (factor_zero text kind gs held)
     termed (sum_of es) w held = as_member (sum_of es) (deep_members es + 1) held (expression_text ns Behind (sum_of es)) refl
-        (factor_group text kind gs held (deep_members es) (sum_of es) (sum_text ns true es) (membered es w.1 w.0 (held + 1)))
+        (factor_group text kind gs held (deep_members es) (sum_of es) (whole es) (membered es w.1 w.0 (held + 1)))
     termed (multiple c e) w held = subst (AsTerm (multiple c e) (deep_factor e) held) (sym (append-nil _))
         (term_multiple held c e w.0 (expression_text ns Behind e) (factored e w.1 held))
     termed (bracket_of a b) w held = as_member (bracket_of a b) (max (deep a) (deep b) + 1) held (expression_text ns Behind (bracket_of a b)) refl
         (factor_bracket text kind gs held a b (summed a w.0 (held + 1)) (summed b w.1 (held + 1)))
 
-    membered : (es : Trees Num) → AreWithin kind (length gs) es → 2 ≤ many es → (held : ℕ) → AsSum (sum_of es) (deep_members es) held (sum_text ns true es)
+    membered : (es : Trees Num) → AreWithin kind (length gs) es → 2 ≤ many es → (held : ℕ) → AsSum (sum_of es) (deep_members es) held (whole es)
     membered last w two held = absurd (omega arith)
-    membered (more e es) w two held = sum_members held e es two (termed e w.0 held) (furthered es w.1 held)
+    membered (more e es) w two held = subst (AsSum (sum_of (more e es)) (deep_members (more e es)) held)
+        (sym (not_small (more e es) two (sum_text ns true (more e es)))) (sum_members held e es two (termed e w.0 held) (furthered es w.1 held))
 
     furthered : (es : Trees Num) → AreWithin kind (length gs) es → (held : ℕ) → AsTerms es (deep_members es) held (sum_text ns false es)
     furthered last w held = terms_none held

@@ -1,20 +1,16 @@
 -- What is gathered stays as it is through the triples behind the last generator.
-use Rattle.std.specs.Prelude.{ℕ, ◌≡◌, ◌<◌, ◌≤◌, ◌⊎◌, ◌↔◌, List, [], ◌∷◌, ◌++◌, length, Option, None, Some, Result, Ok, Err, All, Contains}
+use Rattle.std.specs.Prelude.{ℕ, ◌≡◌, List, [], ◌∷◌, ◌++◌, length, Option, None, Some, Result, Ok, Err, All, Contains}
 use mathlib.Core.Path.{sym, refl, ap, ◌∙◌, subst}
 use mathlib.Core.Logic.{inl, inr}
 use native.Mathlib.Omega.{arith}
 use Rattle.std.proofs.lemmas.List.Elements.{Contains-append_left, Contains-append_right}
 use Rattle.math_fields.specs.Field.{Field}
-use Rattle.math_linear.specs.Vector.{Vector, vzero}
-use Rattle.math_linear.specs.Span.{Spanned}
-use Rattle.math_linear.specs.Linear.{IsLinear}
+use Rattle.math_linear.specs.Vector.{Vector}
 use Rattle.math_linear.specs.Closed.{swept}
-use Rattle.math_linear.proofs.Span.{spanned_one, spanned_through}
+use Rattle.math_linear.proofs.Span.{spanned_one}
 use Rattle.math_linear.proofs.Closed.{swept_span, span_swept}
 use Rattle.math_linear.proofs.Linear.{swept_linear}
 use Rattle.fpl_numbers.specs.declared.number.Num.{Num}
-use Rattle.fpl_numbers.specs.declared.number.Kind.{Kind}
-use Rattle.fpl_numbers.specs.declared.number.Kind.TheVariants.{Prime}
 use Rattle.fpl_numbers.specs.declared.number.Unfit.{Unfit}
 use Rattle.fpl_numbers.specs.Numbers.{IsField}
 use Rattle.fpl_numbers.specs.Kinds.{field_of, number_of}
@@ -22,10 +18,10 @@ use Rattle.fpl_numbers.specs.Results.{map_ok}
 use Rattle.fpl_numbers.specs.Reads.{Reads}
 use Rattle.fpl_numbers.proofs.KindReads.{kind_reads}
 use Rattle.fpl_rows.specs.Positions.{lead_of}
-use Rattle.fpl_rows.specs.Meaning.{vector_in, row_in, pivot_in, InSpanOf}
+use Rattle.fpl_rows.specs.Meaning.{row_in, pivot_in}
 use Rattle.fpl_rows.proofs.Fits.{ok_same, first_fits, part_fits}
 use Rattle.fpl_log.specs.declared.step.Origin.{Origin}
-use Rattle.plain_elimination.specs.Plain.{IsPivotRow, Swept, Held, Elimination, Inserted, inserted_as, sweep_of, insert_of, close_of, rows_of}
+use Rattle.plain_elimination.specs.Plain.{IsPivotRow, Swept, Held, Elimination, Inserted, inserted_as, sweep_of, insert_of, rows_of}
 use Rattle.plain_elimination.specs.Spans.{InSpanAt}
 use Rattle.plain_elimination.proofs.Spans.{standing, insert_reads}
 use Rattle.plain_elimination.proofs.Found.{close_means}
@@ -34,18 +30,17 @@ use Rattle.plain_lean.proofs.Inverting.{inserts_lean}
 use Rattle.plain_lean.proofs.Renumbering.{start_same}
 use Rattle.fpl_model.specs.declared.presentation.Presentation.{Presentation}
 use Rattle.fpl_table.specs.Plain.{PlainTable, symbols_in}
-use Rattle.plain_tables.specs.Holds.{Holds}
 use Rattle.fpl_rewrite.specs.Origins.{origins_of}
 use Rattle.fpl_rewrite.specs.Rows.{row_of_origin}
-use Rattle.plain_sources.specs.Late.{IsOtherPrime, IsReach, IsCut}
+use Rattle.plain_sources.specs.Late.{IsReach, Follows}
 use Rattle.plain_elimination.proofs.Fitting.{Always, prime_always, insert_fits, close_fits}
 use Rattle.plain_sources.proofs.Fitting.{origin_fits}
 use Rattle.plain_sources.proofs.HeldTables.{RowsStand, origin_vector, is_field, origins_stand, late_origins}
-use Rattle.plain_sources.proofs.Late.{nothing_late}
-use Rattle.plain_weights.specs.Weight.{begun, with_held, gather}
+use Rattle.plain_sources.proofs.Late.{nothing_late, in_done, in_rest}
+use Rattle.plain_weights.specs.Weight.{begun, gather}
 use Rattle.plain_weights.specs.Lean.{put_lean, gather_lean, LateAddNothing}
 use Rattle.plain_weights.proofs.Fitting.{gather_fits}
-use Rattle.plain_weights.proofs.Gathered.{ReadsRows, IsAmong, IsGathered, gather_spans}
+use Rattle.plain_weights.proofs.Gathered.{ReadsRows, IsGathered, gather_spans}
 use Rattle.plain_weights.proofs.Closed.{nothing_spanned}
 use Rattle.plain_weights.proofs.Leaning.{IsGatheredLean, gather_same}
 
@@ -62,20 +57,8 @@ none_keeps e row o y eq l =
     kept x h (Some s) n k = absurd (let q : ⊥ = cc in q)
 
 module _ (T : PlainTable) (p : Presentation) (done os : List Origin) (all : done ++ os ≡ origins_of T p) where
-  in_done : (o : Origin) → Contains done o → Contains (origins_of T p) o
-  in_done o c = subst (λ xs. Contains xs o) all (Contains-append_left done os o c)
-
-  in_rest : (o : Origin) → Contains os o → Contains (origins_of T p) o
-  in_rest o c = subst (λ xs. Contains xs o) all (Contains-append_right done os o c)
-
-  -- a linear function that is 0 at the vectors of the first is 0 at those of the rest
-  abbrev Follow : (k : Kind) → (Origin → Vector (field_of k)) → Type 0
-  Follow k vector =
-      (f : Vector (field_of k) → Vector (field_of k)) → IsLinear (field_of k) f → ((o : Origin) → Contains done o → f (vector o) ≡ vzero (field_of k)) →
-      (o : Origin) → Contains os o → f (vector o) ≡ vzero (field_of k)
-
   module _ (listed : IsField T.kind) (always : Always T.kind) (vector : Origin → Vector (field_of T.kind)) (stand : RowsStand p T T.kind vector)
-      (follow : Follow T.kind vector) where
+      (follow : Follows T.kind done os vector) where
     abbrev K : Field
     K = field_of T.kind
 
@@ -90,9 +73,9 @@ module _ (T : PlainTable) (p : Presentation) (done os : List Origin) (all : done
 
     first_read : ReadsRows T listed p n vector done
     first_read = record {
-      elements = λ o c row f. (stand o (in_done o c) row f).elements;
-      long = λ o c row f. (stand o (in_done o c) row f).long;
-      stands = λ o c row f. (stand o (in_done o c) row f).vector;
+      elements = λ o c row f. (stand o (in_done p T done os all o c) row f).elements;
+      long = λ o c row f. (stand o (in_done p T done os all o c) row f).long;
+      stands = λ o c row f. (stand o (in_done p T done os all o c) row f).vector;
     }
 
     none_yet : All (IsPivotRow T.kind n) (begun T).held.pivots
@@ -116,7 +99,7 @@ module _ (T : PlainTable) (p : Presentation) (done os : List Origin) (all : done
         put_lean T p o (holding lean) ≡ Ok (holding lean)
     put_same full lean g is o c =
         let row = origin_fits T always p o in
-        let r = stand o (in_rest o c) row.0 row.1 in
+        let r = stand o (in_rest p T done os all o c) row.0 row.1 in
         let z = insert_fits T.kind always n full row.0 o in
         let put = insert_reads T.kind K (number_of T.kind) reads listed n full row.0 o z.0 (standing T.kind K (number_of T.kind) reads listed n full.pivots g.rows)
         r.elements r.long z.1 in
@@ -163,7 +146,7 @@ late_add_nothing p T bound holds reach done os all cut e run = go reach
     go : IsReach T bound → gather_lean T p os e ≡ Ok e
     go (inl h) = subst (λ os. gather_lean T p os e ≡ Ok e) (sym (nothing_late p T bound h done os all cut)) refl
     go (inr h) =
-        subst (λ k. (vector : Origin → Vector (field_of k)) → RowsStand p T k vector → Follow T p done os all k vector → gather_lean T p os e ≡ Ok e) holds.kind
+        subst (λ k. (vector : Origin → Vector (field_of k)) → RowsStand p T k vector → Follows k done os vector → gather_lean T p os e ≡ Ok e) holds.kind
         (λ vector stand follow.
         late_same T p done os all (is_field p T holds) (subst Always (sym h.0.1) (prime_always h.0.0)) vector stand follow e run)
         (origin_vector p T) (origins_stand p T holds) (late_origins p T holds bound reach done os all cut)

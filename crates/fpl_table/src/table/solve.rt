@@ -16,6 +16,14 @@ use fpl_rows::Row;
 use fpl_scalar::Field;
 use std::alloc::{AllocError, Global};
 
+/// How many numbers a packed row tells beside its lead: so much room is asked for.
+fn room_of<F: Field>(row: &Row<F>) -> usize {
+    match row.cells() {
+        Some((places, _)) => places.len().saturating_sub(1),
+        None => 0,
+    }
+}
+
 impl<F: Field> Table<F> {
     /// How many basis elements there are with those of the next weight.
     pub(super) fn size_with(&self, closed: &ClosedRows<F>) -> u32
@@ -63,8 +71,9 @@ impl<F: Field> Table<F> {
     {
         let field = self.field();
         let basis = self.basis_len();
-        let mut places = Vec::new(alloc);
-        let mut numbers = Vec::new(alloc);
+        let room = room_of(row);
+        let mut places = Vec::with_capacity(alloc, room)?;
+        let mut numbers = Vec::with_capacity(alloc, room)?;
         let mut after = 0;
         while let Some(s) = row.next(after) {
             let t = s as usize - 1;
@@ -75,7 +84,7 @@ impl<F: Field> Table<F> {
             after = s;
         }
         let size = self.size_with(closed);
-        Row::spread(alloc, field, size, &places, &numbers)
+        Row::spread_vec(alloc, field, size, places, numbers)
     }
 
     /// What the symbol at place `s` is, over the basis with the new elements.

@@ -4,8 +4,8 @@ use Rattle.std.proofs.lemmas.Int.{to_z-of_z, ints}
 use Rattle.fpl_bytes.proofs.Pushed.{parts_pushed}
 use Rattle.fpl_bytes.proofs.writing.push_fraction.Goals as goal
 
-pub returns : goal.returns
-returns c =
+pub returns-clause-bytes : goal.returns-clause-bytes
+returns-clause-bytes c =
     parts_pushed (to_be_bytes w128)
     (of_z w128) c.args.out.now.items c.extend_from_slice.new.self.items c.extend_from_slice-2.new.self.items c.to_be_bytes.result c.to_be_bytes-2.result
     c.args.number.now.numerator c.args.number.now.denominator _ _ c.unsigned_abs.result

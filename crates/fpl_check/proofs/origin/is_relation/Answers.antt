@@ -1,5 +1,6 @@
 use Rattle.std.proofs.Common.{◌+◌, ◌-◌, sym, ap, arith}
-use Rattle.fpl_rewrite.proofs.Relations.{left_term, right_term, small_relation}
+use Rattle.fpl_model.proofs.Relations.{left_term, right_term}
+use Rattle.fpl_rewrite.proofs.Relations.{small_relation}
 use Rattle.fpl_check.proofs.Loops.{is_below}
 use Rattle.fpl_check.proofs.Weighed.{relation_none, relation_some}
 use Rattle.fpl_check.proofs.origin.is_relation.Goals as goal

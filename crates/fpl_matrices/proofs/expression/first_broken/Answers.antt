@@ -1,5 +1,5 @@
 use Rattle.std.proofs.Common.{◌<◌, length, arith}
-use Rattle.fpl_matrices.proofs.Sound.{few_relations, left_term, right_term}
+use Rattle.fpl_model.proofs.Relations.{few_relations, left_term, right_term}
 use Rattle.fpl_matrices.proofs.expression.first_broken.Goals as goal
 
 pub is_respected-requires-clause-left : goal.is_respected-requires-clause-left

@@ -6,7 +6,7 @@ use Rattle.fpl_reader.proofs.sentence.parse_text.Goals as goal
 
 pub loop-token-preserved : goal.loop-token-preserved
 loop-token-preserved c =
-    let step = rw c.in-Ok-Some.field-0-is at c.in-Ok-Some.ensures in
+    let step = rw c.in-Ok-Some.field-0-is at c.in-Ok-Some.ensures.next in
     let text = c.args.scope.now.text.now in
     let old = c.loop-token.stream in
     let new = c.next.new.self in (
@@ -19,7 +19,7 @@ loop-token-preserved c =
 
 pub returns-in-Ok-None-clause-fault : goal.returns-in-Ok-None-clause-fault
 returns-in-Ok-None-clause-fault c =
-    let step = rw c.in-Ok-None.field-0-is at c.in-Ok-None.ensures in
+    let step = rw c.in-Ok-None.field-0-is at c.in-Ok-None.ensures.next in
     fault_here c.args.scope.now.text.now (sight c.args.scope.now) c.loop-token.claims.items c.loop-token.state c.loop-token.k c.in-Some.token
     c.loop-token.stream c.next.new.self c.terminal_of.result _ c.syntax.result
     c.in-Some.ensures c.terminal_of.ensures step c.loop-token.invariant.0 c.loop-token.invariant.1 c.syntax.ensures

@@ -1,5 +1,6 @@
 use Rattle.std.proofs.Common.{◌-◌, arith}
-use Rattle.fpl_rewrite.proofs.Relations.{left_term, right_term, small_relation, relation_row_at}
+use Rattle.fpl_model.proofs.Relations.{left_term, right_term}
+use Rattle.fpl_rewrite.proofs.Relations.{small_relation, relation_row_at}
 use Rattle.fpl_rewrite.proofs.forms.relation_row.Goals as goal
 
 pub difference-requires-clause-left : goal.difference-requires-clause-left

@@ -1,5 +1,6 @@
 use Rattle.std.proofs.Common.{◌<◌, ◌+◌, length, ◌∙◌, arith}
-use Rattle.fpl_rewrite.proofs.Relations.{test_is, relation_here, relation_not, relations_end, few_relations, small_relation, left_term, right_term}
+use Rattle.fpl_model.proofs.Relations.{few_relations, left_term, right_term}
+use Rattle.fpl_rewrite.proofs.Relations.{test_is, relation_here, relation_not, relations_end, small_relation}
 use Rattle.fpl_rewrite.proofs.origins.next_relation.Goals as goal
 
 pub has_weight-requires-clause-left : goal.has_weight-requires-clause-left

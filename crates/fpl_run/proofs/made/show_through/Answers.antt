@@ -15,7 +15,7 @@ pub returns-in-Ok-clause-text : goal.returns-in-Ok-clause-text
 returns-in-Ok-clause-text g c =
     let run = c.args.run.now in
     let new = c.walk.new.run in
-    IfOk-weaker c.shown_text.result (λ text. text_of_view c.args.shown new.presentation new.stage.table new.stage.sections ≡ Ok text.items)
+    IfOk-weaker c.shown_text.result (λ text. text_of_view c.args.shown c.args.task.entries new.presentation new.stage.table new.stage.sections ≡ Ok text.items)
     (λ text. AnswersTask c.args.task (start_from run c.args.bytes.now) (done text.items))
     (λ text e. show_text c.args.task run c.args.bytes.now c.requires.begun new c.in-Ok.ensures.presentation c.in-Ok.ensures.comes c.args.shown c.requires.way
     text.items e)
@@ -27,7 +27,7 @@ returns-in-Ok-clause-stop g c =
     let new = c.walk.new.run in
     err_weaker c.shown_text.result
     (λ outcome. (reply_of outcome ≡ no_memory) ⊎ ((fault : ViewFault) × (reply_of outcome ≡ failed_in_view fault) ×
-    (text_of_view c.args.shown new.presentation new.stage.table new.stage.sections ≡ Err fault)))
+    (text_of_view c.args.shown c.args.task.entries new.presentation new.stage.table new.stage.sections ≡ Err fault)))
     (λ outcome. Stops c.args.task (start_from run c.args.bytes.now) (reply_of outcome))
     (λ outcome h. show_fault c.args.task run c.args.bytes.now c.requires.begun new c.in-Ok.ensures.presentation c.in-Ok.ensures.comes c.args.shown
     c.requires.way (reply_of outcome) h) c.shown_text.ensures.fault

@@ -3,7 +3,8 @@ use Rattle.fpl_reply.specs.Leaves.Leaves.{front}
 use Rattle.fpl_reply.proofs.Leaving.{leaves_quiet}
 use Rattle.fpl_run.specs.Words.{most_limit}
 use Rattle.fpl_run.specs.Read.{IsUnread}
-use Rattle.fpl_run.specs.Read.IsNoStart.{input_too_long}
+use Rattle.fpl_run.specs.Read.PresentsNone.{input_too_long}
+use Rattle.fpl_run.specs.Read.IsNoStart.{nothing_presented}
 use Rattle.fpl_run.specs.Answer.AnswersCommand.{no_start}
 use Rattle.fpl_run.proofs.Replies.{told_always, whole_input, passed_input, ended_inner, quiet_output}
 use Rattle.fpl_run.proofs.Costs.{costs_nothing}
@@ -61,7 +62,7 @@ pub returns-in-Err-TooLong-clause-reply : goal.returns-in-Err-TooLong-clause-rep
 returns-in-Err-TooLong-clause-reply g c =
     let now : IsUnread c.args.c.view → ⊥ = λ h. search rules in (
       passed_input _ _ _ _ (c.in-Err-TooLong.ensures.too_long (search rules)) (λ bytes l. inr
-          (leaves_quiet _ _ _ _ _ refl refl refl (no_start now _ (input_too_long l)))),
+          (leaves_quiet _ _ _ _ _ refl refl refl (no_start now _ (nothing_presented _ (input_too_long l))))),
       λ silent. absurd (now silent),
     )
 

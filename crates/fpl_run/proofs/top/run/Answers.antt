@@ -3,6 +3,7 @@ use Rattle.fpl_run.specs.Run.{MayPut}
 use Rattle.fpl_reply.proofs.Leaving.{says}
 use Rattle.fpl_run.proofs.Replies.{answered}
 use Rattle.fpl_run.proofs.Meaning as meaning
+use Rattle.fpl_run.proofs.Maps.{maps_mean}
 use Rattle.fpl_run.proofs.top.run.Goals as goal
 
 pub returns-clause-answer : goal.returns-clause-answer
@@ -12,6 +13,9 @@ returns-clause-answer g c =
 
 pub returns-clause-means : goal.returns-clause-means
 returns-clause-means g c = λ e. meaning.means _ _ _ _ _ c.answer_words-outcome.ensures.bytes c.answer_words-outcome.ensures.reply (sym c.status.ensures ∙ e)
+
+pub returns-clause-maps : goal.returns-clause-maps
+returns-clause-maps g c = λ e. maps_mean _ _ _ _ _ c.answer_words-outcome.ensures.bytes c.answer_words-outcome.ensures.reply (sym c.status.ensures ∙ e)
 
 pub returns-clause-nothing : goal.returns-clause-nothing
 returns-clause-nothing g c = λ none. c.answer_words-outcome.ensures.nothing (λ d is may. none d is (subst (λ s. MayPut d.view s) (sym c.status.ensures) may))

@@ -1,5 +1,4 @@
 use Rattle.std.proofs.Common.{arith}
-use Rattle.fpl_table.specs.Plain.{PlainTable}
 use Rattle.plain_sources.proofs.Laws.{rows_of_shape, weights_of_table}
 use Rattle.plain_cohomology.proofs.Low.{lows_elements}
 use Rattle.fpl_views.proofs.cohomology.show_cohomology.Goals as goal

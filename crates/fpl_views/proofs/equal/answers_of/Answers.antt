@@ -2,7 +2,7 @@ use Rattle.std.proofs.Common.{◌∙◌, sym, subst}
 use Rattle.fpl_rows.proofs.Fits.{all_more}
 use Rattle.fpl_print.specs.EqualText.{IsOfKind, AreOfKind}
 use Rattle.fpl_views.proofs.AnswerLists.{answer_step}
-use Rattle.fpl_views.proofs.Queries.{small_query}
+use Rattle.fpl_queries.proofs.Small.{small_query}
 use Rattle.fpl_views.proofs.equal.answers_of.Goals as goal
 
 pub answer-requires-clause-small : goal.answer-requires-clause-small

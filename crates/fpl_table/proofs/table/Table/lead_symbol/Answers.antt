@@ -1,8 +1,7 @@
-use Rattle.std.proofs.Common.{◌≡◌, ◌+◌, ◌-◌, ◌<◌, ◌++◌, length, map, get_or, ap, ap₂, refl, sym, subst, ◌∙◌, arith}
+use Rattle.std.proofs.Common.{◌≡◌, ◌+◌, ◌-◌, ◌<◌, ◌++◌, length, map, get_or, ap, refl, sym, subst, ◌∙◌, arith}
 use Rattle.std.proofs.lemmas.List.{map-append}
 use Rattle.fpl_numbers.specs.Numbers.{IsElement, residue, negative_of}
 use Rattle.fpl_scalar.specs.Vectors.{AreElements}
-use Rattle.fpl_rows.specs.Packing.{spread}
 use Rattle.fpl_rows.proofs.Firsts.{next_is_at}
 use Rattle.fpl_rows.proofs.Spreads.{spread_elements}
 use Rattle.fpl_table.specs.Plain.{symbols_in}
@@ -17,8 +16,8 @@ pub loop-s-init : goal.loop-s-init
 unfolding free_in
 loop-s-init g c = record {
   within = omega arith;
-  tells = rw (c.new-places.ensures.items, c.new-numbers.ensures.items) (tells_none (length c.args.self.now.basis) _);
-  elements = rw c.new-numbers.ensures.items (λ k d lt. absurd (omega (arith, lt)));
+  tells = rw (c.in_ok-places.ensures.items, c.in_ok-numbers.ensures.items) (tells_none (length c.args.self.now.basis) _);
+  elements = rw c.in_ok-numbers.ensures.items (λ k d lt. absurd (omega (arith, lt)));
 }
 
 pub index-requires : goal.index-requires
@@ -90,8 +89,8 @@ loop-s-preserved g c =
       elements = c.loop-s.invariant.elements;
     }
 
-pub spread-requires : goal.spread-requires
-spread-requires g c =
+pub spread_vec-requires : goal.spread_vec-requires
+spread_vec-requires g c =
     let rows = c.args.closed.now.rows.now in
     let n = length c.args.self.now.basis in
     let m = length (symbols_in c.args.self.now) in
@@ -100,8 +99,7 @@ spread-requires g c =
     let told = all_told n c.args.self.now.kind rows m c.args.closed.now.leads.items c.requires.solved.places.are_leads c.args.row.now c.requires.row
     c.loop-s.places.items (map g.F.Field.number c.loop-s.numbers.items) c.loop-s.after c.loop-s.invariant.within c.in_default.ensures
     c.loop-s.invariant.tells in
-    rw (c.deref.ensures.value, c.deref-2.ensures.value)
-    (told_packing g.F.Field.number n _ (free_in rows m) c.loop-s.places.items c.loop-s.numbers.items c.size_with-size.result size told)
+    told_packing g.F.Field.number n _ (free_in rows m) c.loop-s.places.items c.loop-s.numbers.items c.size_with-size.result size told
 
 pub returns-clause-value : goal.returns-clause-value
 returns-clause-value g c =
@@ -113,17 +111,15 @@ returns-clause-value g c =
     let told = all_told n c.args.self.now.kind rows m c.args.closed.now.leads.items c.requires.solved.places.are_leads c.args.row.now c.requires.row
     c.loop-s.places.items (map g.F.Field.number c.loop-s.numbers.items) c.loop-s.after c.loop-s.invariant.within c.in_default.ensures
     c.loop-s.invariant.tells in
-    ok_more _ _ c.spread.result
-    (λ row e. e ∙ ap₂ (λ ps ys. spread c.size_with-size.result ps (map g.F.Field.number ys)) c.deref.ensures.value c.deref-2.ensures.value
-    ∙ told_row g.F.Field.number n _ (free_in rows m) c.loop-s.places.items c.loop-s.numbers.items c.size_with-size.result size told
+    ok_more _ _ c.spread_vec.result
+    (λ row e. e ∙ told_row g.F.Field.number n _ (free_in rows m) c.loop-s.places.items c.loop-s.numbers.items c.size_with-size.result size told
     ∙ ap (λ free. zero_row n ++ map (λ t. negative_of c.args.self.now.kind (get_or c.args.row.now t (residue 0))) free) (sym c.requires.solved.places.free_is))
-    c.spread.ensures
+    c.spread_vec.ensures
 
 pub returns-clause-elements : goal.returns-clause-elements
 returns-clause-elements g c =
     let kind = c.args.self.now.kind in
-    let all : AreElements kind (map g.F.Field.number c.deref-2.result.now) = rw c.deref-2.ensures.value c.loop-s.invariant.elements in
-    ok_more _ _ c.spread.result
-    (λ row e. subst (AreElements kind) (sym e) (spread_elements kind c.size_with-size.result c.deref.result.now
-    (map g.F.Field.number c.deref-2.result.now) (nought_element kind c.basis_len-basis.ensures.shape.field) all))
-    c.spread.ensures
+    ok_more _ _ c.spread_vec.result
+    (λ row e. subst (AreElements kind) (sym e) (spread_elements kind c.size_with-size.result c.loop-s.places.items
+    (map g.F.Field.number c.loop-s.numbers.items) (nought_element kind c.basis_len-basis.ensures.shape.field) c.loop-s.invariant.elements))
+    c.spread_vec.ensures

@@ -1,0 +1,5 @@
+pub mod Numerals
+pub mod Texts
+pub mod Plain
+pub mod Lists
+pub mod Shows

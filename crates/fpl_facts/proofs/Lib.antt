@@ -1,0 +1,3 @@
+pub mod NextAxioms
+pub mod Units
+pub mod Copies

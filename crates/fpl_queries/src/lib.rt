@@ -1,0 +1,6 @@
+//! Queries: whether they are past a table's weight.
+#![tactic(auto)]
+
+mod queries;
+
+pub use queries::is_beyond;
