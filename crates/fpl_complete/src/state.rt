@@ -92,6 +92,7 @@ impl<F: Field> State<F> {
     pub fn sections(&self) -> &Sections
         ensures same { result.now ≡ self.now.sections }
         ensures weights { AreOfWeights self.now.table.weight self.now.sections }
+        ensures few { count_through self.now.table self.now.table.weight ≤ 2000000 }
         ensures accepted { AreAccepted self.now.presentation self.now.table self.now.sections }
         ensures writable { All (IsWritable self.now.presentation.field) self.now.sections }
     {

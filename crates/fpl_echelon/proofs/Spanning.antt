@@ -1,7 +1,9 @@
 -- Rows put in for what they span, and the solutions of free places.
-use Rattle.std.specs.Prelude.{◌≡◌, ℕ, ◌+◌, ◌-◌, ◌<◌, ◌≤◌, List, [], ◌∷◌, length, map, drop, slice_get, Option, Some, None, Result, Ok, Err, All, IfOk}
+use Rattle.std.specs.Prelude.{◌≡◌, ℕ, ◌+◌, ◌-◌, ◌<◌, ◌≤◌, List, [], ◌∷◌, ◌++◌, length, map, take, drop, slice_get, Option, Some, None, Result, Ok, Err, All, IfOk}
 use Rattle.std.specs.List.{find}
 use Rattle.std.proofs.Common.{subst, sym, ap, ◌∙◌, refl, arith}
+use Rattle.std.proofs.lemmas.List.{take_more, map-append}
+use Rattle.std.proofs.lemmas.Option.{slice_get_within, get_or_from_slice_get}
 use Rattle.math_linear.specs.Span.{IsRowOf as IsAmong}
 use Rattle.math_linear.specs.Lists.{joined}
 use Rattle.math_linear.specs.Span.Spanned.{span_kind}
@@ -21,7 +23,7 @@ use Rattle.plain_elimination.proofs.Found.{close_pivots}
 use Rattle.plain_spans.specs.Plain.{begin, put_row, put_rows, closed_of, closed_span, span_of, free_row, free_at, free_rows, kernel_by, kernel_of}
 use Rattle.plain_spans.specs.Means.{IsFormed, AreSolutions}
 use Rattle.plain_spans.proofs.Kernels.{free_is_row, kernel_means}
-use Rattle.plain_spans.proofs.Putting.{fault_part, fault_first, put_joined, joined_stops, formed_next, formed_rows, formed_row}
+use Rattle.plain_spans.proofs.Putting.{fault_part, fault_first, put_then, put_joined, joined_stops, formed_next, formed_rows, formed_row}
 
 abbrev pub held_as : List PivotRow → List Step → Held
 held_as pivots steps = record { pivots = pivots; steps = steps }
@@ -44,6 +46,15 @@ all_at kind here n m pivots k e h = subst (λ j. All (IsPivotRow kind j) pivots)
 pub put_next : (rows : List (List Num)) (k : ℕ) (row : List Num) (start : Result Elimination Unfit) (e new : Elimination) → Some row ≡ slice_get rows k →
     start ≡ put_rows (map Ok (drop k rows)) e → put_row (Ok row) e ≡ Ok new → start ≡ put_rows (map Ok (drop (k + 1) rows)) new
 put_next rows k row start e new is so_far h = so_far ∙ formed_next rows k row e is ∙ ap (and_then (put_rows (map Ok (drop (k + 1) rows)))) h
+
+-- the rows up to and with the next one
+pub put_taken : (rows : List (List Num)) (k : ℕ) (row : List Num) (b e new : Elimination) → Some row ≡ slice_get rows k →
+    put_rows (map Ok (take k rows)) b ≡ Ok e → put_row (Ok row) e ≡ Ok new → put_rows (map Ok (take (k + 1) rows)) b ≡ Ok new
+put_taken rows k row b e new is so_far h =
+    let within = slice_get_within rows k row (sym is) in
+    let one : take (k + 1) rows ≡ take k rows ++ row ∷ [] = take_more rows k row within ∙ ap (λ y. take k rows ++ y ∷ []) (get_or_from_slice_get rows k row row (sym is)) in
+    ap (λ xs. put_rows (map Ok xs) b) one ∙ ap (λ rs. put_rows rs b) (map-append Ok (take k rows) (row ∷ []))
+    ∙ put_then (map Ok (take k rows)) (Ok row ∷ []) b e new so_far (ap (and_then (put_rows [])) h)
 
 pub put_stops_at : (rows : List (List Num)) (k : ℕ) (row : List Num) (start : Result Elimination Unfit) (e : Elimination) (fault : Fault) →
     Some row ≡ slice_get rows k → start ≡ put_rows (map Ok (drop k rows)) e → IsFault fault (put_row (Ok row) e) → IsFault fault start

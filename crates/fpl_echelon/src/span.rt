@@ -1,4 +1,4 @@
-ghost use Rattle.std.specs.Prelude.{◌≡◌, ◌≤◌, ◌+◌, List, map, All, Ok, IfOk, OnErr};
+ghost use Rattle.std.specs.Prelude.{◌≡◌, ◌≤◌, ◌<◌, ◌+◌, ℕ, List, map, take, length, All, Ok, IfOk, OnErr};
 ghost use Rattle.fpl_numbers.specs.declared.number.Num.{Num};
 ghost use Rattle.fpl_numbers.specs.Results.{Gives, GivesBy, map_ok};
 ghost use Rattle.fpl_rows.specs.Meaning.{IsRowOf, AreRows};
@@ -72,10 +72,11 @@ impl<F: Field> Span<F> {
         }
     }
 
-    /// Puts rows in, in order, up to the first whose `put` ends in a `Fault`.
+    /// Puts rows in, in order, up to the first whose `put` ends in a `Fault`; the rows before that one are held then.
     pub fn put_all<L: Ledger>(&mut self, rows: &Rows<F>, steps: &mut Steps<L>) -> Result<(), Fault>
         requires rows { AreRows self.old.kind self.old.size rows.now }
         ensures value { Gives result self.new (put_rows (map Ok rows.now) self.old) }
+        ensures front { OnErr result ((k : ℕ) × (k < length rows.now) × (put_rows (map Ok (take k rows.now)) self.old ≡ Ok self.new)) }
         ensures kind { self.new.kind ≡ self.old.kind }
         ensures size { self.new.size ≡ self.old.size }
         ensures rises { steps.old ≤ steps.new }

@@ -1,5 +1,5 @@
 //! Words, and combinations of them.
-ghost use Rattle.std.specs.Prelude.{◌≡◌, ◌++◌, ◌∷◌, [], OnOk};
+ghost use Rattle.std.specs.Prelude.{◌≡◌, ◌++◌, ◌∷◌, [], OnOk, OnErr};
 
 use fpl_scalar::Field;
 use std::alloc::{AllocError, Global};
@@ -60,9 +60,10 @@ impl<F: Field> Poly<F> {
         }
     }
 
-    /// Puts a term last.
+    /// Puts a term last. On a refusal the combination is unchanged and the term is gone.
     pub fn push(&mut self, word: Word, number: F::Elem) -> Result<(), AllocError>
-        ensures { OnOk result (self.new ≡ self.old ++ (word, F.number number) ∷ []) }
+        ensures ok { OnOk result (self.new ≡ self.old ++ (word, F.number number) ∷ []) }
+        ensures err { OnErr result (self.new ≡ self.old) }
     {
         self.terms.push(Term { word, number })?;
         Ok(())

@@ -1,5 +1,7 @@
 -- The lines of the axioms that may stand next.
-use Rattle.std.proofs.Common.{◌≡◌, ◌<◌, ◌-◌, ◌+◌, ◌%◌, ℕ, zero, suc, [], ◌∷◌, refl, ap, ap₂, sym, subst, ◌∙◌, arith, All}
+use Rattle.std.proofs.Common.{◌≡◌, ◌<◌, ◌≤◌, ◌-◌, ℕ, zero, suc, List, [], ◌∷◌, length, get_or, refl, ap, ap₂, sym, subst, ◌∙◌, arith, All}
+use Rattle.std.proofs.lemmas.List.{get_or-map, length-map}
+use Rattle.std.proofs.lemmas.List.Elements.{All-get_or}
 use Rattle.std.proofs.Math.Nat.{mod-eq_of_lt}
 use Rattle.math_linear.proofs.Numbers.{minus_minus}
 use Rattle.fpl_numbers.specs.declared.number.Kind.{Kind}
@@ -7,25 +9,32 @@ use Rattle.fpl_numbers.specs.declared.number.Kind.TheVariants.{Prime}
 use Rattle.fpl_numbers.specs.Numbers.{IsListed, residue}
 use Rattle.fpl_numbers.specs.Kinds.{field_of, number_of}
 use Rattle.fpl_numbers.proofs.KindReads.{kind_reads_exactly, listed_prime}
-use Rattle.math_algebra.specs.Tree.{multiple, bracket_of}
+use Rattle.math_algebra.specs.Tree.{none, multiple, bracket_of}
 use Rattle.math_algebra.specs.Derives.{Expression, sum_all, sign, three}
-use Rattle.math_proofs.specs.Rules.IsInstance.{is_swap, is_jacobi, is_cube}
+use Rattle.math_proofs.specs.Rules.IsInstance.{is_swap, is_jacobi, is_cube, is_relation}
 use Rattle.math_proofs.specs.Rules as proofs
 use Rattle.fpl_model.specs.declared.expr.Expr.{Expr}
-use Rattle.fpl_model.specs.declared.expr.Expr.TheVariants.{Zero, Sum, Times, Br}
+use Rattle.fpl_model.specs.declared.expr.Expr.TheVariants.{Zero, Times, Br}
 use Rattle.fpl_model.specs.declared.presentation.Parity.{Parity}
 use Rattle.fpl_model.specs.declared.presentation.Parity.TheVariants.{Even, Odd}
-use Rattle.fpl_model.specs.Meaning.{parity_in}
+use Rattle.fpl_model.specs.Meaning.{plain, parity_in, equation_in, presentation_in}
+use Rattle.fpl_model.specs.Sound.{IsSound, IsSoundEquation}
+use Rattle.fpl_model.proofs.Terms.{term_within}
 use Rattle.fpl_lines.specs.declared.line.Rule.TheVariants as rule
 use Rattle.fpl_forms.specs.Ledgers.{PlainLedger, IsSoundLedger}
 use Rattle.fpl_forms.proofs.Trees.{tree-Zero, tree-Sum, tree-Times, tree-Br, over-Zero, over-Sum, over-Br}
 use Rattle.fpl_forms.proofs.Next.{k, tree, IsOver, Next, Instance, residue_over, plus_is, nought_is, unit_is}
-use Rattle.fpl_facts.specs.Axioms.{HasParityIn, swap_number, sign_number, jacobi_sum}
+use Rattle.fpl_facts.specs.Axioms.{HasParityIn, swap_number, sign_number, jacobi_sum, no_equation, relation_at}
 
 pub all_two : {A : Type 0} (P : A → Type 0) (x y : A) → P x → P y → All P (x ∷ y ∷ [])
 all_two P x y h l zero d lt = h
 all_two P x y h l (suc zero) d lt = l
 all_two P x y h l (suc (suc i)) d lt = absurd (omega (arith, lt))
+
+pub one_default : {A : Type 0} (xs : List A) (n : ℕ) (d e : A) → n < length xs → get_or xs n d ≡ get_or xs n e
+one_default [] n d e lt = absurd (omega (arith, lt))
+one_default (x ∷ xs) zero d e lt = refl
+one_default (x ∷ xs) (suc n) d e lt = one_default xs n d e (omega (arith, lt))
 
 less_at : (q : ℕ) → IsListed q → number_of (Prime q) (residue (q - 1)) ≡ (field_of (Prime q)).minus (field_of (Prime q)).unit
 less_at q listed =
@@ -59,19 +68,19 @@ module _ (L : PlainLedger) (s : IsSoundLedger L) where
   brought : {r : proofs.Rule} {e e' f f' : Expression (field_of (k L s))} → e' ≡ e → f' ≡ f → Instance L s r e f → Instance L s r e' f'
   brought {r} {e} {e'} {f} {f'} p q i = subst (λ f. Instance L s r e' f) (sym q) (subst (λ e. Instance L s r e f) (sym p) i)
 
-  less_is : number_of (k L s) (residue (L.prime - 1)) ≡ (field_of (k L s)).minus (field_of (k L s)).unit
+  pub less_is : number_of (k L s) (residue (L.prime - 1)) ≡ (field_of (k L s)).minus (field_of (k L s)).unit
   less_is =
       subst (λ k. number_of k (residue (L.prime - 1)) ≡ (field_of k).minus (field_of k).unit) (sym s.field) (less_at L.prime s.listed)
 
-  one_is : number_of (k L s) (residue 1) ≡ (field_of (k L s)).unit
+  pub one_is : number_of (k L s) (residue 1) ≡ (field_of (k L s)).unit
   one_is = unit_is (k L s) L.prime s.field s.listed
 
-  swap_is : (t u : Parity) → number_of (k L s) (residue (swap_number L.prime t u)) ≡ (field_of (k L s)).minus (sign (field_of (k L s)) (parity_in t) (parity_in u))
+  pub swap_is : (t u : Parity) → number_of (k L s) (residue (swap_number L.prime t u)) ≡ (field_of (k L s)).minus (sign (field_of (k L s)) (parity_in t) (parity_in u))
   swap_is Even u = less_is
   swap_is Odd Even = less_is
   swap_is Odd Odd = one_is ∙ sym (minus_minus (field_of (k L s)) (field_of (k L s)).unit)
 
-  sign_is : (t u : Parity) → number_of (k L s) (residue (sign_number L.prime t u)) ≡ sign (field_of (k L s)) (parity_in t) (parity_in u)
+  pub sign_is : (t u : Parity) → number_of (k L s) (residue (sign_number L.prime t u)) ≡ sign (field_of (k L s)) (parity_in t) (parity_in u)
   sign_is Even u = one_is
   sign_is Odd Even = one_is
   sign_is Odd Odd = less_is
@@ -117,3 +126,28 @@ module _ (L : PlainLedger) (s : IsSoundLedger L) where
         (is_cube (tree L s a) (three_is is) x);
     over = (over-Br L.presentation a (Br a a) h (over-Br L.presentation a a h h), over-Zero L.presentation);
   }
+
+  -- the relation at a place
+  next_relation_at : IsSound L.presentation → (r : ℕ) → r < length L.presentation.relations →
+      Next L s (get_or L.presentation.relations r no_equation).left (get_or L.presentation.relations r no_equation).right (rule.Relation (suc r))
+  next_relation_at sound r within =
+      let p = L.presentation in
+      let at = get_or-map (equation_in p.field) p.relations r no_equation (none, none) within in
+      let h = All-get_or (IsSoundEquation p) p.relations r no_equation within sound.relations in
+      let q = get_or p.relations r no_equation in
+      let lt : r < length (presentation_in p).relations = subst (λ m. r < m) (sym (length-map p.relations (equation_in p.field))) within in
+      record {
+        instance_of = brought (sym (ap (λ q. q.0) at)) (sym (ap (λ q. q.1) at)) (is_relation r lt);
+        over = (
+          term_within p.field (length p.generators) (plain q.left) h.0.0,
+          term_within p.field (length p.generators) (plain q.right) h.1.0,
+        );
+      }
+
+  -- relation r of the presentation, which counts from 1
+  pub next_relation : IsSound L.presentation → (r : ℕ) → 1 ≤ r → r ≤ length L.presentation.relations →
+      Next L s (relation_at L.presentation r).left (relation_at L.presentation r).right (rule.Relation r)
+  next_relation sound r from to =
+      let one : suc (r - 1) ≡ r = omega (arith, from) in
+      subst (λ m. Next L s (relation_at L.presentation r).left (relation_at L.presentation r).right (rule.Relation m)) one
+      (next_relation_at sound (r - 1) (omega (arith, from, to)))

@@ -1,5 +1,5 @@
 -- Sums of multiples of one atom.
-use Rattle.std.proofs.Common.{◌≡◌, ◌≢◌, ◌<◌, ◌-◌, ◌+◌, ◌*◌, ◌%◌, ◌/◌, ◌++◌, ℕ, List, [], ◌∷◌, Bool, false, nat_eq, if◌then◌else◌, refl, ap, ap₂, ◌∙◌, arith}
+use Rattle.std.proofs.Common.{◌≡◌, ◌≢◌, ◌<◌, ◌-◌, ◌+◌, ◌*◌, ◌%◌, ◌/◌, ◌++◌, ℕ, [], ◌∷◌, Bool, false, nat_eq, if◌then◌else◌, refl, ap, ap₂, ◌∙◌, arith}
 use Rattle.std.proofs.Math.Nat.{mod-eq_of_lt, mod_self, add-mod_left}
 use Rattle.std.proofs.lemmas.Nat.{mod-mul-add}
 use Rattle.fpl_numbers.specs.Numbers.{IsListed}

@@ -1,13 +1,14 @@
 //! Lines of the axioms.
-ghost use Rattle.std.specs.Prelude.{◌≡◌, ◌≤◌, ◌<◌, ◌-◌, IfOk, OnOk};
+ghost use Rattle.std.specs.Prelude.{◌≡◌, ◌≤◌, ◌<◌, ◌-◌, length, IfOk, OnOk};
 ghost use Rattle.fpl_numbers.specs.Numbers.{residue};
 ghost use Rattle.fpl_forms.specs.Ledgers.{IsExpr, Grows, Says};
-ghost use Rattle.fpl_facts.specs.Axioms.{HasParityIn, swap_number, sign_number, jacobi_sum};
+ghost use Rattle.fpl_model.specs.Sound.{IsSound};
+ghost use Rattle.fpl_facts.specs.Axioms.{HasParityIn, swap_number, sign_number, jacobi_sum, relation_at};
 
 use crate::zeros::past_two;
 use fpl_forms::{Ledger, bracket, multiple};
 use fpl_lines::{Line, Rule};
-use fpl_model::{Expr, Members, Parity};
+use fpl_model::{Expr, Members, Parity, Presentation};
 use std::alloc::{AllocError, Global};
 
 /// -(-1)^(st), modulo a prime.
@@ -115,5 +116,26 @@ pub fn cube<'a>(alloc: Global, ledger: &mut Ledger<'a>, a: &Expr) -> Result<u64,
     let left = bracket(alloc, a, &inner)?;
     let right = Expr::Zero;
     let why = Rule::Cube;
+    ledger.push(Line { left, right, why })
+}
+
+/// The left and the right side of relation `r`, which counts from 1.
+pub fn relation<'a>(
+    alloc: Global,
+    ledger: &mut Ledger<'a>,
+    p: &Presentation,
+    r: u32,
+) -> Result<u64, AllocError>
+    requires presentation { p.now ≡ ledger.old.presentation }
+    requires sound { IsSound p.now }
+    requires number { (1 ≤ r) × (r ≤ length p.now.relations) }
+    ensures grows { OnOk result (Grows ledger.old ledger.new) }
+    ensures says { IfOk result (λ n. Says ledger.new n (relation_at p.now r).left (relation_at p.now r).right) }
+{
+    ledger.sound();
+    let sides = &p.relations.as_slice()[r as usize - 1];
+    let left = sides.left.copy(alloc)?;
+    let right = sides.right.copy(alloc)?;
+    let why = Rule::Relation(r);
     ledger.push(Line { left, right, why })
 }

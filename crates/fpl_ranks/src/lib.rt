@@ -2,6 +2,7 @@
 #![tactic(auto)]
 
 mod elements;
+mod leading;
 mod putting;
 mod ranking;
 mod texts;

@@ -11,6 +11,7 @@ ghost use Rattle.fpl_matrices.specs.Laws.{NoneBroken};
 ghost use Rattle.fpl_ranks.specs.Ranks.{IsFor, AreBasisMatrices, IsOver, row_of, rank_at, ranks_of, AreRanks};
 
 use crate::elements::basis_matrices;
+use crate::leading::may_lead;
 use crate::putting::closed_rows;
 use fpl_matrices::{Assignment, Matrix};
 use fpl_rows::{Row, Rows};
@@ -73,7 +74,8 @@ fn rank<L: Ledger>(
     let size = a.shape().size();
     let weight = part(matrices, table.through(w - 1), table.through(w));
     let rows = rows_of(alloc, table, size * size, weight)?;
-    match closed_rows(alloc, table, size * size, &rows, steps) {
+    let mut flags = may_lead(alloc, table, a.shape(), &rows)?;
+    match closed_rows(alloc, table, size * size, &rows, &mut flags, steps) {
         Ok(closed) => Ok(closed.len()),
         Err(fault) => Err(fault),
     }

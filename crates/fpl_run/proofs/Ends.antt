@@ -12,11 +12,12 @@ use Rattle.fpl_reply.specs.Reply.{Reply, done, stopped, failed_in_view, no_memor
 use Rattle.fpl_reply.specs.Leaves.{Leaves}
 use Rattle.fpl_reply.specs.Leaves.Leaves.{front}
 use Rattle.fpl_reply.proofs.Leaving.{leaves_through, leaves_quiet}
+use Rattle.fpl_reasons.specs.Why.{IsWhyText}
 use Rattle.fpl_views.specs.declared.shown.Shown.{Shown}
 use Rattle.fpl_views.specs.Views.{text_of_view}
 use Rattle.fpl_run.specs.declared.start.Begin.{Begin}
 use Rattle.fpl_run.specs.declared.task.Way.{Way}
-use Rattle.fpl_run.specs.declared.task.Way.TheVariants.{Show, Check, Rank}
+use Rattle.fpl_run.specs.declared.task.Way.TheVariants.{Show, Check, Rank, Prove}
 use Rattle.fpl_run.specs.declared.task.Task.{Task}
 use Rattle.fpl_run.specs.Task.{does_compute}
 use Rattle.fpl_run.specs.CheckText.{check_text}
@@ -24,7 +25,7 @@ use Rattle.fpl_run.specs.Matrices.{text_of_ranks}
 use Rattle.fpl_run.specs.Start.{Start, with_matrices, walk_for, HasCome, cost_for}
 use Rattle.fpl_run.specs.Begin.{start_in, start_from, HasBegun, HasEnded, HasFailed, Stops}
 use Rattle.fpl_run.specs.Begin.Stops.{out_of_memory, at_fault, in_view}
-use Rattle.fpl_run.specs.Answer.{AnswersTask, IsFront, text_of_way, written_before}
+use Rattle.fpl_run.specs.Answer.{AnswersTask, IsFront, Gives, written_before}
 use Rattle.fpl_run.specs.Answer.AnswersTask.{stopped_at, fails_in_view, shown}
 
 pub at_ok : {X E : Type 0} (r : Result X E) (P : X → Type 0) (x : X) → r ≡ Ok x → IfOk r P → P x
@@ -101,15 +102,17 @@ module _ (t : Task) (run : PlainRun) (bytes : List ℕ) (has_begun : HasBegun ru
     come : HasCome t s
     come = ended_stop new.stage (walk_for t s) over
 
-    there : (way : Way) → t.way ≡ way → text_of_way t.way s t (walk_for t s).stage ≡ text_of_way way s t new.stage
-    there way is =
-        ap (text_of_way t.way s t) (ended_stage new.stage (walk_for t s) over) ∙ ap (λ (x : Way). text_of_way x s t new.stage) is
+    there : (x : Start) (way : Way) → t.way ≡ way → (r : Result (List ℕ) ViewFault) → Gives way x t new.stage r →
+        Gives t.way x t (walk_for t (start_from run bytes)).stage r
+    there x way is r k =
+        subst (λ (g : Stage). Gives t.way x t g r) (sym (ended_stage new.stage (walk_for t s) over))
+        (subst (λ (w : Way). Gives w x t new.stage r) (sym is) k)
 
     module _ (v : Shown) (way : t.way ≡ Show v) where
       text_there : (r : Result (List ℕ) ViewFault) → text_of_view v t.entries new.presentation new.stage.table new.stage.sections ≡ r →
-          text_of_way t.way s t (walk_for t s).stage ≡ r
+          Gives t.way s t (walk_for t s).stage r
       text_there r e =
-          there (Show v) way ∙ ap (λ (p : Presentation). text_of_view v t.entries p new.stage.table new.stage.sections) (sym kept) ∙ e
+          there s (Show v) way r (ap (λ (p : Presentation). text_of_view v t.entries p new.stage.table new.stage.sections) (sym kept) ∙ e)
 
       pub show_text : (text : List ℕ) → text_of_view v t.entries new.presentation new.stage.table new.stage.sections ≡ Ok text →
           AnswersTask t (start_from run bytes) (done text)
@@ -122,11 +125,9 @@ module _ (t : Task) (run : PlainRun) (bytes : List ℕ) (has_begun : HasBegun ru
 
     module _ (a : Assigned) (way : t.way ≡ Rank) where
       rank_there : (r : Result (List ℕ) ViewFault) → text_of_ranks new.presentation a new.stage.table ≡ r →
-          text_of_way t.way (with_matrices a s) t (walk_for t s).stage ≡ r
+          Gives t.way (with_matrices a s) t (walk_for t s).stage r
       rank_there r e =
-          ap (text_of_way t.way (with_matrices a s) t) (ended_stage new.stage (walk_for t s) over)
-          ∙ ap (λ (x : Way). text_of_way x (with_matrices a s) t new.stage) way
-          ∙ ap (λ (p : Presentation). text_of_ranks p a new.stage.table) (sym kept) ∙ e
+          there (with_matrices a s) Rank way r (ap (λ (p : Presentation). text_of_ranks p a new.stage.table) (sym kept) ∙ e)
 
       pub rank_text : (text : List ℕ) → text_of_ranks new.presentation a new.stage.table ≡ Ok text →
           AnswersTask t (with_matrices a (start_from run bytes)) (done text)
@@ -144,7 +145,10 @@ module _ (t : Task) (run : PlainRun) (bytes : List ℕ) (has_begun : HasBegun ru
     check_made way text e =
         let field : check_text run.presentation.field t.limit new.stage.table.weight (length bytes - new.stage.place) ≡ text =
         ap (λ (p : Presentation). check_text p.field t.limit new.stage.table.weight (length bytes - new.stage.place)) (sym kept) ∙ sym e in
-        shown come text (there Check way ∙ ap Ok field)
+        shown come text (there s Check way (Ok text) (ap Ok field))
+
+    pub proofs_made : t.way ≡ Prove → (text : List ℕ) → IsWhyText new.presentation new.stage.table text → AnswersTask t (start_from run bytes) (done text)
+    proofs_made way text h = shown come text (there s Prove way (Ok text) (subst (λ p. IsWhyText p new.stage.table text) kept h))
 
   pub none_made : (r : Reply) → r ≡ no_memory → Stops t (start_from run bytes) r
   none_made r e = subst (λ x. Stops t s x) (sym e) out_of_memory

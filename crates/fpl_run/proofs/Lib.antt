@@ -12,6 +12,7 @@ pub mod Begun
 pub mod Costs
 pub mod Meaning
 pub mod Maps
+pub mod Whys
 pub mod Standing
 pub mod Own
 pub mod Within

@@ -38,7 +38,7 @@ use Rattle.fpl_run.specs.Start.{Start, begun_for, walk_for, HasCome}
 use Rattle.fpl_run.specs.Read.{IsUnread, Presents, IsStart, most_bytes}
 use Rattle.fpl_run.specs.Read.Presents.{from_text, from_head, built_in}
 use Rattle.fpl_run.specs.Read.IsStart.{plain, with_map}
-use Rattle.fpl_run.specs.Answer.{AnswersTask, Answers, Fronts, text_of_way}
+use Rattle.fpl_run.specs.Answer.{AnswersTask, Answers, Fronts, Gives}
 use Rattle.fpl_run.specs.Answer.AnswersTask.{stopped_at, fails_in_view, shown}
 use Rattle.fpl_run.specs.Run.{ReadsNothing, IfTold, Means}
 use Rattle.fpl_run.proofs.Names.{command_in_range, one_command}
@@ -100,12 +100,12 @@ shown_plain c v made also = let no : Show v ≡ Rank = sym made ∙ also in cc
 
 -- what a reply says of its walk
 abbrev pub Tells : Task → Start → Reply → Type 0
-Tells t s (done text) = HasCome t s × (text_of_way t.way s t (walk_for t s).stage ≡ Ok text)
+Tells t s (done text) = HasCome t s × (Gives t.way s t (walk_for t s).stage (Ok text))
 Tells t s usage = Unit {0}
 Tells t s (refused place reason) = Unit {0}
 Tells t s (unsupported name) = Unit {0}
 Tells t s (stopped text fault) = (walk_for t s).stop ≡ Some (failed fault)
-Tells t s (failed_in_view fault) = HasCome t s × (text_of_way t.way s t (walk_for t s).stage ≡ Err fault)
+Tells t s (failed_in_view fault) = HasCome t s × (Gives t.way s t (walk_for t s).stage (Err fault))
 Tells t s no_memory = Unit {0}
 Tells t s read_fault = Unit {0}
 Tells t s write_fault = Unit {0}

@@ -4,7 +4,7 @@ use Rattle.std.specs.declared.option.Option.{Option}
 use Rattle.std.specs.Str.{bytes_eq}
 use Rattle.std.proofs.lemmas.Fmt.{decimal_injective}
 use Rattle.fpl_run.specs.declared.words.View.{View}
-use Rattle.fpl_run.specs.declared.words.View.TheVariants.{Table, Series, Gap, Log, Checkpoint, Centre, Lcs, Ideal, Cohomology, Equal, Check, Map, Sample, Envelope}
+use Rattle.fpl_run.specs.declared.words.View.TheVariants.{Table, Series, Gap, Log, Checkpoint, Centre, Lcs, Ideal, Cohomology, Equal, Check, Map, Sample, Envelope, Why}
 use Rattle.fpl_run.specs.declared.words.Command.{Command}
 use Rattle.fpl_run.specs.Words.{view_name, most_limit, IsCommand}
 
@@ -23,7 +23,8 @@ view_of text =
     if bytes_eq text (codes "check") then Some Check else
     if bytes_eq text (codes "map") then Some Map else
     if bytes_eq text (codes "sample") then Some Sample else
-    if bytes_eq text (codes "envelope") then Some Envelope else None
+    if bytes_eq text (codes "envelope") then Some Envelope else
+    if bytes_eq text (codes "why") then Some Why else None
 
 view_of_name : (v : View) → view_of (view_name v) ≡ Some v
 view_of_name Table = refl
@@ -40,6 +41,7 @@ view_of_name Check = refl
 view_of_name Map = refl
 view_of_name Sample = refl
 view_of_name Envelope = refl
+view_of_name Why = refl
 
 pub view_name_injective : (v w : View) → view_name v ≡ view_name w → v ≡ w
 view_name_injective v w e = let s : Some v ≡ Some w = sym (view_of_name v) ∙ ap view_of e ∙ view_of_name w in cc

@@ -9,13 +9,13 @@ use Rattle.fpl_reader.specs.Reading.{HasPresentation, IsRefused}
 use Rattle.fpl_reader.proofs.OneAnswer.{one_presentation, one_refusal, not_both}
 use Rattle.fpl_bytes.specs.declared.fault.BadBytes.{BadBytes}
 use Rattle.fpl_checkpoint.proofs.OneHead.{one_head, not_bad, one_refusal as one_refusal_of_head}
-use Rattle.fpl_walk.specs.Walk.{Fault, bad_bytes, Stop, ended, failed}
+use Rattle.fpl_walk.specs.Walk.{Stage, Fault, bad_bytes, Stop, ended, failed}
 use Rattle.fpl_reply.specs.declared.view_fault.ViewFault.{ViewFault}
 use Rattle.fpl_reader.specs.Reasons.{reason_text}
 use Rattle.fpl_reply.specs.Reply.{Reply, done, usage, refused, unsupported, stopped, failed_in_view, no_memory, read_fault, write_fault}
 use Rattle.fpl_run.specs.declared.words.Command.{Command}
 use Rattle.fpl_run.specs.declared.task.Way.{Way}
-use Rattle.fpl_run.specs.declared.task.Way.TheVariants.{Rank}
+use Rattle.fpl_run.specs.declared.task.Way.TheVariants.{Show, Write, Check, Rank, Prove}
 use Rattle.fpl_run.specs.declared.task.Task.{Task}
 use Rattle.fpl_run.specs.Words.{IsCommand}
 use Rattle.fpl_run.specs.Task.{way_of, task_for, IsOverPrimes, IsServed}
@@ -26,7 +26,7 @@ use Rattle.fpl_run.specs.Read.Presents.{from_text, from_head, built_in}
 use Rattle.fpl_run.specs.Read.PresentsNone.{input_too_long, text_too_long, no_presentation, no_head}
 use Rattle.fpl_run.specs.Read.IsStart.{plain, with_map}
 use Rattle.fpl_run.specs.Read.IsNoStart.{nothing_presented, unserved, not_mapped}
-use Rattle.fpl_run.specs.Answer.{AnswersTask, AnswersStart, AnswersCommand, Answers, text_of_way, written_before}
+use Rattle.fpl_run.specs.Answer.{AnswersTask, AnswersStart, AnswersCommand, Answers, Gives, written_before}
 use Rattle.fpl_run.specs.Answer.AnswersTask.{stopped_at, fails_in_view, shown}
 use Rattle.fpl_run.specs.Answer.AnswersCommand.{no_start, start}
 use Rattle.fpl_run.specs.Answer.Answers.{no_command, command}
@@ -58,23 +58,30 @@ module _ (t : Task) (s : Start) where
   abbrev stop : Option Stop
   stop = (walk_for t s).stop
 
-  abbrev text : Result (List ℕ) ViewFault
-  text = text_of_way t.way s t (walk_for t s).stage
+  gives_one : (way : Way) → (way ≡ Prove → ⊥) → (g : Stage) (q r : Result (List ℕ) ViewFault) → Gives way s t g q → Gives way s t g r → q ≡ r
+  gives_one (Show v) other g q r e k = sym e ∙ k
+  gives_one Write other g q r e k = sym e ∙ k
+  gives_one Check other g q r e k = sym e ∙ k
+  gives_one Rank other g q r e k = sym e ∙ k
+  gives_one Prove other g q r e k = absurd (other refl)
 
-  pub task_one : (q r : Reply) → AnswersTask t s q → AnswersTask t s r → q ≡ r
-  task_one _ _ (stopped_at f e) (stopped_at g k) = faults_one (written_before t.way s.presentation (walk_for t s).stage.sections) f g stop e k
-  task_one _ _ (stopped_at f e) (fails_in_view come g k) = absurd (no_fault_at_end f stop e come)
-  task_one _ _ (stopped_at f e) (shown come u k) = absurd (no_fault_at_end f stop e come)
-  task_one _ _ (fails_in_view come f e) (stopped_at g k) = absurd (no_fault_at_end g stop k come)
-  task_one _ _ (fails_in_view come f e) (fails_in_view also g k) = view_faults_one text f g e k
-  task_one _ _ (fails_in_view come f e) (shown also u k) = absurd (text_or_fault text u f k e)
-  task_one _ _ (shown come u e) (stopped_at g k) = absurd (no_fault_at_end g stop k come)
-  task_one _ _ (shown come u e) (fails_in_view also g k) = absurd (text_or_fault text u g e k)
-  task_one _ _ (shown come u e) (shown also v k) = results_one text u v e k
+  one_gives : (t.way ≡ Prove → ⊥) → (q r : Result (List ℕ) ViewFault) → Gives t.way s t (walk_for t s).stage q → Gives t.way s t (walk_for t s).stage r → q ≡ r
+  one_gives other q r e k = gives_one t.way other (walk_for t s).stage q r e k
+
+  pub task_one : (t.way ≡ Prove → ⊥) → (q r : Reply) → AnswersTask t s q → AnswersTask t s r → q ≡ r
+  task_one other _ _ (stopped_at f e) (stopped_at g k) = faults_one (written_before t.way s.presentation (walk_for t s).stage.sections) f g stop e k
+  task_one other _ _ (stopped_at f e) (fails_in_view come g k) = absurd (no_fault_at_end f stop e come)
+  task_one other _ _ (stopped_at f e) (shown come u k) = absurd (no_fault_at_end f stop e come)
+  task_one other _ _ (fails_in_view come f e) (stopped_at g k) = absurd (no_fault_at_end g stop k come)
+  task_one other _ _ (fails_in_view come f e) (fails_in_view also g k) = view_faults_one (Err f) f g refl (one_gives other (Err f) (Err g) e k)
+  task_one other _ _ (fails_in_view come f e) (shown also u k) = absurd (text_or_fault (Ok u) u f refl (one_gives other (Ok u) (Err f) k e))
+  task_one other _ _ (shown come u e) (stopped_at g k) = absurd (no_fault_at_end g stop k come)
+  task_one other _ _ (shown come u e) (fails_in_view also g k) = absurd (text_or_fault (Ok u) u g refl (one_gives other (Ok u) (Err g) e k))
+  task_one other _ _ (shown come u e) (shown also v k) = results_one (Ok u) u v refl (one_gives other (Ok u) (Ok v) e k)
 
 module _ (c : Command) where
-  pub start_one : (s : Start) (q r : Reply) → AnswersStart c s q → AnswersStart c s r → q ≡ r
-  start_one s = task_one (task_for c (way_of c.view)) s
+  pub start_one : (way_of c.view ≡ Prove → ⊥) → (s : Start) (q r : Reply) → AnswersStart c s q → AnswersStart c s r → q ≡ r
+  start_one other s = task_one (task_for c (way_of c.view)) s other
 
   -- the task of a command
   pub built_task : (way : Way) → way_of c.view ≡ way → (s : Start) (r : Reply) → AnswersStart c s r → AnswersTask (task_for c way) s r
@@ -162,11 +169,11 @@ module _ (c : Command) where
     none_one reads _ _ (not_mapped s h sv made q i) (not_mapped t k tv also r j) =
         not_mapped_one bytes t.presentation c.limit q r (subst (λ p. IsNotMapped c.limit bytes p q) (field_same s t h k) i) j
 
-    command_one : (q r : Reply) → AnswersCommand c bytes q → AnswersCommand c bytes r → q ≡ r
-    command_one _ _ (no_start a q h) (no_start b r k) = none_one a q r h k
-    command_one _ _ (no_start a q h) (start t is r k) = absurd (start_or_none a t q is h)
-    command_one _ _ (start s is q h) (no_start b r k) = absurd (start_or_none b s r is k)
-    command_one _ _ (start s is q h) (start t also r k) = start_one t q r (subst (λ (x : Start). AnswersStart c x q) (starts_one s t is also) h) k
+    command_one : (way_of c.view ≡ Prove → ⊥) → (q r : Reply) → AnswersCommand c bytes q → AnswersCommand c bytes r → q ≡ r
+    command_one other _ _ (no_start a q h) (no_start b r k) = none_one a q r h k
+    command_one other _ _ (no_start a q h) (start t is r k) = absurd (start_or_none a t q is h)
+    command_one other _ _ (start s is q h) (no_start b r k) = absurd (start_or_none b s r is k)
+    command_one other _ _ (start s is q h) (start t also r k) = start_one other t q r (subst (λ (x : Start). AnswersStart c x q) (starts_one s t is also) h) k
 
     -- the reply to a start, where the view is built
     pub task_reply : (way : Way) → way_of c.view ≡ way → (s : Start) → IsStart c bytes s → (r : Reply) → AnswersCommand c bytes r →
@@ -208,8 +215,8 @@ of_words words bytes c is _ (no_command none) = absurd (none c is)
 of_words words bytes c is _ (command d also r a) = subst (λ (x : Command). AnswersCommand x bytes r) (one_command words d c also is) a
 
 pub one_reply : OneReply
-one_reply words bytes _ _ (no_command a) (no_command b) = refl
-one_reply words bytes _ _ (no_command a) (command c is s b) = absurd (a c is)
-one_reply words bytes _ _ (command c is r a) (no_command b) = absurd (b c is)
-one_reply words bytes _ _ (command c is r a) (command d is' s b) =
-    command_one d bytes r s (subst (λ (x : Command). AnswersCommand x bytes r) (one_command words c d is is') a) b
+one_reply words bytes _ _ other (no_command a) (no_command b) = refl
+one_reply words bytes _ _ other (no_command a) (command c is s b) = absurd (a c is)
+one_reply words bytes _ _ other (command c is r a) (no_command b) = absurd (b c is)
+one_reply words bytes _ _ other (command c is r a) (command d is' s b) =
+    command_one d bytes (other d is') r s (subst (λ (x : Command). AnswersCommand x bytes r) (one_command words c d is is') a) b

@@ -1,6 +1,7 @@
 -- A checkpoint of a presentation's own has the reply of the presentation, and passes a check.
-use Rattle.std.proofs.Common.{◌≡◌, ℕ, zero, suc, ◌≤◌, ◌⊎◌, inl, inr, List, ◌∷◌, take, Bool, true, false, Ok, Some, refl, sym, ap, ◌∙◌, subst, arith}
+use Rattle.std.proofs.Common.{◌≡◌, ℕ, zero, suc, ◌≤◌, ◌⊎◌, inl, inr, List, ◌∷◌, take, Bool, true, false, Ok, Err, Some, refl, sym, ap, ◌∙◌, subst, arith}
 use mathlib.Core.Path.{ap₂}
+use Rattle.std.specs.declared.result.Result.{Result}
 use Rattle.fpl_numbers.specs.declared.number.Kind.TheVariants.{Rational}
 use Rattle.fpl_log.specs.declared.section.Section.{Section}
 use Rattle.fpl_model.specs.declared.presentation.Presentation.{Presentation}
@@ -13,11 +14,12 @@ use Rattle.plain_streams.specs.Streams.{IsStreamOf, nothing}
 use Rattle.plain_streams.specs.Laws.{GiveSame, PassesWith, walk_from}
 use Rattle.plain_streams.proofs.Heads.{have_heads, heads_are_of, own_streams_give, own_streams_pass}
 use Rattle.fpl_reply.specs.declared.status.Status.TheVariants.{Done, Limit}
+use Rattle.fpl_reply.specs.declared.view_fault.ViewFault.{ViewFault}
 use Rattle.fpl_reply.specs.Reply.{Reply, unsupported, stopped, fault_status, status_of}
 use Rattle.fpl_views.specs.Views.{text_of_view}
 use Rattle.fpl_run.specs.declared.words.Command.{Command}
 use Rattle.fpl_run.specs.declared.task.Way.{Way}
-use Rattle.fpl_run.specs.declared.task.Way.TheVariants.{Show, Write, Check, Rank}
+use Rattle.fpl_run.specs.declared.task.Way.TheVariants.{Show, Write, Check, Rank, Prove}
 use Rattle.fpl_run.specs.declared.task.Task.{Task}
 use Rattle.fpl_run.specs.Words.{view_name}
 use Rattle.fpl_run.specs.Task.{way_of, task_for, does_compute, IsOverPrimes, IsServed}
@@ -29,7 +31,7 @@ use Rattle.fpl_run.specs.Read.PresentsNone.{input_too_long, text_too_long, no_pr
 use Rattle.fpl_run.specs.Read.IsStart.{plain, with_map}
 use Rattle.fpl_run.specs.Read.IsNoStart.{nothing_presented, unserved, not_mapped}
 use Rattle.fpl_run.specs.Stream.{stream_text}
-use Rattle.fpl_run.specs.Answer.{AnswersTask, AnswersStart, AnswersCommand, text_of_way, written_before}
+use Rattle.fpl_run.specs.Answer.{AnswersTask, AnswersStart, AnswersCommand, GivesProofs, Gives, written_before}
 use Rattle.fpl_run.specs.Answer.AnswersTask.{stopped_at, fails_in_view, shown}
 use Rattle.fpl_run.specs.Answer.AnswersCommand.{no_start, start}
 use Rattle.fpl_run.specs.Laws.{IsCheckpointOf, OwnCheckpoints}
@@ -41,16 +43,20 @@ computes (Show v) other = refl
 computes Write other = refl
 computes Check other = absurd (other refl)
 computes Rank other = refl
+computes Prove other = refl
 
--- a view that computes has one text of one table and its sections, whatever was stored
-text_same : (way : Way) → does_compute way ≡ true → (way ≡ Rank → ⊥) → (s t : Start) (task : Task) (g h : Stage) → s.presentation ≡ t.presentation →
-    g.table ≡ h.table → g.sections ≡ h.sections → text_of_way way s task g ≡ text_of_way way t task h
-text_same (Show v) c whole s t task g h p e f =
-    ap (λ (x : Presentation). text_of_view v task.entries x g.table g.sections) p ∙ ap (λ (x : PlainTable). text_of_view v task.entries t.presentation x g.sections) e ∙
-    ap (λ (x : List Section). text_of_view v task.entries t.presentation h.table x) f
-text_same Write c whole s t task g h p e f = ap₂ (λ x y. Ok (stream_text x y)) p f
-text_same Check c whole s t task g h p e f = cc
-text_same Rank c whole s t task g h p e f = absurd (whole refl)
+-- what a view that computes gives is told by the table and its sections, whatever was stored
+gives_same : (way : Way) → does_compute way ≡ true → (way ≡ Rank → ⊥) → (s t : Start) (task : Task) (g h : Stage) → s.presentation ≡ t.presentation →
+    g.table ≡ h.table → g.sections ≡ h.sections → (r : Result (List ℕ) ViewFault) → Gives way s task g r → Gives way t task h r
+gives_same (Show v) c whole s t task g h p e f r k =
+    sym (ap (λ (x : Presentation). text_of_view v task.entries x g.table g.sections) p
+    ∙ ap (λ (x : PlainTable). text_of_view v task.entries t.presentation x g.sections) e
+    ∙ ap (λ (x : List Section). text_of_view v task.entries t.presentation h.table x) f) ∙ k
+gives_same Write c whole s t task g h p e f r k = sym (ap₂ (λ x y. Ok (stream_text x y)) p f) ∙ k
+gives_same Check c whole s t task g h p e f r k = cc
+gives_same Rank c whole s t task g h p e f r k = absurd (whole refl)
+gives_same Prove c whole s t task g h p e f r k =
+    subst (λ (x : PlainTable). GivesProofs t.presentation x r) e (subst (λ (x : Presentation). GivesProofs x g.table r) p k)
 
 passing_fault : (f : Fault) → PassesWith (Some (failed f)) → fault_status f ≡ Limit
 passing_fault (too_many w n) h = refl
@@ -84,17 +90,17 @@ module _ (c : Command) (p : Presentation) (bytes : List ℕ) (own : IsCheckpoint
     come_too (inl e) = inl (sym same_walks.stop ∙ e)
     come_too (inr e) = inr (sym same_walks.stop ∙ e)
 
-    text_too : text_of_way way (of_head bytes h) t (walk_for t (of_head bytes h)).stage ≡
-        text_of_way way (of_text p) t (walk_for t (of_text p)).stage
-    text_too = text_same way goes other (of_head bytes h) (of_text p) t (walk_for t (of_head bytes h)).stage (walk_for t (of_text p)).stage
+    gives_too : (r : Result (List ℕ) ViewFault) → Gives way (of_head bytes h) t (walk_for t (of_head bytes h)).stage r →
+        Gives way (of_text p) t (walk_for t (of_text p)).stage r
+    gives_too = gives_same way goes other (of_head bytes h) (of_text p) t (walk_for t (of_head bytes h)).stage (walk_for t (of_text p)).stage
         (held h has) same_walks.table same_walks.sections
 
     alone : (r : Reply) → AnswersTask t (of_head bytes h) r → AnswersTask t (of_text p) r
     alone _ (stopped_at f e) =
         subst (λ (x : List ℕ). AnswersTask t (of_text p) (stopped x f)) (ap₂ (written_before way) (sym (held h has)) (sym same_walks.sections))
         (stopped_at f (sym same_walks.stop ∙ e))
-    alone _ (fails_in_view come f e) = fails_in_view (come_too come) f (sym text_too ∙ e)
-    alone _ (shown come text e) = shown (come_too come) text (sym text_too ∙ e)
+    alone _ (fails_in_view come f e) = fails_in_view (come_too come) f (gives_too (Err f) e)
+    alone _ (shown come text e) = shown (come_too come) text (gives_too (Ok text) e)
 
   alone_start : (way_of c.view ≡ Check → ⊥) → (h : Head) → HasHead bytes h → (r : Reply) → AnswersStart c (of_head bytes h) r →
       AnswersStart c (of_text p) r

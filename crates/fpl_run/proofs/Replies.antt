@@ -17,7 +17,7 @@ use Rattle.fpl_views.specs.declared.shown.Shown.TheVariants.{Sample}
 use Rattle.fpl_run.specs.declared.words.View.{View}
 use Rattle.fpl_run.specs.declared.words.Command.{Command}
 use Rattle.fpl_run.specs.declared.task.Way.{Way}
-use Rattle.fpl_run.specs.declared.task.Way.TheVariants.{Show, Write, Check, Rank}
+use Rattle.fpl_run.specs.declared.task.Way.TheVariants.{Show, Write, Check, Rank, Prove}
 use Rattle.fpl_run.specs.declared.task.Task.{Task}
 use Rattle.fpl_run.specs.Words.{IsCommand}
 use Rattle.fpl_run.specs.Task.{way_of, task_for}
@@ -118,6 +118,7 @@ module _ (c : Command) (bytes : List ℕ) where
   task_quiet s Write is _ (stopped_at f e) never = absurd (never (fault_may_put c.view f is))
   task_quiet s Check is _ (stopped_at f e) never = refl
   task_quiet s Rank is _ (stopped_at f e) never = refl
+  task_quiet s Prove is _ (stopped_at f e) never = refl
   task_quiet s way is _ (fails_in_view come f e) never = refl
   task_quiet s way is _ (shown come text e) never = absurd (never tt)
 

@@ -14,7 +14,7 @@ use Rattle.fpl_reply.specs.declared.outcome.Refusal.{Refusal}
 use Rattle.fpl_reply.specs.Outcome.{refusal_text}
 use Rattle.fpl_reply.specs.Reply.{Reply, done, refused}
 use Rattle.fpl_run.specs.declared.task.Way.{Way}
-use Rattle.fpl_run.specs.declared.task.Way.TheVariants.{Show, Write, Check, Rank}
+use Rattle.fpl_run.specs.declared.task.Way.TheVariants.{Show, Write, Check, Rank, Prove}
 use Rattle.fpl_run.specs.Separator.{IsFirstSeparator, HasNoSeparator, after_separator, IsTextBefore, IsTextOf}
 use Rattle.fpl_run.specs.Separator.IsTextBefore.{before, whole}
 use Rattle.fpl_run.specs.Matrices.{HasMatrices, MapFails}
@@ -41,6 +41,7 @@ texts_one (Show v) bytes t u e k = e ∙ sym k
 texts_one Write bytes t u e k = e ∙ sym k
 texts_one Check bytes t u e k = e ∙ sym k
 texts_one Rank bytes t u e k = texts_before_one bytes t u e k
+texts_one Prove bytes t u e k = e ∙ sym k
 
 before_shorter : (bytes text : List ℕ) → IsTextBefore bytes text → length text ≤ length bytes
 before_shorter bytes _ (before at f) = let e = length-take at bytes in omega (arith, e)
@@ -51,6 +52,7 @@ text_shorter (Show v) bytes text e = omega (arith, ap length e)
 text_shorter Write bytes text e = omega (arith, ap length e)
 text_shorter Check bytes text e = omega (arith, ap length e)
 text_shorter Rank bytes text e = before_shorter bytes text e
+text_shorter Prove bytes text e = omega (arith, ap length e)
 
 given_one : (r : Result Assigned MapError) (a b : Assigned) → r ≡ Ok a → r ≡ Ok b → a ≡ b
 given_one r a b e k = let same : Ok a ≡ Ok b = sym e ∙ k in cc

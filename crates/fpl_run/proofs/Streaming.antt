@@ -1,5 +1,5 @@
 -- The end of a walk whose sections are written.
-use Rattle.std.proofs.Common.{◌≡◌, ℕ, ◌⊎◌, ◌++◌, ◌∷◌, inl, inr, List, [], length, take, None, Some, refl, sym, ap, subst, ◌∙◌, append_assoc}
+use Rattle.std.proofs.Common.{◌≡◌, ℕ, ◌⊎◌, ◌++◌, ◌∷◌, inl, inr, List, [], length, take, None, Some, Ok, refl, sym, ap, subst, ◌∙◌, append_assoc}
 use Rattle.std.specs.declared.option.Option.{Option}
 use Rattle.fpl_log.specs.declared.section.Section.{Section}
 use Rattle.fpl_model.specs.declared.presentation.Presentation.{Presentation}
@@ -23,7 +23,7 @@ use Rattle.fpl_run.specs.declared.task.Task.{Task}
 use Rattle.fpl_run.specs.Task.{does_compute}
 use Rattle.fpl_run.specs.Start.{Start, walk_for}
 use Rattle.fpl_run.specs.Stream.{stream_text}
-use Rattle.fpl_run.specs.Answer.{AnswersTask, IsFront, text_of_way, written_before}
+use Rattle.fpl_run.specs.Answer.{AnswersTask, IsFront, Gives, written_before}
 use Rattle.fpl_run.specs.Answer.AnswersTask.{stopped_at, shown}
 use Rattle.fpl_run.specs.Begin.{start_from, HasBegun, HasEnded, HasFailed}
 use Rattle.fpl_run.proofs.Streams.{stream_put, front_of, head_part, part_within, section_part}
@@ -99,7 +99,8 @@ module _ (t : Task) (s : Start) (w : Walked) (way : t.way ≡ Write) (same : w �
   pub streamed_task : (r : Reply) → IsStreamed s.presentation w r → AnswersTask t s r
   streamed_task _ (to_the_limit e) =
       shown (subst (λ (v : Walked). (v.stop ≡ None) ⊎ (v.stop ≡ Some ended)) same e) (stream_text s.presentation w.stage.sections)
-      (ap (λ (x : Way). text_of_way x s t (walk_for t s).stage) way ∙ ap (λ (v : Walked). text_of_way Write s t v.stage) (sym same))
+      (subst (λ (x : Way). Gives x s t (walk_for t s).stage (Ok (stream_text s.presentation w.stage.sections))) (sym way)
+      (ap (λ (v : Walked). Ok (stream_text s.presentation v.stage.sections)) (sym same)))
   streamed_task _ (to_a_fault f e) =
       let stop : (walk_for t s).stop ≡ Some (failed f) = ap (λ (v : Walked). v.stop) (sym same) ∙ e in
       let text : written_before t.way s.presentation (walk_for t s).stage.sections ≡ stream_text s.presentation w.stage.sections =

@@ -24,7 +24,7 @@ use Rattle.fpl_views.specs.Overflows.{in_view}
 use Rattle.fpl_reply.specs.Reply.{Reply, unsupported, status_of}
 use Rattle.fpl_run.specs.declared.words.Command.{Command}
 use Rattle.fpl_run.specs.declared.task.Way.{Way}
-use Rattle.fpl_run.specs.declared.task.Way.TheVariants.{Show, Write, Check, Rank}
+use Rattle.fpl_run.specs.declared.task.Way.TheVariants.{Show, Write, Check, Rank, Prove}
 use Rattle.fpl_run.specs.declared.task.Task.{Task}
 use Rattle.fpl_run.specs.Words.{view_name, most_limit}
 use Rattle.fpl_run.specs.Task.{way_of, task_for, does_compute, IsOverPrimes, IsServed}
@@ -37,7 +37,7 @@ use Rattle.fpl_run.specs.Read.Presents.{from_text, built_in}
 use Rattle.fpl_run.specs.Read.IsNotMapped.{no_matrices, map_fails, relation_breaks}
 use Rattle.fpl_run.specs.Read.IsStart.{plain, with_map}
 use Rattle.fpl_run.specs.Read.IsNoStart.{nothing_presented, unserved, not_mapped}
-use Rattle.fpl_run.specs.Answer.{AnswersTask, AnswersStart, AnswersCommand, text_of_way}
+use Rattle.fpl_run.specs.Answer.{AnswersTask, AnswersStart, AnswersCommand, Gives}
 use Rattle.fpl_run.specs.Answer.AnswersTask.{stopped_at, fails_in_view, shown}
 use Rattle.fpl_run.specs.Answer.AnswersCommand.{no_start, start}
 use Rattle.fpl_run.specs.Laws.{IsInput, IsWithinLimits, WithinLimits, FractionsUnsupported}
@@ -103,11 +103,12 @@ module _ (words : List (List ℕ)) (bytes : List ℕ) (h : IsWithinLimits words 
   abbrev with_map_of : Assigned → Start
   with_map_of a = record { presentation = h.presentation; stored = s.stored; place = 0; has = false; matrices = a }
 
-  no_fault : (a : Assigned) (way : Way) → h.way ≡ way → (f : ViewFault) → text_of_way way (with_map_of a) t (walk_for t s).stage ≡ Err f → ⊥
+  no_fault : (a : Assigned) (way : Way) → h.way ≡ way → (f : ViewFault) → Gives way (with_map_of a) t (walk_for t s).stage (Err f) → ⊥
   no_fault a (Show v) is f e = h.shows v is (walk_for t s).stage.table (walk_for t s).stage.sections f table standard.raised e
   no_fault a Write is f e = cc
   no_fault a Check is f e = cc
   no_fault a Rank is f e = ranks_text is a f e
+  no_fault a Prove is f e = e
 
   task_done : (a : Assigned) (r : Reply) → AnswersTask t (with_map_of a) r → status_of r ≡ Done
   task_done a _ (stopped_at f e) = absurd (no_fault_at_end f (walk_for t s).stop e (inl come))
@@ -136,6 +137,7 @@ module _ (words : List (List ℕ)) (bytes : List ℕ) (h : IsWithinLimits words 
   whole_text Write whole = refl
   whole_text Check whole = refl
   whole_text Rank whole = absurd (whole refl)
+  whole_text Prove whole = refl
 
   sample_plain : IsUnread h.command.view → way_of h.command.view ≡ Rank → ⊥
   sample_plain unread made = ranked_reads h.command made unread

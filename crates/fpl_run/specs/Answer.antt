@@ -1,6 +1,7 @@
 -- The reply to words and the bytes of an input. At each step exactly one of the cases holds.
---   text_of_way way s t stage: for a task t the text of a view over the last stage of its walk, or a fault of its own: the text of the table; the checkpoint;
---   how many sections passed a check, and how many bytes stand after them; or the ranks by the matrices
+--   GivesProofs p T r: a text of proofs; no fault is its own
+--   Gives way s t stage r: for a task t the text of a view over the last stage of its walk, or a fault of its own: the text of the table; the checkpoint;
+--   how many sections passed a check, and how many bytes stand after them; the ranks by the matrices; or any text of proofs
 --   written_before way p sections: what a view has written when a fault stops its walk: a checkpoint the head and the sections of
 --     the weights below, others nothing
 --   AnswersTask t s: a fault stops the walk at a weight; or it comes to its end, and the view has a fault of its own; or a text
@@ -15,10 +16,12 @@ use Rattle.fpl_model.specs.declared.presentation.Presentation.{Presentation}
 use Rattle.fpl_walk.specs.Walk.{Stage, Fault, failed}
 use Rattle.fpl_reply.specs.declared.view_fault.ViewFault.{ViewFault}
 use Rattle.fpl_reply.specs.Reply.{Reply, done, usage, stopped, failed_in_view}
+use Rattle.fpl_table.specs.Plain.{PlainTable}
+use Rattle.fpl_reasons.specs.Why.{IsWhyText}
 use Rattle.fpl_views.specs.Views.{text_of_view}
 use Rattle.fpl_run.specs.declared.words.Command.{Command}
 use Rattle.fpl_run.specs.declared.task.Way.{Way}
-use Rattle.fpl_run.specs.declared.task.Way.TheVariants.{Show, Write, Check, Rank}
+use Rattle.fpl_run.specs.declared.task.Way.TheVariants.{Show, Write, Check, Rank, Prove}
 use Rattle.fpl_run.specs.declared.task.Task.{Task}
 use Rattle.fpl_run.specs.Words.{IsCommand, IsNoCommand}
 use Rattle.fpl_run.specs.Task.{way_of, task_for}
@@ -28,23 +31,29 @@ use Rattle.fpl_run.specs.CheckText.{check_text}
 use Rattle.fpl_run.specs.Stream.{stream_text}
 use Rattle.fpl_run.specs.Read.{IsUnread, IsStart, IsNoStart}
 
-abbrev pub text_of_way : Way → Start → Task → Stage → Result (List ℕ) ViewFault
-text_of_way (Show v) s t stage = text_of_view v t.entries s.presentation stage.table stage.sections
-text_of_way Write s t stage = Ok (stream_text s.presentation stage.sections)
-text_of_way Check s t stage = Ok (check_text s.presentation.field t.limit stage.table.weight (length s.stored.bytes - stage.place))
-text_of_way Rank s t stage = text_of_ranks s.presentation s.matrices stage.table
+abbrev pub GivesProofs : Presentation → PlainTable → Result (List ℕ) ViewFault → Type 0
+GivesProofs p T (Ok text) = IsWhyText p T text
+GivesProofs p T (Err fault) = ⊥
+
+abbrev pub Gives : Way → Start → Task → Stage → Result (List ℕ) ViewFault → Type 0
+Gives (Show v) s t stage r = text_of_view v t.entries s.presentation stage.table stage.sections ≡ r
+Gives Write s t stage r = Ok (stream_text s.presentation stage.sections) ≡ r
+Gives Check s t stage r = Ok (check_text s.presentation.field t.limit stage.table.weight (length s.stored.bytes - stage.place)) ≡ r
+Gives Rank s t stage r = text_of_ranks s.presentation s.matrices stage.table ≡ r
+Gives Prove s t stage r = GivesProofs s.presentation stage.table r
 
 abbrev pub written_before : Way → Presentation → List Section → List ℕ
 written_before (Show v) p sections = []
 written_before Write p sections = stream_text p sections
 written_before Check p sections = []
 written_before Rank p sections = []
+written_before Prove p sections = []
 
 pub data AnswersTask (t : Task) (s : Start) : Reply → Type 0 where
   stopped_at : (fault : Fault) → (walk_for t s).stop ≡ Some (failed fault) → AnswersTask t s
       (stopped (written_before t.way s.presentation (walk_for t s).stage.sections) fault)
-  fails_in_view : HasCome t s → (fault : ViewFault) → text_of_way t.way s t (walk_for t s).stage ≡ Err fault → AnswersTask t s (failed_in_view fault)
-  shown : HasCome t s → (text : List ℕ) → text_of_way t.way s t (walk_for t s).stage ≡ Ok text → AnswersTask t s (done text)
+  fails_in_view : HasCome t s → (fault : ViewFault) → Gives t.way s t (walk_for t s).stage (Err fault) → AnswersTask t s (failed_in_view fault)
+  shown : HasCome t s → (text : List ℕ) → Gives t.way s t (walk_for t s).stage (Ok text) → AnswersTask t s (done text)
 
 abbrev pub AnswersStart : Command → Start → Reply → Type 0
 AnswersStart c s reply = AnswersTask (task_for c (way_of c.view)) s reply

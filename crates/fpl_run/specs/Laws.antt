@@ -1,5 +1,5 @@
 -- What the replies obey. The words spell the command c, and the bytes of an input are bytes.
---   OneReply: words and the bytes of an input have at most one reply
+--   OneReply: words and the bytes of an input have at most one reply, where no proofs are asked for; of these any will do
 --   OneText: inputs with one presentation, whoever made the checkpoints among them, have one text of a view that is of the table alone
 --   WalksAreStandard: the table of a walk is the standard table of the presentation that was read, through the weight that the walk has
 --     come to, and its symbols
@@ -44,7 +44,7 @@ use Rattle.fpl_views.specs.declared.shown.Shown.{Shown}
 use Rattle.fpl_views.specs.Views.{text_of_view, IsOfTable}
 use Rattle.fpl_run.specs.declared.words.Command.{Command}
 use Rattle.fpl_run.specs.declared.task.Way.{Way}
-use Rattle.fpl_run.specs.declared.task.Way.TheVariants.{Show, Write, Check, Rank}
+use Rattle.fpl_run.specs.declared.task.Way.TheVariants.{Show, Write, Check, Rank, Prove}
 use Rattle.fpl_run.specs.Words.{IsCommand, view_name}
 use Rattle.fpl_run.specs.Task.{way_of, task_for, does_compute, IsOverPrimes, IsServed}
 use Rattle.fpl_run.specs.Separator.{IsFirstSeparator}
@@ -54,7 +54,9 @@ use Rattle.fpl_run.specs.Read.{IsUnread, Presents, IsStart, most_bytes, most_tex
 use Rattle.fpl_run.specs.Answer.{Answers, AnswersStart}
 
 abbrev pub OneReply : Type 0
-OneReply = (words : List (List ℕ)) (bytes : List ℕ) (r s : Reply) → Answers words bytes r → Answers words bytes s → r ≡ s
+OneReply =
+    (words : List (List ℕ)) (bytes : List ℕ) (r s : Reply) → ((c : Command) → IsCommand words c → way_of c.view ≡ Prove → ⊥) →
+    Answers words bytes r → Answers words bytes s → r ≡ s
 
 abbrev pub OneText : Type 0
 OneText =

@@ -4,6 +4,7 @@
 --   Means c bytes v text: the text shows a view of a table that is the standard table of the presentation that was read, through the limit, and was raised by
 --   sections that a check accepts
 --   MeansMap c bytes text: the text shows what matrices that were read see of the presentation
+--   MeansWhy c bytes text: the text shows for each query of the presentation that was read a proof that its sides are equal, or that there is none
 --   IsWritten view: sections are written along the way
 --   MayPut view status: something may stand in the output of a view that has ended with this status: its text after Done, a part of it after a failing put; of
 --   a checkpoint also what was written before a fault stopped the run or memory ran out
@@ -18,6 +19,7 @@ use Rattle.fpl_table.specs.Standard.{IsTableOf}
 use Rattle.fpl_complete.specs.State.{AreAccepted}
 use Rattle.fpl_reply.specs.declared.status.Status.{Status}
 use Rattle.fpl_reply.specs.declared.status.Status.TheVariants.{Done, Usage, Refused, BadCheckpoint, Limit, Overflow, NoMemory, ReadFault, WriteFault, Unsupported}
+use Rattle.fpl_reasons.specs.Why.{ShowsWhy}
 use Rattle.fpl_views.specs.declared.shown.Shown.{Shown}
 use Rattle.fpl_views.specs.Views.{Shows}
 use Rattle.fpl_run.specs.declared.words.View.{View}
@@ -52,6 +54,13 @@ pub record MeansMap (c : Command) (bytes text : List ℕ) : Type 0 where
   pub matrices : Assigned
   pub given : HasMatrices bytes presentation matrices
   pub shows : ShowsMap presentation matrices c.limit text
+
+pub record MeansWhy (c : Command) (bytes text : List ℕ) : Type 0 where
+  pub start : Start
+  pub read : IsStart c bytes start
+  pub table : PlainTable
+  pub standard : IsTableOf start.presentation c.limit table
+  pub shows : ShowsWhy start.presentation table text
 
 abbrev pub IsWritten : View → Type 0
 IsWritten view = way_of view ≡ Write

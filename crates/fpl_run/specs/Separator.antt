@@ -8,7 +8,7 @@
 --   none; else all
 use Rattle.std.specs.Prelude.{ℕ, ◌≡◌, ◌≤◌, ◌<◌, ◌+◌, ◌-◌, ◌⊎◌, List, length, take, min, slice_index}
 use Rattle.fpl_run.specs.declared.task.Way.{Way}
-use Rattle.fpl_run.specs.declared.task.Way.TheVariants.{Show, Write, Check, Rank}
+use Rattle.fpl_run.specs.declared.task.Way.TheVariants.{Show, Write, Check, Rank, Prove}
 
 abbrev pub IsLineAt : List ℕ → ℕ → Type 0
 IsLineAt bytes at = (at ≡ 0) ⊎ ((1 ≤ at) × (slice_index bytes (at - 1) ≡ 10))
@@ -39,3 +39,4 @@ IsTextOf (Show v) bytes text = text ≡ bytes
 IsTextOf Write bytes text = text ≡ bytes
 IsTextOf Check bytes text = text ≡ bytes
 IsTextOf Rank bytes text = IsTextBefore bytes text
+IsTextOf Prove bytes text = text ≡ bytes

@@ -1,5 +1,5 @@
 -- How a command is done.
---   way_of view: how a view is made: a text of the table; sections written along the way; a check of those stored; or how much matrices see of the table
+--   way_of view: how a view is made: a text of the table; sections written along the way; a check of those stored; how much matrices see of the table; or proofs
 --   task_for c way: a command that is done so
 --   does_compute way: whether the weights are computed whose sections aren't stored, as all do but a check
 --   IsCounted way: a row that it gives to an elimination is an origin of a weight
@@ -14,7 +14,7 @@ use Rattle.fpl_run.specs.declared.words.View.{View}
 use Rattle.fpl_run.specs.declared.words.View.TheVariants as view
 use Rattle.fpl_run.specs.declared.words.Command.{Command}
 use Rattle.fpl_run.specs.declared.task.Way.{Way}
-use Rattle.fpl_run.specs.declared.task.Way.TheVariants.{Show, Write, Check, Rank}
+use Rattle.fpl_run.specs.declared.task.Way.TheVariants.{Show, Write, Check, Rank, Prove}
 use Rattle.fpl_run.specs.declared.task.Task.{Task}
 
 abbrev pub way_of : View → Way
@@ -32,6 +32,7 @@ way_of view.Envelope = Show shown.Envelope
 way_of view.Checkpoint = Write
 way_of view.Check = Check
 way_of view.Map = Rank
+way_of view.Why = Prove
 
 abbrev pub task_for : Command → Way → Task
 task_for c way = record { way = way; limit = c.limit; entries = c.entries }
@@ -45,12 +46,14 @@ IsCounted (Show v) = views.IsCounted v
 IsCounted Write = Unit {0}
 IsCounted Check = Unit {0}
 IsCounted Rank = ⊥
+IsCounted Prove = Unit {0}
 
 abbrev pub IsOverPrimes : Way → Type 0
 IsOverPrimes (Show v) = views.IsOverPrimes v
 IsOverPrimes Write = ⊥
 IsOverPrimes Check = ⊥
 IsOverPrimes Rank = Unit {0}
+IsOverPrimes Prove = Unit {0}
 
 abbrev pub IsServed : Way → Kind → Type 0
 IsServed way kind = IsOverPrimes way → kind ≡ Rational → ⊥

@@ -9,7 +9,7 @@
 -- A number is spelled in decimal, without a sign or a leading zero.
 use Rattle.std.specs.Prelude.{◌≡◌, ℕ, ◌≤◌, List, [], ◌∷◌, ◌⊎◌, codes, decimal, map, string_bytes, String}
 use Rattle.fpl_run.specs.declared.words.View.{View}
-use Rattle.fpl_run.specs.declared.words.View.TheVariants.{Table, Series, Gap, Log, Checkpoint, Centre, Lcs, Ideal, Cohomology, Equal, Check, Map, Sample, Envelope}
+use Rattle.fpl_run.specs.declared.words.View.TheVariants.{Table, Series, Gap, Log, Checkpoint, Centre, Lcs, Ideal, Cohomology, Equal, Check, Map, Sample, Envelope, Why}
 use Rattle.fpl_run.specs.declared.words.Command.{Command}
 
 abbrev pub spelled : {Z : Type 0} → List (String Z) → List (List ℕ)
@@ -30,6 +30,7 @@ view_name Check = codes "check"
 view_name Map = codes "map"
 view_name Sample = codes "sample"
 view_name Envelope = codes "envelope"
+view_name Why = codes "why"
 
 abbrev pub most_limit : View → ℕ
 most_limit Sample = 64

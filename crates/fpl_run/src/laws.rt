@@ -4,7 +4,7 @@
 ghost use Rattle.fpl_run.specs.Laws.{OneReply, OneText, WalksAreStandard, PrimesFit, StopsMean, LimitComes, FaultsCome, OwnCheckpoints, CheckpointsAreOwn, WithinLimits, FractionsUnsupported};
 
 /// Words and the bytes of an input have at most one reply: so the status, the text and the line of a run are
-/// exactly those that they have, but for want of memory and faults.
+/// exactly those that they have, but for want of memory and faults. Where proofs are asked for, any will do.
 pub fn one_reply()
     ensures { OneReply }
 {}

@@ -7,6 +7,7 @@ mod check_text;
 mod laws;
 mod made;
 mod map;
+mod proved;
 mod ranked;
 mod read;
 mod separator;

@@ -63,6 +63,6 @@ pub(crate) fn text_of(way: Way, bytes: &[u8]) -> &[u8]
 {
     match way {
         Way::Rank => text_before(bytes),
-        Way::Show(_) | Way::Write | Way::Check => bytes,
+        Way::Show(_) | Way::Write | Way::Check | Way::Prove => bytes,
     }
 }

@@ -26,6 +26,7 @@ fn view_named(word: &str) -> Option<View>
         "map" => Some(View::Map),
         "sample" => Some(View::Sample),
         "envelope" => Some(View::Envelope),
+        "why" => Some(View::Why),
         _ => None,
     }
 }
@@ -49,6 +50,7 @@ pub(crate) fn name_of(view: View) -> &'static [u8]
         View::Map => b"map",
         View::Sample => b"sample",
         View::Envelope => b"envelope",
+        View::Why => b"why",
     }
 }
 

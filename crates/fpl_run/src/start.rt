@@ -16,6 +16,7 @@ ghost use Rattle.fpl_run.specs.Begin.{start_in, start_from, HasBegun};
 ghost use Rattle.fpl_run.specs.Pace.{IsPaced};
 
 use crate::made::{check_through, put_made, show_through};
+use crate::proved::prove_through;
 use crate::stream::stream;
 use crate::task::{Task, Way, way_of};
 use crate::words::Command;
@@ -65,6 +66,7 @@ fn through<F: Viewed, O: Sink, L: Ledger>(
         Way::Write => stream(alloc, task, run, bytes, out, steps),
         Way::Show(shown) => put_made(out, show_through(alloc, task, shown, run, bytes, steps)),
         Way::Check => put_made(out, check_through(alloc, task, run, bytes, steps)),
+        Way::Prove => put_made(out, prove_through(alloc, task, run, bytes, steps)),
         Way::Rank => unreachable!(),
     }
 }

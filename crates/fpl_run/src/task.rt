@@ -19,6 +19,8 @@ pub enum Way {
     Check,
     /// Its text says how much matrices of the generators see of the table, once the weights are done.
     Rank,
+    /// Its text has proofs from the axioms, once the weights are done.
+    Prove,
 }
 
 /// A way through a weight limit, as a command asks for it.
@@ -48,6 +50,7 @@ pub(crate) fn way_of(view: View) -> Way
         View::Checkpoint => Way::Write,
         View::Check => Way::Check,
         View::Map => Way::Rank,
+        View::Why => Way::Prove,
     }
 }
 
@@ -64,7 +67,7 @@ fn is_over_primes(way: Way) -> bool
     match way {
         Way::Show(shown) => shown.is_over_primes(),
         Way::Write | Way::Check => false,
-        Way::Rank => true,
+        Way::Rank | Way::Prove => true,
     }
 }
 

@@ -8,11 +8,11 @@ ghost use Rattle.fpl_reply.specs.Outcome.{reply_of};
 ghost use Rattle.fpl_reply.specs.Leaves.{Says, Leaves, IsAnswered};
 ghost use Rattle.fpl_views.specs.declared.shown.Shown.{Shown};
 ghost use Rattle.fpl_run.specs.declared.words.Command.{Command};
-ghost use Rattle.fpl_run.specs.declared.task.Way.TheVariants.{Show, Rank};
+ghost use Rattle.fpl_run.specs.declared.task.Way.TheVariants.{Show, Rank, Prove};
 ghost use Rattle.fpl_run.specs.Words.{spelled, IsCommand, IsNoCommand};
 ghost use Rattle.fpl_run.specs.Task.{way_of};
 ghost use Rattle.fpl_run.specs.Answer.{Answers, Fronts};
-ghost use Rattle.fpl_run.specs.Run.{ReadsNothing, IfTold, Means, MeansMap, MayPut, Spends};
+ghost use Rattle.fpl_run.specs.Run.{ReadsNothing, IfTold, Means, MeansMap, MeansWhy, MayPut, Spends};
 
 use crate::read::answer_command;
 use crate::spelling::command;
@@ -73,6 +73,10 @@ pub fn run<I: Source, O: Sink, E: Sink, L: Ledger>(
     // Of matrices, what was written shows whether the presentation's relations hold for them, and what they see of its standard table.
     ensures maps { result ≡ Status.Done → IfTold (ReadsNothing (spelled words.now.items)) (I.left input.old) (λ bytes. (c : Command) → IsCommand (spelled words.now.items) c →
         way_of c.view ≡ Rank → (text : List ℕ) × Takes (O.taken out.old) (O.taken out.new) text × MeansMap c bytes text) }
+
+    // Of proofs, what was written shows for each query one from the axioms, each of whose lines is derivable; or that its sides aren't derivably equal.
+    ensures proofs { result ≡ Status.Done → IfTold (ReadsNothing (spelled words.now.items)) (I.left input.old) (λ bytes. (c : Command) → IsCommand (spelled words.now.items) c →
+        way_of c.view ≡ Prove → (text : List ℕ) × Takes (O.taken out.old) (O.taken out.new) text × MeansWhy c bytes text) }
 
     ensures line { (reply : Reply) × (status_of reply ≡ result) × Says (E.taken err.old) (E.taken err.new) (E.faults err.old) (E.faults err.new) (line_of reply) }
 

@@ -31,6 +31,8 @@ pub enum View {
     Sample,
     /// The enveloping superalgebra, in ordered words.
     Envelope,
+    /// For each query a proof from the axioms that its two sides are equal.
+    Why,
 }
 
 /// A view through a weight limit.

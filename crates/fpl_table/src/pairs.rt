@@ -1,5 +1,5 @@
 //! What a pair of basis elements stands for in a sum.
-ghost use Rattle.std.specs.Prelude.{◌≡◌, ◌≤◌, ◌+◌, ◌-◌, ℕ, List, length, Result, OnOk};
+ghost use Rattle.std.specs.Prelude.{◌≡◌, ◌≤◌, ◌+◌, ◌-◌, ℕ, List, length, Result, OnOk, IfErr};
 ghost use Rattle.fpl_numbers.specs.declared.number.Num.{Num};
 ghost use Rattle.fpl_numbers.specs.declared.number.Unfit.{Unfit};
 ghost use Rattle.fpl_numbers.specs.Numbers.{IsElement};
@@ -23,7 +23,7 @@ pub trait PairTerm<F: Field> {
     /// The plain run: a multiple of what a pair stands for is added.
     ghost term: { Self → PlainTable → ℕ → ℕ → Num → List Num → Result (List Num) Unfit };
 
-    /// Adds `m` times what the pair of `i` and `j` stands for.
+    /// Adds `m` times what the pair of `i` and `j` stands for. Where memory is wanting the sum stays as it was.
     fn add_term(
         &self,
         table: &Table<F>,
@@ -40,7 +40,8 @@ pub trait PairTerm<F: Field> {
         requires whole { length sum.old ≡ places self.now table.now }
         ensures value { Gives result sum.new (term self.now table.now (i - 1) (j - 1) (F.number m) sum.old) }
         ensures elements { OnOk result (AreElements table.now.kind sum.new) }
-        ensures whole { length sum.new ≡ length sum.old };
+        ensures whole { length sum.new ≡ length sum.old }
+        ensures memory { IfErr result (λ fault. fault ≡ Fault.NoMemory → sum.new ≡ sum.old) };
 }
 
 /// Each pair stands for its entry, which is 0 past the table's weight.

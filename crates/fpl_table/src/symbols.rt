@@ -1,4 +1,4 @@
-ghost use Rattle.std.specs.Prelude.{◌≡◌, ◌≤◌, ◌<◌, ◌+◌, ◌-◌, ◌^◌, length, map, slice_index_or, IfOk, OnOk, All};
+ghost use Rattle.std.specs.Prelude.{◌≡◌, ◌≤◌, ◌<◌, ◌+◌, ◌-◌, ◌^◌, length, map, slice_index_or, IfOk, IfErr, OnOk, All};
 ghost use Rattle.indexmap.specs.IndexMap.{get};
 ghost use Rattle.fpl_numbers.specs.Numbers.{IsElement};
 ghost use Rattle.fpl_numbers.specs.Results.{Gives};
@@ -86,7 +86,7 @@ impl Symbols {
         self.numbers.get(&x).copied()
     }
 
-    /// Adds `c` at a symbol. What is none of the symbols counts as 0.
+    /// Adds `c` at a symbol. What is none of the symbols counts as 0. Where memory is wanting the row stays as it was.
     pub fn add_at<F: Field>(
         &self,
         field: &F,
@@ -101,6 +101,7 @@ impl Symbols {
         ensures value { Gives result row.new (added_at (F.kind_of field.now) row.old (place_of (symbol_in x) self.now.symbols) (F.number c)) }
         ensures elements { OnOk result (AreElements (F.kind_of field.now) row.new) }
         ensures whole { length row.new ≡ length row.old }
+        ensures memory { IfErr result (λ fault. fault ≡ Fault.NoMemory → row.new ≡ row.old) }
     {
         match self.number(x) {
             Some(s) => row.add_at(field, s, c),

@@ -1,6 +1,7 @@
 pub mod Made
 pub mod SameRows
 pub mod AnswerLists
+pub mod Reasons
 pub mod Answers
 pub mod Derivations
 pub mod Cocycles

@@ -16,7 +16,9 @@ mod shown;
 mod space;
 mod table;
 mod viewed;
+mod why;
 
 pub use laws::{views_of_tables, views_show};
 pub use shown::{ShowError, Shown, show};
 pub use viewed::{Viewed, residues};
+pub use why::show_why;

@@ -1,7 +1,12 @@
--- The terms of a fact over the basis are the value of the left side of its line.
+-- The terms of a fact over the basis are the value of the left side of its line, and forms tell whether two values are the same.
 use Rattle.std.proofs.Common.{◌≡◌, ◌<◌, ℕ, List, length, map, get_or, refl, ap, sym, subst, ◌∙◌, arith, All}
+use Rattle.std.specs.Prelude.{◌↔◌}
+use Rattle.std.proofs.Math.Path.{fun_ext}
 use Rattle.std.proofs.lemmas.List.{get_or-map, length-map}
 use Rattle.std.proofs.lemmas.List.Elements.{All-get_or}
+use Rattle.fpl_numbers.specs.declared.number.Kind.{Kind}
+use Rattle.fpl_numbers.specs.declared.number.Kind.TheVariants.{Prime}
+use Rattle.fpl_numbers.specs.Numbers.{IsListed}
 use Rattle.fpl_numbers.specs.Kinds.{field_of}
 use Rattle.math_algebra.specs.Tree.{IsOver}
 use Rattle.math_algebra.specs.Derives.{Derives}
@@ -17,8 +22,11 @@ use Rattle.fpl_table.specs.Standard.{IsTableOf, printed_tree}
 use Rattle.plain_tables.proofs.Holding.{sound_is_sound}
 use Rattle.fpl_why.proofs.Axioms.{term_over}
 use Rattle.fpl_forms.specs.Ledgers.{PlainLedger, IsSoundLedger, IsWithin, proof_in, no_line, left_of, right_of}
+use Rattle.fpl_forms.specs.declared.term.Term.{Term}
+use Rattle.fpl_forms.specs.Laws.{number_in, IsForm}
 use Rattle.fpl_forms.proofs.Ledgers.{cited}
-use Rattle.plain_facts.specs.Values.{FactsAreValues, value_in}
+use Rattle.fpl_forms.proofs.OneForm.{one_form}
+use Rattle.plain_facts.specs.Values.{FactsAreValues, FormsAreValues, value_in}
 use Rattle.plain_facts.proofs.Sums.{sum_value}
 
 module _ (L : PlainLedger) (s : IsSoundLedger L) where
@@ -56,3 +64,19 @@ facts_are_values L T atoms f s sound table are w i =
     (line_derives L s sound f.line w.within) in
     sym (ap (λ v. v i) equal ∙ ap (λ e. value_in p T e i) w.right ∙
     sum_value p T sound table atoms are f.terms.items (λ j d lt. (w.terms j d lt).0) i)
+
+-- forms with equal numbers of the field of a prime are equal
+one_form_in : (k : Kind) (q n : ℕ) (ts us : List Term) → k ≡ Prime q → IsListed q → IsForm q n ts → IsForm q n us →
+    ((i : ℕ) → number_in k ts i ≡ number_in k us i) → ts ≡ us
+one_form_in k q n ts us e listed f g =
+    subst (λ (x : Kind). ((i : ℕ) → number_in x ts i ≡ number_in x us i) → ts ≡ us) (sym e) (one_form q n ts us listed f g)
+
+pub forms_are_values : FormsAreValues
+forms_are_values L T atoms f g s sound table are v w form also =
+    let k = L.presentation.field in
+    let left = facts_are_values L T atoms f s sound table are v in
+    let right = facts_are_values L T atoms g s sound table are w in (
+      λ e. fun_ext (λ i. sym (left i) ∙ ap (λ ts. number_in k ts i) e ∙ right i),
+      λ e. one_form_in k L.prime (length atoms) f.terms.items g.terms.items s.field s.listed form also
+      (λ i. left i ∙ ap (λ h. h i) e ∙ sym (right i)),
+    )

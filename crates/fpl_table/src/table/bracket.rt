@@ -1,4 +1,4 @@
-ghost use Rattle.std.specs.Prelude.{◌≡◌, ◌≤◌, ◌+◌, ◌-◌, length, IfOk, OnOk};
+ghost use Rattle.std.specs.Prelude.{◌≡◌, ◌≤◌, ◌+◌, ◌-◌, length, IfOk, IfErr, OnOk};
 ghost use Rattle.fpl_numbers.specs.Numbers.{IsElement};
 ghost use Rattle.fpl_numbers.specs.Results.{Gives, GivesBy};
 ghost use Rattle.fpl_scalar.specs.Vectors.{AreElements};
@@ -32,6 +32,7 @@ impl<F: Field> Table<F> {
             (add_product self.now (P.term pairs.now self.now) (pairing self.now (x.0 - 1) (y.0 - 1)) (F.number x.1) (F.number y.1) sum.old) }
         ensures elements { OnOk result (AreElements self.now.kind sum.new) }
         ensures whole { length sum.new ≡ length sum.old }
+        ensures memory { IfErr result (λ fault. fault ≡ Fault.NoMemory → sum.new ≡ sum.old) }
     {
         let field = self.field();
         match self.pair(x.0, y.0) {
@@ -63,6 +64,7 @@ impl<F: Field> Table<F> {
         ensures value { Gives result sum.new (add_products self.now (P.term pairs.now self.now) (x.0 - 1) (F.number x.1) b.now sum.old) }
         ensures elements { OnOk result (AreElements self.now.kind sum.new) }
         ensures whole { length sum.new ≡ length sum.old }
+        ensures memory { IfErr result (λ fault. fault ≡ Fault.NoMemory → AreElements self.now.kind sum.new) }
     {
         let mut after = 0;
         while let Some(j) = b.next(after) {
@@ -76,7 +78,8 @@ impl<F: Field> Table<F> {
     }
 
     /// Adds the bracket of two rows over the basis, each at most `basis_len` long, in what pairs of basis elements stand for.
-    /// `Unfit` is the first operation that does not fit.
+    /// `Unfit` is the first operation that does not fit. Where memory is wanting the sum may have part of the bracket in it,
+    /// and is still of the field.
     pub fn add_bracket<P: PairTerm<F>>(
         &self,
         pairs: &P,
@@ -91,6 +94,7 @@ impl<F: Field> Table<F> {
         ensures value { Gives result sum.new (bilinear_of self.now (P.term pairs.now self.now) a.now b.now sum.old) }
         ensures elements { OnOk result (AreElements self.now.kind sum.new) }
         ensures whole { length sum.new ≡ length sum.old }
+        ensures memory { IfErr result (λ fault. fault ≡ Fault.NoMemory → AreElements self.now.kind sum.new) }
     {
         let mut after = 0;
         while let Some(i) = a.next(after) {

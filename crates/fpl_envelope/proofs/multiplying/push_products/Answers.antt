@@ -23,7 +23,7 @@ loop-k-preserved g c =
     c.times-number.ensures.value in
     record {
       left = ap (λ p. poly_of T.kind p ++ times_word (field_in T) (word_of c.args.left.now.0) (number_in T c.args.left.now.1)
-          (poly_of T.kind (drop (c.loop-k.k + 1) c.args.v.now))) c.in_ok-push.ensures
+          (poly_of T.kind (drop (c.loop-k.k + 1) c.args.v.now))) c.in_ok-push.ensures.ok
           ∙ ap (λ p. p ++ times_word (field_in T) (word_of c.args.left.now.0) (number_in T c.args.left.now.1)
           (poly_of T.kind (drop (c.loop-k.k + 1) c.args.v.now)))
           (poly_joined T.kind c.loop-k.product ((c.in_ok-word.word, g.F.Field.number c.times-number.result) ∷ []))
@@ -36,7 +36,7 @@ loop-k-preserved g c =
           (g.F.Field.number c.times-number.result) (g.F.Field.number c.left.inside.number) (g.F.Field.number c.right.inside.number) c.left.view_is
           c.right.view_is (omega arith) at c.in_ok-word.ensures value)
           ∙ c.loop-k.invariant.left;
-      poly = λ h. subst (IsPolyIn T) (sym c.in_ok-push.ensures)
+      poly = λ h. subst (IsPolyIn T) (sym c.in_ok-push.ensures.ok)
           (terms_joined T c.loop-k.product ((c.in_ok-word.word, g.F.Field.number c.times-number.result) ∷ []) (c.loop-k.invariant.poly h)
           (one_term T (c.in_ok-word.word, g.F.Field.number c.times-number.result)
           (term_joined T c.args.left.now c.index-right.result.now c.in_ok-word.word (g.F.Field.number c.times-number.result) c.requires.left

@@ -26,7 +26,7 @@ loop-s-preserved g c =
     record {
       within = h.to_end;
       left = ap (λ p. p ++ row_terms (spelled c.args.table.now c.args.w) c.in-Some.s (drop c.in-Some.s c.args.row.now))
-          (c.in_ok-push.ensures ∙ ap₂ (λ (u : List ℕ) (x : Num). c.loop-s.poly ++ (u, x) ∷ [])
+          (c.in_ok-push.ensures.ok ∙ ap₂ (λ (u : List ℕ) (x : Num). c.loop-s.poly ++ (u, x) ∷ [])
           (c.in_ok-word.ensures ∙ ap (λ k. spelled c.args.table.now c.args.w (k - 1)) same) c.at-number.ensures)
           ∙ append_assoc c.loop-s.poly _ _
           ∙ ap (λ ts. c.loop-s.poly ++ ts) (sym (row_next (spelled c.args.table.now c.args.w) c.args.row.now c.loop-s.after c.in-Some.s c.in-Some.ensures))

@@ -4,6 +4,7 @@ use Rattle.fpl_reply.proofs.Leaving.{says}
 use Rattle.fpl_run.proofs.Replies.{answered}
 use Rattle.fpl_run.proofs.Meaning as meaning
 use Rattle.fpl_run.proofs.Maps.{maps_mean}
+use Rattle.fpl_run.proofs.Whys.{whys_mean}
 use Rattle.fpl_run.proofs.top.run.Goals as goal
 
 pub returns-clause-answer : goal.returns-clause-answer
@@ -22,3 +23,6 @@ returns-clause-nothing g c = λ none. c.answer_words-outcome.ensures.nothing (λ
 
 pub returns-clause-end : goal.returns-clause-end
 returns-clause-end g c = λ e. c.answer_words-outcome.ensures.end (sym c.status.ensures ∙ e)
+
+pub returns-clause-proofs : goal.returns-clause-proofs
+returns-clause-proofs g c = λ e. whys_mean _ _ _ _ _ c.answer_words-outcome.ensures.bytes c.answer_words-outcome.ensures.reply (sym c.status.ensures ∙ e)

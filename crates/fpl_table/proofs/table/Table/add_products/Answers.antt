@@ -2,6 +2,7 @@ use Rattle.std.proofs.Common.{ℕ, List, ◌∙◌, ◌-◌, drop, ap, sym, subs
 use Rattle.fpl_numbers.specs.declared.number.Num.{Num}
 use Rattle.fpl_numbers.specs.Numbers.{IsElement, residue}
 use Rattle.fpl_numbers.specs.Results.{and_then}
+use Rattle.fpl_scalar.specs.Vectors.{AreElements}
 use Rattle.fpl_rows.proofs.Firsts.{next_is_at}
 use Rattle.fpl_table.specs.Plain.{pairing}
 use Rattle.fpl_table.specs.Sums.{add_each, add_product}
@@ -57,6 +58,9 @@ returns-in-Err-clause-value g c =
     (c.loop-j.invariant.left ∙ to_next add c.args.b.now c.loop-j.after c.in-Some.j c.loop-j.sum c.in-Some.ensures
     ∙ ap (λ (n : Num). and_then (λ w. add_each add c.in-Some.j (drop c.in-Some.j c.args.b.now) w) (add (c.in-Some.j - 1) n c.loop-j.sum)) (sym c.at.ensures))
     c.in-Err.ensures.value
+
+pub returns-in-Err-clause-memory : goal.returns-in-Err-clause-memory
+returns-in-Err-clause-memory g c = λ e. subst (AreElements c.args.self.now.kind) (sym (c.in-Err.ensures.memory e)) c.loop-j.invariant.elements
 
 pub returns-clause-value : goal.returns-clause-value
 returns-clause-value g c =
