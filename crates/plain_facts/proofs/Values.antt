@@ -78,5 +78,5 @@ forms_are_values L T atoms f g s sound table are v w form also =
     let right = facts_are_values L T atoms g s sound table are w in (
       λ e. fun_ext (λ i. sym (left i) ∙ ap (λ ts. number_in k ts i) e ∙ right i),
       λ e. one_form_in k L.prime (length atoms) f.terms.items g.terms.items s.field s.listed form also
-      (λ i. left i ∙ ap (λ h. h i) e ∙ sym (right i)),
+          (λ i. left i ∙ ap (λ h. h i) e ∙ sym (right i)),
     )
