@@ -7,6 +7,7 @@ mod Marks
 mod Filled
 pub mod StoredRows
 mod SameRows
+mod Cells
 mod Weighed
 mod Tested
 pub mod ClosedTests

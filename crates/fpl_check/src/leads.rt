@@ -1,8 +1,9 @@
-ghost use Rattle.std.specs.Prelude.{◌≡◌, ◌+◌, ◌<◌, ◌^◌, length, IfOk};
+ghost use Rattle.std.specs.Prelude.{◌≡◌, ◌+◌, ◌<◌, ◌^◌, ℕ, true, false, length, slice_index_or, IfOk};
+ghost use Rattle.fpl_numbers.specs.Numbers.{is_nought, residue};
 ghost use Rattle.fpl_rows.specs.Meaning.{AreRows, IsRowOf};
 ghost use Rattle.fpl_check.specs.Refusal.{GivesCheck};
 ghost use Rattle.fpl_check.specs.ClosedRows.{lead_or_none, test_lead_at, test_leads, test_crossing, test_apart};
-ghost use Rattle.fpl_check.specs.Leads.{marked, IsMarking};
+ghost use Rattle.fpl_check.specs.Leads.{marked, is_clear, IsMarking};
 ghost use Rattle.fpl_rows.specs.Positions.{lead_of};
 
 use crate::marking::unmarked;
@@ -77,12 +78,51 @@ fn marking<F: Field>(
     Ok(marks)
 }
 
+/// Whether the symbol at a place, which counts from 0, is `lead`, or not marked.
+fn is_clear(marks: &[bool], lead: u32, place: u32) -> bool
+    requires place { place < length marks.now }
+    requires few { length marks.now < 2 ^ 32 }
+    ensures { result ≡ is_clear marks.now lead place }
+{
+    place + 1 == lead || !marks[place as usize]
+}
+
+fn are_clear(marks: &[bool], lead: u32, places: &[u32]) -> bool
+    requires within { (k : ℕ) → k < length places.now → slice_index_or places.now k 0 < length marks.now }
+    requires few { length marks.now < 2 ^ 32 }
+    ensures { result ≡ true → (k : ℕ) → k < length places.now → is_clear marks.now lead (slice_index_or places.now k 0) ≡ true }
+{
+    for k in 0..places.len() {
+        if !is_clear(marks, lead, places[k]) {
+            return false;
+        }
+    }
+    true
+}
+
+/// Whether a packed row tells no number at a marked symbol but `lead`. Where the row is not packed
+/// the answer is no.
+fn crosses_none<F: Field>(marks: &[bool], lead: u32, row: &Row<F>) -> bool
+    requires { length marks.now ≡ length row.now }
+    ensures { result ≡ true → (t : ℕ) → is_nought (slice_index_or row.now t (residue 0)) ≡ false → is_clear marks.now lead t ≡ true }
+{
+    // its clause bounds the places
+    let _count = row.len();
+    match row.cells() {
+        Some((places, _)) => are_clear(marks, lead, places),
+        None => false,
+    }
+}
+
 /// Tests that row `k` is 0 at the marked symbols but its greatest.
 fn test_crossing<F: Field>(k: u32, marks: &[bool], row: &Row<F>) -> Result<(), CheckFault>
     requires { length marks.now ≡ length row.now }
     ensures { GivesCheck (λ done. done) result (test_crossing k (marked marks.now) (lead_or_none row.now) 1 row.now) }
 {
     let lead = row.lead().unwrap_or(0);
+    if crosses_none(marks, lead, row) {
+        return Ok(());
+    }
     let mut after = 0;
     'symbols: loop {
         match row.next(after) {

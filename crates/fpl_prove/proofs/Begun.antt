@@ -11,9 +11,9 @@ use Rattle.fpl_table.specs.Standard.{start_of}
 use Rattle.plain_tables.specs.Holds.{Holds}
 use Rattle.plain_tables.proofs.Holding.{start_holds}
 use Rattle.fpl_forms.specs.Ledgers.{PlainLedger, IsExpr}
-use Rattle.fpl_prove.specs.declared.known.Level.{Level}
-use Rattle.fpl_prove.specs.declared.known.Known.{Known}
-use Rattle.fpl_prove.specs.Known.{IsKnown}
+use Rattle.fpl_table_facts.specs.declared.known.Level.{Level}
+use Rattle.fpl_table_facts.specs.declared.known.Known.{Known}
+use Rattle.fpl_table_facts.specs.Known.{IsKnown}
 
 no_trees : (p : Presentation) → basis_trees (start_of p) ≡ []
 unfolding grown

@@ -14,9 +14,9 @@ use Rattle.fpl_queries.specs.Queries.{HaveOneValue}
 use Rattle.fpl_forms.specs.declared.term.Term.{Term}
 use Rattle.fpl_forms.specs.declared.term.Fact.{Fact}
 use Rattle.fpl_forms.specs.contracts.term.TermPartialEq.TheImpl.{eq-value}
-use Rattle.fpl_forms.specs.Ledgers.{PlainLedger, Grows, IsSoundLedger}
-use Rattle.fpl_prove.specs.declared.known.Known.{Known}
-use Rattle.fpl_prove.specs.Known.{IsKnown, IsFormOf}
+use Rattle.fpl_forms.specs.Ledgers.{PlainLedger, IsSoundLedger}
+use Rattle.fpl_table_facts.specs.declared.known.Known.{Known}
+use Rattle.fpl_table_facts.specs.Known.{IsKnown, IsFormOf}
 
 both_true : (x y : Bool) → x && y ≡ true → (x ≡ true) × (y ≡ true)
 both_true true y e = (refl, e)

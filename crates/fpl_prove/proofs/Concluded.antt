@@ -1,10 +1,10 @@
 -- The steps of a section that passes, one by one.
-use Rattle.std.proofs.Common.{◌≡◌, ◌≤◌, ◌<◌, ◌+◌, ◌-◌, ◌++◌, ℕ, zero, suc, List, [], ◌∷◌, length, map, get_or, drop, refl, ap, sym, subst, ◌∙◌, arith, All}
-use Rattle.std.specs.Prelude.{slice_get, Option, Some, None, Ok}
-use Rattle.std.proofs.lemmas.List.{length-append, append_assoc, append-nil}
-use Rattle.std.proofs.lemmas.Option.{slice_get_within}
+use Rattle.std.proofs.Common.{◌≡◌, ◌≤◌, ◌+◌, ◌-◌, ◌++◌, ℕ, zero, suc, List, [], ◌∷◌, length, get_or, drop, refl, ap, sym, subst, ◌∙◌, arith, All}
+use Rattle.std.specs.Prelude.{slice_get, Some, Ok}
+use Rattle.std.proofs.lemmas.List.{length-append}
 use Rattle.fpl_numbers.specs.declared.number.Num.{Num}
-use Rattle.fpl_numbers.specs.declared.number.Kind.{Kind}
+use Rattle.fpl_numbers.specs.Kinds.{field_of}
+use Rattle.math_linear.specs.Vector.{Vector}
 use Rattle.fpl_rows.specs.Meaning.{AreRows, vector_in}
 use Rattle.fpl_rows.proofs.Fits.{some_same, none_some}
 use Rattle.fpl_log.specs.declared.section.Section.{Section}
@@ -25,10 +25,26 @@ use Rattle.fpl_check.proofs.StepParts.{StepParts, step_parts}
 use Rattle.fpl_check.proofs.Conclusions.{rows_more}
 use Rattle.fpl_forms.specs.declared.term.Fact.{Fact}
 use Rattle.fpl_forms.specs.Ledgers.{PlainLedger, Grows}
-use Rattle.fpl_prove.specs.declared.known.Next.{Next}
+use Rattle.fpl_forms.specs.Laws.{number_in}
+use Rattle.fpl_table_facts.specs.declared.known.Next.{Next}
 use Rattle.fpl_prove.specs.Zeros.{IsZeroOf, AreConcluded}
 use Rattle.fpl_prove.specs.Concluding.{IsStepFor, IsConclusionOf}
-use Rattle.fpl_prove.proofs.Grown.{grows_concluded}
+use Rattle.fpl_table_facts.proofs.Grown.{grows_fact}
+
+module _ {L M : PlainLedger} (g : Grows L M) where
+  -- a vector that depends on the presentation
+  grows_zero : {n : Next} {f : Fact} (v : (p : Presentation) → Vector (field_of p.field)) →
+      IsZeroOf L n (v L.presentation) f → IsZeroOf M n (v M.presentation) f
+  grows_zero {n} {f} v h = record {
+    zero = grows_fact g h.zero;
+    numbers = subst (λ p. (i : ℕ) → number_in p.field f.terms.items i ≡ v p i) (sym g.presentation) h.numbers;
+  }
+
+  grows_concluded : {n : Next} (cs : List (List Num)) (zs : List Fact) → AreConcluded L n cs zs → AreConcluded M n cs zs
+  grows_concluded {n} cs zs h = record {
+    count = h.count;
+    each = λ m z e. grows_zero (λ p. vector_in p.field (get_or cs m [])) (h.each m z e);
+  }
 
 -- the conclusions of the steps before, as rows and as what is 0; those of the rest follow them
 pub record IsPart (L : PlainLedger) (T : PlainTable) (n : Next) (steps rest : List Step) (zs : List Fact) : Type 0 where
@@ -106,7 +122,8 @@ module _ (T : PlainTable) (n : Next) (s : Section) (section : IsSectionFor T s) 
           all = part.all;
           from = subst (λ (p : Presentation). conclusions_from T p s.steps (part.done ++ first.0 ∷ []) rest ≡ Ok part.all) p first.2;
           whole = subst (λ (p : Presentation). conclusions_from T p s.steps [] s.steps ≡ Ok part.all) p part.whole;
-          rows = rows_more T L.presentation (is_field L.presentation T holds) (length (symbols_in T)) (origin_rows L.presentation T holds) s.steps part.done step
+          rows = rows_more T L.presentation (is_field L.presentation T holds) (length (symbols_in T))
+              (origin_rows L.presentation T holds) s.steps part.done step
               first.0 part.rows numbers_of parts;
           concluded = subst (AreConcluded M n (part.done ++ first.0 ∷ [])) (sym e)
               (more_concluded M n part.done zs first.0 f (grows_concluded g part.done zs part.concluded)

@@ -1,25 +1,22 @@
 -- What steps conclude has the numbers of their conclusions.
-use Rattle.std.proofs.Common.{◌≡◌, ◌≤◌, ◌<◌, ◌+◌, ◌-◌, ◌++◌, ℕ, zero, suc, List, [], ◌∷◌, length, map, get_or, refl, ap, sym, subst, ◌∙◌, arith, All, true}
-use Rattle.std.specs.Prelude.{slice_get, Some, Ok, Contains}
+use Rattle.std.proofs.Common.{◌≡◌, ◌≤◌, ◌<◌, ◌-◌, ℕ, zero, suc, List, [], ◌∷◌, length, map, get_or, refl, ap, sym, subst, ◌∙◌, arith, All, true}
+use Rattle.std.specs.Prelude.{slice_get, Some, Ok}
 use Rattle.fpl_numbers.specs.declared.number.Num.{Num}
 use Rattle.fpl_numbers.specs.declared.number.Kind.{Kind}
 use Rattle.fpl_numbers.specs.declared.number.Kind.TheVariants.{Prime}
 use Rattle.fpl_numbers.specs.Numbers.{IsElement}
-use Rattle.fpl_numbers.specs.Kinds.{field_of}
 use Rattle.fpl_rows.specs.Meaning.{AreRows, vector_in}
 use Rattle.fpl_log.specs.declared.step.Origin.{Origin}
-use Rattle.fpl_log.specs.declared.step.Step.{Step}
 use Rattle.fpl_log.specs.declared.step.Step.TheVariants.{Insert, Close}
 use Rattle.fpl_log.specs.declared.terms.Term as log
 use Rattle.fpl_log.specs.Plain.{IsTermOf}
 use Rattle.fpl_model.specs.declared.presentation.Presentation.{Presentation}
 use Rattle.fpl_table.specs.Plain.{PlainTable, symbols_in}
 use Rattle.plain_tables.specs.Holds.{Holds}
-use Rattle.fpl_rewrite.specs.Origins.{origins_of}
 use Rattle.fpl_rewrite.specs.Rows.{row_of_origin}
 use Rattle.plain_sources.proofs.Laws.{rows_of_shape, weights_of_built, rows_stand}
 use Rattle.plain_sources.proofs.HeldTables.{origin_rows}
-use Rattle.fpl_check.specs.Steps.{is_origin, conclusion_of_step}
+use Rattle.fpl_check.specs.Steps.{is_origin}
 use Rattle.fpl_check.proofs.ListedOrigins.{origin_listed}
 use Rattle.fpl_check.proofs.StepParts.{step_parts}
 use Rattle.fpl_forms.specs.declared.term.Term.{Term}
@@ -29,7 +26,7 @@ use Rattle.fpl_forms.specs.Forms.{AreTermsOf}
 use Rattle.fpl_forms.specs.Combining.{terms_of}
 use Rattle.fpl_forms.specs.Laws.{number_in}
 use Rattle.fpl_facts.specs.Facts.{IsZero}
-use Rattle.fpl_prove.specs.declared.known.Next.{Next}
+use Rattle.fpl_table_facts.specs.declared.known.Next.{Next}
 use Rattle.fpl_prove.specs.Zeros.{IsZeroOf, AreConcluded, origin_vector}
 use Rattle.fpl_prove.specs.Taking.{all_taken, scaled_terms}
 use Rattle.fpl_prove.specs.Concluding.{IsConclusionOf}

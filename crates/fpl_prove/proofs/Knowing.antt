@@ -1,12 +1,9 @@
 -- What is known after a weight is learnt.
-use Rattle.std.proofs.Common.{◌≡◌, ◌≤◌, ◌<◌, ◌+◌, ◌*◌, ◌^◌, ◌++◌, ℕ, zero, suc, List, [], ◌∷◌, length, map, get_or, refl, ap, sym, subst, ◌∙◌, arith, All}
+use Rattle.std.proofs.Common.{◌≡◌, ◌≤◌, ◌<◌, ◌+◌, ◌^◌, ◌++◌, ℕ, zero, suc, List, [], ◌∷◌, length, map, get_or, refl, ap, sym, subst, ◌∙◌, arith, All}
 use Rattle.std.specs.Prelude.{slice_get, Some}
-use native.Mathlib.Decide.{dec_lt}
 use Rattle.std.proofs.lemmas.List.{length-append, length-map, get_or-map}
 use Rattle.std.proofs.lemmas.Option.{slice_get_within}
 use Rattle.fpl_numbers.specs.declared.number.Num.{Num}
-use Rattle.fpl_numbers.specs.declared.number.Kind.TheVariants.{Prime}
-use Rattle.math_algebra.specs.Table.{Symbol}
 use Rattle.math_algebra.specs.Symbols.{no_symbol}
 use Rattle.fpl_rows.specs.Meaning.{pivot_of, AreRows}
 use Rattle.fpl_rows.proofs.Fits.{some_same, none_some}
@@ -28,15 +25,14 @@ use Rattle.fpl_check.specs.Premises.{IsSectionFor}
 use Rattle.fpl_check.specs.Check.{Accepts, rows_stored}
 use Rattle.fpl_check.proofs.StoredRows.{stored_rows}
 use Rattle.fpl_check.proofs.LawsPassed.{accepted_closed, accepted_spans}
-use Rattle.fpl_forms.specs.declared.term.Fact.{Fact}
 use Rattle.fpl_forms.specs.Ledgers.{PlainLedger, IsExpr}
-use Rattle.fpl_prove.specs.declared.known.Level.{Level}
-use Rattle.fpl_prove.specs.declared.known.Known.{Known}
-use Rattle.fpl_prove.specs.declared.known.Next.{Next}
-use Rattle.fpl_prove.specs.Known.{symbol_expr, IsFormOf, IsLevel, IsKnown, IsNext}
+use Rattle.fpl_table_facts.specs.declared.known.Level.{Level}
+use Rattle.fpl_table_facts.specs.declared.known.Known.{Known}
+use Rattle.fpl_table_facts.specs.declared.known.Next.{Next}
+use Rattle.fpl_table_facts.specs.Known.{symbol_expr, IsFormOf, IsLevel, IsKnown, IsNext}
 use Rattle.fpl_prove.specs.Learning.{free_below, trees_at, AreValues}
 use Rattle.fpl_prove.proofs.Leading.{free_same}
-use Rattle.fpl_prove.proofs.Nexts.{basis_size, next_before}
+use Rattle.fpl_table_facts.proofs.Nexts.{basis_size, next_before}
 use Rattle.fpl_prove.proofs.Pushing.{symbol_more, symbols_pushed, level_more, basis_pushed, over_pushed}
 
 -- an item of a list with one more
@@ -83,7 +79,8 @@ module _ (L : PlainLedger) (k : Known) (h : IsKnown L k) (n : Next) (next : IsNe
     plains = ap (map plain) is ∙ basis_pushed T h.holds.shape rows L.presentation k.basis.items n.trees.items h.basis trees_are
 
     pub basis_over : All (IsExpr L.presentation) basis
-    basis_over = subst (All (IsExpr L.presentation)) (sym is) (over_pushed T h.holds.shape rows L.presentation k.basis.items n.trees.items h.basis trees_are h.over next.over)
+    basis_over = subst (All (IsExpr L.presentation)) (sym is)
+        (over_pushed T h.holds.shape rows L.presentation k.basis.items n.trees.items h.basis trees_are h.over next.over)
 
     pub basis_few : length basis < 2 ^ 32
     basis_few =
@@ -99,13 +96,15 @@ module _ (L : PlainLedger) (k : Known) (h : IsKnown L k) (n : Next) (next : IsNe
       symbols = ap (λ s. s.symbols) e ∙ next.symbols ∙ sym (symbols_next T) ∙ sym (symbols_pushed T h.holds.shape rows (suc T.weight) (omega arith));
       count = count ∙ trees_size ∙ ap length (sym next.symbols) ∙ ap (λ s. length s.symbols) (sym e);
       values = λ s f g.
-          let short : s < length (symbols_in T) = (let a = slice_get_within l.values.items s f g in let b = count in let c = trees_size in omega (arith, a, b, c)) in
+          let short : s < length (symbols_in T) = (
+          let a = slice_get_within l.values.items s f g in let b = count in let c = trees_size in omega (arith, a, b, c)) in
           let x = get_or (symbols_in T) s no_symbol in
           let before = next_before T (symbols_in T) (length k.basis.items) refl (basis_size L k h) s no_symbol short in
           let tree : get_or n.trees.items s Zero ≡ symbol_expr basis x =
           ap (λ es. get_or es s Zero) trees_are ∙ get_or-map (symbol_expr k.basis.items) (symbols_in T) s no_symbol Zero short
           ∙ sym (symbol_more L k.basis.items (trees_at n.trees.items (free_of T rows)) x before) ∙ ap (λ es. symbol_expr es x) (sym is) in
-          let here : x ≡ get_or l.symbols.symbols s no_symbol = ap (λ xs. get_or xs s no_symbol) (sym next.symbols) ∙ ap (λ ss. get_or ss.symbols s no_symbol) (sym e) in
+          let here : x ≡ get_or l.symbols.symbols s no_symbol = ap (λ xs. get_or xs s no_symbol) (sym next.symbols)
+          ∙ ap (λ ss. get_or ss.symbols s no_symbol) (sym e) in
           subst (λ (e : Expr). IsFormOf L basis e f) (tree ∙ ap (symbol_expr basis) here) (values s f g);
     }
 
@@ -115,7 +114,8 @@ module _ (L : PlainLedger) (k : Known) (h : IsKnown L k) (n : Next) (next : IsNe
       holds = subst (Holds L.presentation) (sym table) holds;
       basis = ap (map plain) items ∙ plains ∙ ap basis_trees (sym table);
       over = subst (All (IsExpr L.presentation)) (sym items) basis_over;
-      count = (let a = ap length levels ∙ length-append k.levels.items (l ∷ []) in let b = h.count in let c = ap (λ S. S.weight) table in omega (arith, a, b, c));
+      count = (
+          let a = ap length levels ∙ length-append k.levels.items (l ∷ []) in let b = h.count in let c = ap (λ S. S.weight) table in omega (arith, a, b, c));
       levels = λ v j g.
           subst (λ (S : PlainTable). IsLevel L S m.basis.items (suc v) j) (sym table)
           (subst (λ (es : List Expr). IsLevel L (push_of T rows) es (suc v) j) (sym items)
@@ -130,4 +130,5 @@ module _ (L : PlainLedger) (k : Known) (h : IsKnown L k) (n : Next) (next : IsNe
             let a = slice_get_within k.levels.items i j g in
             let b = h.count in
             subst (λ (es : List Expr). IsLevel L (push_of T rows) es (suc i) j) (sym is)
-            (level_more T h.holds.shape rows L k.basis.items (trees_at n.trees.items (free_of T rows)) (suc i) j (basis_size L k h) (omega (arith, a, b)) (h.levels i j g))
+            (level_more T h.holds.shape rows L k.basis.items (trees_at n.trees.items (free_of T rows)) (suc i) j (basis_size L k h) (omega (arith, a, b))
+            (h.levels i j g))

@@ -1,5 +1,5 @@
 -- What the closed rows of an accepted section say of what is 0.
-use Rattle.std.proofs.Common.{◌≡◌, ◌≤◌, ◌<◌, ◌+◌, ◌-◌, ◌++◌, ℕ, zero, suc, List, [], ◌∷◌, length, map, get_or, refl, ap, ap₂, sym, subst, ◌∙◌, arith, All, Bool, true}
+use Rattle.std.proofs.Common.{◌≡◌, ◌<◌, ◌+◌, ◌-◌, ℕ, zero, suc, List, [], ◌∷◌, length, map, get_or, refl, ap, sym, subst, ◌∙◌, arith, All, true}
 use Rattle.std.specs.Prelude.{slice_get, Some, Ok, not, ◌&&◌, nat_lt, nat_le}
 use Rattle.std.proofs.lemmas.Option.{slice_get_within, slice_get-get_or}
 use Rattle.std.proofs.lemmas.List.{get_or-map, length-map}
@@ -30,17 +30,16 @@ use Rattle.fpl_check.specs.Check.{Accepts, rows_stored, test_closed, test_count,
 use Rattle.fpl_check.proofs.ListedOrigins.{demanded, passing_first}
 use Rattle.fpl_check.proofs.Loops.{both_true, is_below, is_most}
 use Rattle.fpl_check.proofs.PassedTests.{then_first, ok_is}
-use Rattle.fpl_check.proofs.PassedRows.{Passes, passes, passed_same}
+use Rattle.fpl_check.proofs.PassedRows.{passes, passed_same}
 use Rattle.fpl_check.proofs.LawsPassed.{accepted_closed, conclusions_rows, conclusions_whole}
 use Rattle.fpl_forms.specs.declared.term.Term.{Term}
 use Rattle.fpl_forms.specs.declared.term.Fact.{Fact}
 use Rattle.fpl_forms.specs.Ledgers.{PlainLedger}
 use Rattle.fpl_forms.specs.Laws.{number_in}
 use Rattle.fpl_facts.specs.Facts.{IsZero}
-use Rattle.fpl_prove.specs.declared.known.Next.{Next}
+use Rattle.fpl_table_facts.specs.declared.known.Next.{Next}
 use Rattle.fpl_prove.specs.Zeros.{IsZeroOf, AreConcluded}
-use Rattle.fpl_prove.specs.Learning.{close_facts, IsWithinRow, IsSolvedAt, AreSolved}
-use Rattle.fpl_prove.proofs.Concluding.{got_item}
+use Rattle.fpl_prove.specs.Learning.{close_facts, IsWithinRow, AreSolved}
 
 -- coefficients of rows that are well formed
 formed_within : (n after : ℕ) (row : List Coefficient) → is_formed n after row ≡ true → All (IsWithinRow n) row
@@ -129,7 +128,8 @@ module _ (K L : PlainLedger) (same : L.presentation ≡ K.presentation) (field :
       let l : m < length rows = (let a = slice_get_within (close_facts s.steps zs) m z e in
       let b = closes.0 in let c = ap length same_rows in omega (arith, a, b, c)) in
       let f = L.presentation.field in
-      let numbers = subst (λ (rs : List (List Num)). (i : ℕ) → number_in f z.terms.items i ≡ vector_in f (get_or rs m []) i) (sym same_rows) (closes.1 m z e).numbers in
+      let numbers = subst (λ (rs : List (List Num)). (i : ℕ) → number_in f z.terms.items i ≡ vector_in f (get_or rs m []) i) (sym same_rows)
+      (closes.1 m z e).numbers in
       let numbers' = subst (λ (k : Kind). (i : ℕ) → number_in k z.terms.items i ≡ vector_in k (get_or rows m []) i) field numbers in
       let is : T.kind ≡ Prime L.prime = holds.kind ∙ ap (λ (p : Presentation). p.field) (sym same) ∙ field in
       let at = solved_at (Prime L.prime) is m l z.terms.items numbers' in

@@ -1,5 +1,5 @@
 -- The numbers of one form less another.
-use Rattle.std.proofs.Common.{◌≡◌, ◌<◌, ◌-◌, ◌++◌, ℕ, List, ap, ap₂, sym, subst, ◌∙◌, arith, All}
+use Rattle.std.proofs.Common.{◌≡◌, ◌<◌, ◌-◌, ◌++◌, ℕ, List, ap, ap₂, sym, subst, ◌∙◌, arith}
 use Rattle.std.proofs.lemmas.List.Elements.{All-append}
 use Rattle.math_fields.specs.Field.{Field}
 use Rattle.fpl_numbers.specs.declared.number.Kind.{Kind}
@@ -8,7 +8,7 @@ use Rattle.fpl_numbers.specs.Numbers.{IsListed, residue}
 use Rattle.fpl_numbers.specs.Kinds.{Number, field_of, number_of}
 use Rattle.fpl_numbers.proofs.KindReads.{listed_prime}
 use Rattle.fpl_forms.specs.declared.term.Term.{Term}
-use Rattle.fpl_forms.specs.Forms.{IsTermOf, AreTermsOf, tidied}
+use Rattle.fpl_forms.specs.Forms.{IsTermOf, AreTermsOf}
 use Rattle.fpl_forms.specs.Combining.{multiplied}
 use Rattle.fpl_forms.specs.Laws.{number_in}
 use Rattle.fpl_forms.specs.Ledgers.{PlainLedger, IsSoundLedger}

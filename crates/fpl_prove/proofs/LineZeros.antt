@@ -1,9 +1,8 @@
 -- What is 0 by a line whose sides have rows.
-use Rattle.std.proofs.Common.{◌≡◌, ◌-◌, ℕ, List, length, ap, ap₂, sym, subst, ◌∙◌}
+use Rattle.std.proofs.Common.{◌≡◌, ℕ, List, length, ap, ap₂, sym, subst, ◌∙◌}
 use Rattle.math_linear.specs.Vector.{Vector, vplus, scale}
 use Rattle.fpl_numbers.specs.Kinds.{field_of}
 use Rattle.fpl_model.specs.declared.expr.Expr.{Expr}
-use Rattle.fpl_model.specs.declared.presentation.Presentation.{Presentation}
 use Rattle.fpl_log.specs.declared.step.Origin.{Origin}
 use Rattle.fpl_table.specs.Plain.{PlainTable}
 use Rattle.fpl_forms.specs.declared.term.Term.{Term}
@@ -11,8 +10,9 @@ use Rattle.fpl_forms.specs.declared.term.Fact.{Fact}
 use Rattle.fpl_forms.specs.Ledgers.{PlainLedger, IsSoundLedger, Grows}
 use Rattle.fpl_forms.specs.Laws.{number_in}
 use Rattle.fpl_facts.specs.Facts.{less, IsZero}
-use Rattle.fpl_prove.specs.declared.known.Next.{Next}
-use Rattle.fpl_prove.specs.Zeros.{IsRow, IsZeroOf, expr_row, origin_vector}
+use Rattle.fpl_table_facts.specs.declared.known.Next.{Next}
+use Rattle.fpl_table_facts.specs.Rows.{IsRow, expr_row}
+use Rattle.fpl_prove.specs.Zeros.{IsZeroOf, origin_vector}
 use Rattle.fpl_prove.specs.Sides.{sides_row}
 use Rattle.fpl_prove.proofs.Lesses.{less_numbers}
 

@@ -1,15 +1,14 @@
 -- The expressions of basis elements are brackets of generators alone: their weights, and how many places they have.
-use Rattle.std.proofs.Common.{◌≡◌, ◌<◌, ◌≤◌, ◌+◌, ◌-◌, ◌^◌, ◌++◌, ◌⊎◌, inl, inr, ℕ, zero, suc, List, [], ◌∷◌, Bool, true, false, cond, nat_eq, length, map, get_or, refl, ap, ap₂, sym, subst, ◌∙◌, arith, All, length-append}
+use Rattle.std.proofs.Common.{◌≡◌, ◌<◌, ◌≤◌, ◌+◌, ◌-◌, ◌^◌, ◌++◌, inl, inr, ℕ, zero, suc, List, [], ◌∷◌, true, cond, nat_eq, length, get_or, refl, ap, ap₂, sym, subst, ◌∙◌, arith, All, length-append}
 use Rattle.std.proofs.lemmas.List.{get_or-map, length-map}
 use Rattle.std.proofs.lemmas.List.Elements.{All-append, All-get_or}
-use Rattle.math_fields.specs.Field.{Field}
 use Rattle.math_linear.specs.Vector.{place}
 use Rattle.math_linear.proofs.Vectors.{place_same}
 use Rattle.fpl_numbers.specs.declared.number.Num.{Num}
 use Rattle.fpl_numbers.specs.Numbers.{IsElement, residue}
 use Rattle.fpl_numbers.specs.Kinds.{field_of}
-use Rattle.math_algebra.specs.Tree.{Tree, gen, none, sum_of, multiple, bracket_of, generator, trees}
-use Rattle.math_algebra.specs.Degrees.{Degree, any, exact, mixed, of_both, of_bracket, weight_of, weights_of}
+use Rattle.math_algebra.specs.Tree.{Tree, gen, none, sum_of, multiple, bracket_of, generator}
+use Rattle.math_algebra.specs.Degrees.{Degree, any, exact, mixed, of_both, of_bracket, weight_of}
 use Rattle.math_algebra.specs.Table.{Symbol, of_generator, of_pair, Basis, no_basis, IsOf, val}
 use Rattle.math_algebra.proofs.Degrees.{WeightMeans, weight_means}
 use Rattle.math_values.proofs.Relations.{val_of}
@@ -31,10 +30,10 @@ use Rattle.fpl_forms.proofs.Next.{element}
 use Rattle.fpl_facts.specs.Axioms.{jacobi_sum}
 use Rattle.fpl_facts.proofs.NextAxioms.{all_two}
 use Rattle.plain_facts.specs.Values.{value_in}
-use Rattle.fpl_prove.specs.declared.known.Known.{Known}
-use Rattle.fpl_prove.specs.Known.{IsKnown, is_next, weight_in}
-use Rattle.fpl_prove.specs.Zeros.{IsDue}
-use Rattle.fpl_prove.proofs.Levels.{basis_length, atom_over, atom_tree, whole}
+use Rattle.fpl_table_facts.specs.declared.known.Known.{Known}
+use Rattle.fpl_table_facts.specs.Known.{IsKnown, is_next, weight_in}
+use Rattle.fpl_table_facts.specs.Rows.{IsDue}
+use Rattle.fpl_table_facts.proofs.Levels.{basis_length, atom_over, atom_tree, whole}
 
 -- a bracket of generators alone
 abbrev IsMonomial : Tree Num → Type 0

@@ -1,5 +1,5 @@
 -- What the tests of triples and cubes tell.
-use Rattle.std.proofs.Common.{◌≡◌, ◌<◌, ◌≤◌, ◌+◌, ◌-◌, ℕ, suc, length, get_or, ap, sym, subst, ◌∙◌, arith, true}
+use Rattle.std.proofs.Common.{◌≡◌, ◌<◌, ◌+◌, ◌-◌, ℕ, suc, length, get_or, sym, subst, ◌∙◌, arith, true}
 use Rattle.std.specs.Prelude.{nat_le, ◌&&◌}
 use Rattle.math_algebra.specs.Tree.{odd}
 use Rattle.math_algebra.specs.Degrees.{HasParity}
@@ -14,9 +14,9 @@ use Rattle.fpl_check.specs.Steps.{is_triple_of, is_cube_of}
 use Rattle.fpl_check.proofs.Loops.{both_true, is_most}
 use Rattle.fpl_forms.specs.Ledgers.{PlainLedger}
 use Rattle.fpl_facts.specs.Axioms.{HasParityIn}
-use Rattle.fpl_prove.specs.declared.known.Known.{Known}
-use Rattle.fpl_prove.specs.Known.{IsKnown}
-use Rattle.fpl_prove.proofs.Levels.{basis_length, atom_tree, whole}
+use Rattle.fpl_table_facts.specs.declared.known.Known.{Known}
+use Rattle.fpl_table_facts.specs.Known.{IsKnown}
+use Rattle.fpl_table_facts.proofs.Levels.{basis_length, atom_tree, whole}
 
 pub record IsTripleNext (T : PlainTable) (i j k n : ℕ) : Type 0 where
   pub first : i - 1 < n

@@ -1,5 +1,5 @@
 -- The sections that raised a table: each is accepted over what those before it raise.
-use Rattle.std.specs.Prelude.{ℕ, zero, suc, ◌+◌, ◌≡◌, ◌≤◌, ◌<◌, List, [], ◌∷◌, ◌++◌, length, take, slice_get, get_or, Some, None}
+use Rattle.std.specs.Prelude.{ℕ, zero, suc, ◌+◌, ◌≡◌, ◌≤◌, ◌<◌, List, [], ◌∷◌, ◌++◌, length, take, slice_get, Some, None}
 use mathlib.Core.Path.{refl, sym, ap, subst, ◌∙◌}
 use native.Mathlib.Omega.{arith}
 use native.Mathlib.Decide.{dec_lt}
@@ -12,7 +12,7 @@ use Rattle.fpl_model.specs.declared.presentation.Presentation.{Presentation}
 use Rattle.fpl_model.specs.Sound.{IsSound}
 use Rattle.fpl_table.specs.Plain.{PlainTable, symbols_in}
 use Rattle.fpl_table.specs.Push.{push_of}
-use Rattle.fpl_table.specs.Standard.{start_of, count_of, count_through}
+use Rattle.fpl_table.specs.Standard.{start_of, count_through}
 use Rattle.plain_tables.specs.Holds.{Holds}
 use Rattle.plain_tables.proofs.Holding.{start_holds, push_holds}
 use Rattle.plain_sources.proofs.HeldTables.{is_field}
@@ -95,7 +95,8 @@ module _ (p : Presentation) where
   next_sections _ _ (one_more T ss s rows before holds section accepts) light few k r e =
       go (dec_lt k (length ss)) (next_sections T ss before (omega (arith, light)) (few_below T rows holds few).0 k r)
     where
-      go : Dec (k < length ss) → (slice_get ss k ≡ Some r → IsNextSection p (after (start_of p) (take k ss)) r) → IsNextSection p (after (start_of p) (take k (ss ++ s ∷ []))) r
+      go : Dec (k < length ss) → (slice_get ss k ≡ Some r → IsNextSection p (after (start_of p) (take k ss)) r) →
+          IsNextSection p (after (start_of p) (take k (ss ++ s ∷ []))) r
       go (yes l) below =
           subst (λ xs. IsNextSection p (after (start_of p) xs) r) (sym (take-append-le k ss (s ∷ []) (omega (arith, l))))
           (below (sym (slice_front ss (s ∷ []) k l) ∙ e))
@@ -112,7 +113,8 @@ none_past [] k l e = omega (arith, l)
 none_past (x ∷ xs) zero l e = cc
 none_past (x ∷ xs) (suc k) l e = none_past xs k (omega (arith, l)) e
 
-module _ (p : Presentation) (ss : List Section) (k : ℕ) (s : Section) (T : PlainTable) (is : T ≡ after (start_of p) (take k ss)) (e : slice_get ss k ≡ Some s) where
+module _ (p : Presentation) (ss : List Section) (k : ℕ) (s : Section) (T : PlainTable) (is : T ≡ after (start_of p) (take k ss))
+    (e : slice_get ss k ≡ Some s) where
   pub next_here : AreNextSections p ss → IsNextSection p T s
   next_here h = subst (λ B. IsNextSection p B s) (sym is) (h k s e)
 

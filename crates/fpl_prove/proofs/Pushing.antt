@@ -1,6 +1,5 @@
 -- What is known of a table after a weight is pushed.
 use Rattle.std.proofs.Common.{◌≡◌, ◌≤◌, ◌<◌, ◌+◌, ◌-◌, ◌++◌, ℕ, zero, suc, List, [], ◌∷◌, length, map, get_or, refl, ap, ap₂, sym, subst, ◌∙◌, arith, All}
-use Rattle.std.specs.Prelude.{slice_get, Some}
 use native.Mathlib.Decide.{dec_lt}
 use Rattle.std.proofs.lemmas.List.{length-append, length-map, get_or_append_left, get_or-map, get_or-append-add, map-append}
 use Rattle.std.proofs.lemmas.List.Elements.{All-append}
@@ -10,8 +9,7 @@ use Rattle.math_linear.specs.Vector.{vzero}
 use Rattle.fpl_numbers.specs.declared.number.Num.{Num}
 use Rattle.fpl_numbers.specs.Numbers.{residue}
 use Rattle.fpl_numbers.specs.Kinds.{field_of}
-use Rattle.math_algebra.specs.Tree.{Tree}
-use Rattle.math_algebra.specs.Table.{Symbol, of_generator, of_pair, Basis, Table, no_basis}
+use Rattle.math_algebra.specs.Table.{Symbol, of_generator, of_pair, Table, no_basis}
 use Rattle.math_algebra.specs.Symbols.{no_symbol, symbols_of}
 use Rattle.math_algebra.specs.Extending.{IsLower}
 use Rattle.math_standard.proofs.Standing.{symbols_lower}
@@ -19,26 +17,23 @@ use Rattle.fpl_model.specs.declared.expr.Expr.{Expr}
 use Rattle.fpl_model.specs.declared.expr.Expr.TheVariants.{Zero, Br, Sum, Times}
 use Rattle.fpl_model.specs.declared.presentation.Presentation.{Presentation}
 use Rattle.fpl_model.specs.Meaning.{plain}
-use Rattle.fpl_rows.specs.Meaning.{pivot_of}
 use Rattle.fpl_table.specs.Plain.{PlainTable, plain_basis, table_in, shell_in, symbols_in}
-use Rattle.fpl_table.specs.Push.{free_in, free_of, new_basis, push_of}
+use Rattle.fpl_table.specs.Push.{free_of, new_basis, push_of}
 use Rattle.fpl_table.specs.Leads.{trees_of}
 use Rattle.fpl_table.specs.Shape.{HasShape, IsBefore, basis_trees, symbol_tree_in}
 use Rattle.fpl_table.proofs.Leads as leads
-use Rattle.fpl_table.proofs.Pushed.{symbols_next}
 use Rattle.fpl_table.proofs.PushedTrees.{push_trees}
 use Rattle.plain_tables.proofs.Places.{basis_old}
 use Rattle.fpl_forms.specs.declared.term.Term.{Term}
 use Rattle.fpl_forms.specs.declared.term.Fact.{Fact}
 use Rattle.fpl_forms.specs.Ledgers.{PlainLedger, IsExpr}
-use Rattle.fpl_forms.specs.Forms.{IsTermOf, AreTermsOf, term_expr, sum_expr}
+use Rattle.fpl_forms.specs.Forms.{IsTermOf, AreTermsOf, term_expr}
 use Rattle.fpl_forms.proofs.Gathering.{all_as, all_mapped}
 use Rattle.fpl_forms.proofs.Tidied.{head_of, tail_of}
-use Rattle.fpl_prove.specs.declared.known.Level.{Level}
-use Rattle.fpl_prove.specs.Known.{symbol_expr, IsFormOf, IsLevel}
+use Rattle.fpl_table_facts.specs.declared.known.Level.{Level}
+use Rattle.fpl_table_facts.specs.Known.{symbol_expr, IsFormOf, IsLevel}
 use Rattle.fpl_prove.specs.Learning.{trees_at}
-use Rattle.fpl_prove.proofs.Leading.{free_same}
-use Rattle.fpl_prove.proofs.Nexts.{symbols_before, symbol_plain}
+use Rattle.fpl_table_facts.proofs.Nexts.{symbols_before, symbol_plain}
 
 -- facts over more atoms
 module _ (L : PlainLedger) (atoms more : List Expr) where
@@ -52,7 +47,8 @@ module _ (L : PlainLedger) (atoms more : List Expr) where
       (terms_same ts (tail_of (IsTermOf L.prime (length atoms)) t ts h))
 
   terms_more : (ts : List Term) → AreTermsOf L.prime (length atoms) ts → AreTermsOf L.prime (length (atoms ++ more)) ts
-  terms_more ts h = all_as (IsTermOf L.prime (length atoms)) (IsTermOf L.prime (length (atoms ++ more))) (λ t g. ((let l = g.0 in omega (arith, l, size)), g.1)) ts h
+  terms_more ts h = all_as (IsTermOf L.prime (length atoms)) (IsTermOf L.prime (length (atoms ++ more)))
+      (λ t g. ((let l = g.0 in omega (arith, l, size)), g.1)) ts h
 
   pub form_more : (e : Expr) (f : Fact) → IsFormOf L atoms e f → IsFormOf L (atoms ++ more) e f
   form_more e f h = record {
@@ -128,7 +124,8 @@ module _ (T : PlainTable) (shape : HasShape T) (rows : List (List Num)) where
     count = h.count;
     values = λ s f e.
         let short : s < length l.symbols.symbols = (let a = slice_get_within l.values.items s f e in let b = h.count in omega (arith, a, b)) in
-        let before = subst (λ (n : ℕ). All (IsBefore n) l.symbols.symbols) (sym size) (subst (All (IsBefore (length T.basis))) (sym h.symbols) (symbols_before T v)) in
+        let before = subst (λ (n : ℕ). All (IsBefore n) l.symbols.symbols) (sym size)
+        (subst (All (IsBefore (length T.basis))) (sym h.symbols) (symbols_before T v)) in
         subst (λ (e : Expr). IsFormOf L (basis ++ more) e f) (sym (symbol_more L basis more (get_or l.symbols.symbols s no_symbol) (before s no_symbol short)))
         (form_more L basis more _ f (h.values s f e));
   }

@@ -1,5 +1,5 @@
 -- The sides of a query and its values.
-use Rattle.std.proofs.Common.{◌≡◌, ◌∙◌, ℕ, ◌<◌, ◌≤◌, ◌^◌, length, Bool, true, false, refl, sym, ap, subst, arith}
+use Rattle.std.proofs.Common.{◌≡◌, ℕ, ◌<◌, ◌^◌, length, Bool, true, false, refl, sym, ap, subst, arith}
 use Rattle.std.specs.Prelude.{◌↔◌, nat_lt, nat_le, nat_eq, cond}
 use Rattle.std.proofs.lemmas.Bool.Decides.{nat_tests}
 use Rattle.math_algebra.specs.Degrees.{Degree, any, exact, mixed, of_both}
@@ -14,7 +14,7 @@ use Rattle.plain_tables.proofs.Holding.{held_is_table}
 use Rattle.fpl_queries.specs.Queries.{is_past, is_beyond, IsBeyond, HaveOneValue}
 use Rattle.fpl_queries.specs.Queries as queries
 use Rattle.fpl_queries.proofs.Within.{beyond_if, not_beyond, one_value}
-use Rattle.fpl_prove.specs.Known.{weight_in, is_reached, IsReached}
+use Rattle.fpl_table_facts.specs.Known.{weight_in, is_reached, IsReached}
 
 past_not : (d w : ℕ) → nat_lt d w ≡ false → nat_le w d ≡ true
 past_not d w e = grind (arith, nat_tests)
@@ -23,7 +23,8 @@ same_weight : (v w : ℕ) → nat_eq v w ≡ true → v ≡ w
 same_weight v w e = grind (arith, nat_tests)
 
 -- the weights of the two sides of what isn't past a weight
-reached_by : (d : ℕ) (a b : Degree ℕ) → is_past d (of_both nat_eq a b) ≡ false → (of_both nat_eq a b ≡ mixed → ⊥) → (is_reached d a ≡ true) × (is_reached d b ≡ true)
+reached_by : (d : ℕ) (a b : Degree ℕ) → is_past d (of_both nat_eq a b) ≡ false → (of_both nat_eq a b ≡ mixed → ⊥) →
+    (is_reached d a ≡ true) × (is_reached d b ≡ true)
 reached_by d any any e n = (refl, refl)
 reached_by d any (exact w) e n = (refl, past_not d w e)
 reached_by d any mixed e n = absurd (n refl)
@@ -39,7 +40,8 @@ reached_by d (exact v) mixed e n = absurd (n refl)
 reached_by d mixed b e n = absurd (n refl)
 
 module _ (p : Presentation) (q : Equation) (s : IsSoundEquation p q) where
-  pub sides_reached : (d : ℕ) → is_past d (queries.weight_in p q) ≡ false → (is_reached d (weight_in p q.left) ≡ true) × (is_reached d (weight_in p q.right) ≡ true)
+  pub sides_reached : (d : ℕ) → is_past d (queries.weight_in p q) ≡ false →
+      (is_reached d (weight_in p q.left) ≡ true) × (is_reached d (weight_in p q.right) ≡ true)
   sides_reached d e = reached_by d (weight_in p q.left) (weight_in p q.right) e s.2.0
 
   pub within : (T : PlainTable) → (IsBeyond p T q → ⊥) → is_past T.weight (queries.weight_in p q) ≡ false

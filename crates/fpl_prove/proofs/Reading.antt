@@ -1,6 +1,6 @@
 -- Terms whose numbers are those of rows.
-use Rattle.std.proofs.Common.{◌≡◌, ◌≤◌, ◌<◌, ◌+◌, ◌-◌, ◌++◌, ℕ, zero, suc, List, [], ◌∷◌, length, map, get_or, drop, refl, ap, sym, subst, ◌∙◌, arith, All}
-use Rattle.std.specs.Prelude.{slice_get, Option, Some, None, Ok, Bool, true, false, if◌then◌else◌}
+use Rattle.std.proofs.Common.{◌≡◌, ◌<◌, ◌+◌, ◌-◌, ◌++◌, ℕ, suc, List, [], ◌∷◌, length, get_or, drop, ap, sym, subst, ◌∙◌, arith, All}
+use Rattle.std.specs.Prelude.{slice_get, Some, None, Ok, Bool, true, false, if◌then◌else◌}
 use Rattle.fpl_numbers.specs.declared.number.Num.{Num}
 use Rattle.fpl_numbers.specs.declared.number.Kind.{Kind}
 use Rattle.fpl_numbers.specs.declared.number.Kind.TheVariants.{Prime}
@@ -8,9 +8,9 @@ use Rattle.fpl_numbers.specs.Numbers.{IsListed, IsElement, is_nought, negative_o
 use Rattle.fpl_numbers.specs.Kinds.{field_of, number_of}
 use Rattle.fpl_numbers.specs.Reads.{Reads}
 use Rattle.fpl_numbers.proofs.KindReads.{kind_reads}
-use Rattle.math_linear.specs.Vector.{Vector, vplus, scale}
-use Rattle.fpl_scalar.specs.Vectors.{axpy_of, scale_of}
-use Rattle.fpl_rows.specs.Meaning.{IsRowOf, AreRows, vector_in}
+use Rattle.math_linear.specs.Vector.{scale}
+use Rattle.fpl_scalar.specs.Vectors.{axpy_of}
+use Rattle.fpl_rows.specs.Meaning.{IsRowOf, vector_in}
 use Rattle.fpl_rows.proofs.Fits.{ok_same, first_fits, all_head, all_tail}
 use Rattle.fpl_rows.proofs.Readings.{axpy_places, scale_places}
 use Rattle.fpl_log.specs.declared.terms.Term as log
@@ -21,21 +21,22 @@ use Rattle.fpl_check.specs.Steps.{scale_if}
 use Rattle.fpl_forms.specs.declared.term.Term.{Term}
 use Rattle.fpl_forms.specs.declared.term.Fact.{Fact}
 use Rattle.fpl_forms.specs.Ledgers.{PlainLedger, Grows}
-use Rattle.fpl_forms.specs.Forms.{AreTermsOf, tidied}
+use Rattle.fpl_forms.specs.Forms.{AreTermsOf}
 use Rattle.fpl_forms.specs.Forms as form
-use Rattle.fpl_forms.specs.Combining.{multiplied, terms_of}
-use Rattle.fpl_forms.specs.Laws.{number_in, IsForm}
+use Rattle.fpl_forms.specs.Combining.{multiplied}
+use Rattle.fpl_forms.specs.Laws.{number_in}
 use Rattle.fpl_forms.proofs.Values.{number-append, tidied_form, multiplied_is_form}
 use Rattle.fpl_forms.proofs.Tidied.{tidied_is_form}
 use Rattle.fpl_facts.specs.Facts.{IsZero}
 use Rattle.fpl_prove.specs.Taking.{off_number, taken, all_taken, scaled_terms}
-use Rattle.fpl_prove.proofs.Grown.{grows_fact}
+use Rattle.fpl_table_facts.proofs.Grown.{grows_fact}
 use Rattle.std.proofs.lemmas.List.Elements.{All-append}
 
 pub grows_zeros : {L M : PlainLedger} (g : Grows L M) (atoms : List Expr) (zs : List Fact) → All (IsZero L atoms) zs → All (IsZero M atoms) zs
 grows_zeros g atoms zs h i d lt = grows_fact g (h i d lt)
 
-pub taken_step : (q : ℕ) (zss : List (List Term)) (ts us : List Term) (terms : List log.Term) (j k : ℕ) (t : log.Term) → j ≡ suc k → Some t ≡ slice_get terms k →
+pub taken_step : (q : ℕ) (zss : List (List Term)) (ts us : List Term) (terms : List log.Term) (j k : ℕ) (t : log.Term) → j ≡ suc k →
+    Some t ≡ slice_get terms k →
     us ≡ taken q zss ts t → all_taken q zss us (drop j terms) ≡ all_taken q zss ts (drop k terms)
 taken_step q zss ts us terms j k t e got is =
     ap (λ (i : ℕ). all_taken q zss us (drop i terms)) e ∙ ap (λ (us : List Term). all_taken q zss us (drop (suc k) terms)) is

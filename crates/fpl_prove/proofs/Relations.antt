@@ -1,7 +1,7 @@
 -- A relation of the weight after a table's: its sides are due, and its row is that of its sides.
-use Rattle.std.proofs.Common.{◌≡◌, ◌<◌, ◌≤◌, ◌+◌, ◌-◌, ◌^◌, ℕ, zero, suc, List, [], ◌∷◌, Bool, true, length, map, get_or, refl, ap, ap₂, sym, subst, ◌∙◌, arith, All}
-use Rattle.std.specs.Prelude.{sum, nat_le, nat_eq, Option, Some, None, slice_get, ◌&&◌}
-use Rattle.std.proofs.lemmas.List.{get_or-map, length-map}
+use Rattle.std.proofs.Common.{◌≡◌, ◌<◌, ◌≤◌, ◌+◌, ◌-◌, ◌^◌, ℕ, suc, List, [], true, length, map, get_or, refl, ap, ap₂, sym, subst, ◌∙◌, arith}
+use Rattle.std.specs.Prelude.{sum, nat_le, nat_eq, Option, Some, None, slice_get}
+use Rattle.std.proofs.lemmas.List.{get_or-map}
 use Rattle.std.proofs.lemmas.List.Sums.{sum-map, get_or-le-sum_by}
 use Rattle.std.proofs.lemmas.List.Elements.{All-get_or}
 use Rattle.std.proofs.lemmas.Option.{get_or_from_slice_get, slice_get_within}
@@ -10,13 +10,12 @@ use Rattle.fpl_numbers.specs.Kinds.{Number, field_of}
 use Rattle.math_algebra.specs.Tree.{none, Generator}
 use Rattle.math_algebra.specs.Symbols.{pair_number, generator_number}
 use Rattle.math_algebra.specs.SourceRows.{row_of}
-use Rattle.math_algebra.specs.Degrees.{Degree, any, exact, mixed, of_both, weight_of}
+use Rattle.math_algebra.specs.Degrees.{exact, of_both, weight_of}
 use Rattle.fpl_model.specs.declared.expr.Expr.{Expr}
 use Rattle.fpl_model.specs.declared.presentation.Equation.{Equation}
 use Rattle.fpl_model.specs.declared.presentation.Presentation.{Presentation}
 use Rattle.fpl_model.specs.Meaning.{plain, tree_in, generators_in, equation_in, presentation_in}
-use Rattle.fpl_model.specs.Sound.{IsSound, IsSoundEquation, count_tree, count_equation, places}
-use Rattle.fpl_model.specs.Degrees.{is_exactly}
+use Rattle.fpl_model.specs.Sound.{IsSound, IsSoundEquation, count_equation}
 use Rattle.fpl_model.proofs.Terms.{term_within}
 use Rattle.fpl_log.specs.declared.step.Origin.TheVariants.{Relation}
 use Rattle.fpl_table.specs.Plain.{PlainTable, table_in, shell_in}
@@ -26,10 +25,11 @@ use Rattle.plain_sources.proofs.Sources.{weight_same}
 use Rattle.fpl_check.specs.Steps.{weighs_next, is_relation}
 use Rattle.fpl_check.proofs.Loops.{both_true, is_most}
 use Rattle.fpl_facts.specs.Axioms.{no_equation, relation_at}
-use Rattle.fpl_prove.specs.Known.{is_next, weight_in}
-use Rattle.fpl_prove.specs.Zeros.{IsDue, expr_row, origin_vector}
+use Rattle.fpl_table_facts.specs.Known.{is_next, weight_in}
+use Rattle.fpl_table_facts.specs.Rows.{IsDue}
+use Rattle.fpl_prove.specs.Zeros.{origin_vector}
 use Rattle.fpl_prove.specs.Sides.{sides_row}
-use Rattle.fpl_prove.proofs.Due.{first_of_both, second_of_both}
+use Rattle.fpl_table_facts.proofs.Due.{first_of_both, second_of_both}
 
 sum_at : (f : Equation → ℕ) (xs : List Equation) (i : ℕ) (d : Equation) → i < length xs → f (get_or xs i d) ≤ sum (map f xs)
 sum_at f xs i d lt = subst (λ n. f (get_or xs i d) ≤ n) (sym (sum-map f xs)) (get_or-le-sum_by f xs i d lt)

@@ -1,8 +1,6 @@
 -- A symbol that is a lead, from what is 0: only symbols before it are left.
-use Rattle.std.proofs.Common.{◌≡◌, ◌≢◌, ◌≤◌, ◌<◌, ◌+◌, ◌-◌, ◌%◌, ◌++◌, ℕ, zero, suc, List, [], ◌∷◌, length, map, get_or, refl, ap, ap₂, sym, subst, ◌∙◌, arith, All, Bool, true, false, nat_eq, if◌then◌else◌}
+use Rattle.std.proofs.Common.{◌≡◌, ◌≢◌, ◌≤◌, ◌<◌, ◌+◌, ◌-◌, ◌++◌, ℕ, zero, suc, List, [], ◌∷◌, length, get_or, refl, ap, ap₂, sym, subst, ◌∙◌, arith, All, Bool, true, false, nat_eq, if◌then◌else◌}
 use Rattle.std.specs.Prelude.{slice_get, Some}
-use Rattle.std.proofs.lemmas.List.{length-append}
-use Rattle.std.proofs.lemmas.List.Elements.{All-append}
 use native.Mathlib.Decide.{dec_lt}
 use native.Mathlib.Nat.{mod-eq_of_lt}
 use Rattle.std.proofs.lemmas.Bool.Decides.{nat_tests}
@@ -25,16 +23,17 @@ use Rattle.fpl_forms.specs.Combining.{multiplied}
 use Rattle.fpl_forms.specs.Laws.{number_at, number_in, IsAscending, AreNotNought, IsForm}
 use Rattle.fpl_forms.proofs.Next.{element}
 use Rattle.fpl_forms.proofs.Tidied.{cons_all, head_of, tail_of, tidied_is_form}
-use Rattle.fpl_forms.proofs.Values.{number-append, tidied_form, multiplied_is_form}
-use Rattle.fpl_prove.specs.Known.{IsFormOf}
-use Rattle.fpl_prove.specs.Learning.{IsSolvedAt, AreSolved, AreValues}
-use Rattle.fpl_prove.proofs.Grown.{grows_form_of}
+use Rattle.fpl_forms.proofs.Values.{tidied_form, multiplied_is_form}
+use Rattle.fpl_table_facts.specs.Known.{IsFormOf}
+use Rattle.fpl_prove.specs.Learning.{IsSolvedAt, AreValues}
+use Rattle.fpl_table_facts.proofs.Grown.{grows_form_of}
 
 pub grows_values : {L M : PlainLedger} (g : Grows L M) (basis es : List Expr) (fs : List Fact) → AreValues L basis es fs → AreValues M basis es fs
 grows_values g basis es fs h s f e = grows_form_of g (h s f e)
 
 -- one more value
-pub values_more : (L : PlainLedger) (basis es : List Expr) (fs us : List Fact) (f : Fact) (s : ℕ) → us ≡ fs ++ f ∷ [] → length fs ≡ s → AreValues L basis es fs →
+pub values_more : (L : PlainLedger) (basis es : List Expr) (fs us : List Fact) (f : Fact) (s : ℕ) → us ≡ fs ++ f ∷ [] → length fs ≡ s →
+    AreValues L basis es fs →
     IsFormOf L basis (get_or es s Zero) f → AreValues L basis es us
 values_more L basis es fs us f s more count h is k z e =
     let at : (j : ℕ) → 0 + j ≡ j = λ j. omega arith in

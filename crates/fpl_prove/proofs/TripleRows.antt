@@ -1,31 +1,31 @@
 -- The rows of the two sides of the Jacobi identity at basis elements, and of a cube.
-use Rattle.std.proofs.Common.{◌≡◌, ◌<◌, ℕ, List, [], ◌∷◌, length, get_or, refl, ap, ap₂, sym, subst, ◌∙◌, arith}
+use Rattle.std.proofs.Common.{◌≡◌, ◌<◌, ℕ, [], ◌∷◌, length, get_or, ap, ap₂, ◌∙◌}
 use mathlib.Core.Path.{fun_ext}
 use Rattle.math_fields.specs.Field.{Field}
-use Rattle.math_linear.specs.Vector.{Vector, vzero, vplus, scale, place}
+use Rattle.math_linear.specs.Vector.{Vector, vplus, scale, place}
 use Rattle.math_linear.proofs.Vectors.{vplus-vzero, scale-vzero}
 use Rattle.fpl_numbers.specs.declared.number.Num.{Num}
 use Rattle.fpl_numbers.specs.Numbers.{residue}
 use Rattle.fpl_numbers.specs.Kinds.{field_of, number_of}
-use Rattle.math_algebra.specs.Derives.{Expression, sum_all, sign}
+use Rattle.math_algebra.specs.Derives.{sign}
 use Rattle.math_algebra.specs.Table.{Table, bracket, val}
 use Rattle.math_algebra.specs.Symbols.{pair_number, generator_number}
 use Rattle.math_algebra.specs.SourceRows.{outer, row_of, jacobi_row, cube_row}
 use Rattle.fpl_model.specs.declared.expr.Expr.{Expr}
 use Rattle.fpl_model.specs.declared.expr.Expr.TheVariants.{Zero, Sum, Times, Br}
 use Rattle.fpl_model.specs.declared.presentation.Parity as code
-use Rattle.fpl_model.specs.Meaning.{parity_in, tree_in, presentation_in}
-use Rattle.fpl_table.specs.Plain.{PlainTable, plain_basis, table_in}
+use Rattle.fpl_model.specs.Meaning.{parity_in, presentation_in}
+use Rattle.fpl_table.specs.Plain.{plain_basis, table_in}
 use Rattle.fpl_forms.specs.Ledgers.{PlainLedger, IsSoundLedger}
 use Rattle.fpl_forms.proofs.Trees.{tree-Sum, tree-Br}
 use Rattle.fpl_facts.specs.Axioms.{jacobi_sum, sign_number}
 use Rattle.fpl_facts.proofs.NextAxioms.{sign_is}
 use Rattle.plain_facts.specs.Values.{value_in}
-use Rattle.fpl_prove.specs.declared.known.Known.{Known}
-use Rattle.fpl_prove.specs.Known.{IsKnown}
-use Rattle.fpl_prove.specs.Zeros.{expr_row}
+use Rattle.fpl_table_facts.specs.declared.known.Known.{Known}
+use Rattle.fpl_table_facts.specs.Known.{IsKnown}
+use Rattle.fpl_table_facts.specs.Rows.{expr_row}
 use Rattle.fpl_prove.specs.Sides.{sides_row}
-use Rattle.fpl_prove.proofs.RowValues.{row_Zero, row_Times, row_Br}
+use Rattle.fpl_table_facts.proofs.RowValues.{row_Zero, row_Times, row_Br}
 use Rattle.fpl_prove.proofs.Monomials.{value_at}
 
 module _ (L : PlainLedger) (s : IsSoundLedger L) (k : Known) (h : IsKnown L k) where

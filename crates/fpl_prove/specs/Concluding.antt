@@ -14,7 +14,7 @@ use Rattle.fpl_table.specs.Plain.{PlainTable, symbols_in}
 use Rattle.fpl_check.specs.Steps.{is_origin, conclusion_of_step}
 use Rattle.fpl_forms.specs.declared.term.Fact.{Fact}
 use Rattle.fpl_forms.specs.Ledgers.{PlainLedger}
-use Rattle.fpl_prove.specs.declared.known.Next.{Next}
+use Rattle.fpl_table_facts.specs.declared.known.Next.{Next}
 use Rattle.fpl_prove.specs.Zeros.{IsZeroOf, AreConcluded}
 
 abbrev pub IsStepFor : PlainTable → Presentation → ℕ → Step → Type 0

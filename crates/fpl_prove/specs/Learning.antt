@@ -8,7 +8,7 @@
 --   IsSolvedAt q s ts          terms have number 1 at s, and none after it
 --   AreSolved q leads zs       each of some facts is so solved at its lead
 --   AreValues L basis es fs    forms over the basis, with these left sides
-use Rattle.std.specs.Prelude.{ℕ, zero, suc, ◌≡◌, ◌≤◌, ◌<◌, ◌++◌, List, [], ◌∷◌, length, map, get_or, slice_get, Some, Bool, true, false, cond, nat_eq}
+use Rattle.std.specs.Prelude.{ℕ, zero, suc, ◌≡◌, ◌≤◌, ◌<◌, ◌++◌, List, [], ◌∷◌, map, get_or, slice_get, Some, Bool, true, false, cond, nat_eq}
 use Rattle.fpl_numbers.specs.declared.number.Kind.TheVariants.{Prime}
 use Rattle.fpl_numbers.specs.Kinds.{field_of}
 use Rattle.fpl_model.specs.declared.expr.Expr.{Expr}
@@ -20,7 +20,7 @@ use Rattle.fpl_forms.specs.declared.term.Term.{Term}
 use Rattle.fpl_forms.specs.declared.term.Fact.{Fact}
 use Rattle.fpl_forms.specs.Ledgers.{PlainLedger}
 use Rattle.fpl_forms.specs.Laws.{number_in}
-use Rattle.fpl_prove.specs.Known.{IsFormOf}
+use Rattle.fpl_table_facts.specs.Known.{IsFormOf}
 
 abbrev pub close_facts : List Step → List Fact → List Fact
 close_facts [] fs = []

@@ -1,4 +1,3 @@
-pub mod Known
 pub mod Taking
 pub mod Concluding
 pub mod Learning

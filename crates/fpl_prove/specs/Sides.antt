@@ -6,7 +6,7 @@ use Rattle.fpl_numbers.specs.Kinds.{field_of}
 use Rattle.fpl_model.specs.declared.expr.Expr.{Expr}
 use Rattle.fpl_model.specs.declared.presentation.Presentation.{Presentation}
 use Rattle.fpl_table.specs.Plain.{PlainTable}
-use Rattle.fpl_prove.specs.Zeros.{expr_row}
+use Rattle.fpl_table_facts.specs.Rows.{expr_row}
 
 abbrev pub sides_row : (p : Presentation) → PlainTable → Expr → Expr → Vector (field_of p.field)
 sides_row p T e f =

@@ -1,54 +1,26 @@
 -- What is 0 over the symbols of the weight after a table's, with its numbers.
 --
---   pair_leaf p T i j         an outermost bracket of two basis elements, as a vector over the symbols
---   expr_row p T e            the row of an expression of the weight after the table's
---   origin_vector p T o       the row of an origin
---   IsRow L k n e v f         a fact over the symbols with left side e, whose numbers are v
---   IsZeroOf L k n v f        the sum of the fact's terms is 0, and its numbers are v
---   AreLeavesOf, AreLeaves    facts for the brackets of the atoms of some terms with those of others, with the numbers of these brackets
---   IsDue p d e               an expression over p, of few places, that has no weight or the one after d
---   AreRowsOf L k n es fs     facts over the symbols for some expressions, with the numbers of their rows
---   AreConcluded L k n cs zs  for each conclusion what is 0 with its numbers
-use Rattle.std.specs.Prelude.{ℕ, suc, ◌≡◌, ◌-◌, ◌<◌, ◌^◌, true, List, [], ◌∷◌, length, map, get_or, slice_get, Option, Some, All}
+--   origin_vector p T o    the row of an origin
+--   IsZeroOf L n v f       the sum of the fact's terms is 0, and its numbers are v
+--   AreConcluded L n cs zs for each conclusion what is 0 with its numbers
+use Rattle.std.specs.Prelude.{ℕ, ◌≡◌, List, [], length, get_or, slice_get, Some}
 use Rattle.fpl_numbers.specs.declared.number.Num.{Num}
 use Rattle.fpl_numbers.specs.Kinds.{field_of}
 use Rattle.math_linear.specs.Vector.{Vector}
-use Rattle.math_algebra.specs.Symbols.{pair_number, generator_number}
-use Rattle.math_algebra.specs.SourceRows.{outer_place, row_of}
-use Rattle.fpl_model.specs.declared.expr.Expr.{Expr}
 use Rattle.fpl_model.specs.declared.presentation.Presentation.{Presentation}
-use Rattle.fpl_model.specs.Meaning.{plain, tree_in, presentation_in}
-use Rattle.fpl_model.specs.Sound.{count_tree}
+use Rattle.fpl_model.specs.Meaning.{presentation_in}
 use Rattle.fpl_rows.specs.Meaning.{vector_in}
 use Rattle.fpl_log.specs.declared.step.Origin.{Origin}
 use Rattle.fpl_table.specs.Plain.{PlainTable, table_in}
 use Rattle.plain_sources.specs.TableLaws.{vector_of_origin}
-use Rattle.fpl_forms.specs.declared.term.Term.{Term}
 use Rattle.fpl_forms.specs.declared.term.Fact.{Fact}
-use Rattle.fpl_forms.specs.Ledgers.{PlainLedger, IsExpr}
-use Rattle.fpl_forms.specs.Forms.{IsWork}
-use Rattle.fpl_forms.specs.Combining.{terms_of, lefts, pair_of, atom_of, AreRows}
-use Rattle.fpl_forms.specs.Laws.{number_in, IsForm}
-use Rattle.fpl_facts.specs.Facts.{IsFact, IsZero}
-use Rattle.fpl_prove.specs.declared.known.Known.{Known}
-use Rattle.fpl_prove.specs.declared.known.Next.{Next}
-use Rattle.fpl_prove.specs.Known.{is_next, weight_in}
-
-abbrev pub pair_leaf : (p : Presentation) → PlainTable → ℕ → ℕ → Vector (field_of p.field)
-pair_leaf p T i j = outer_place (field_of p.field) (table_in p.field T) (pair_number (presentation_in p) (table_in p.field T)) i j
-
-abbrev pub expr_row : (p : Presentation) → PlainTable → Expr → Vector (field_of p.field)
-expr_row p T e =
-    row_of (field_of p.field) (table_in p.field T) (pair_number (presentation_in p) (table_in p.field T))
-    (generator_number (presentation_in p) (table_in p.field T)) (tree_in p.field e)
+use Rattle.fpl_forms.specs.Ledgers.{PlainLedger}
+use Rattle.fpl_forms.specs.Laws.{number_in}
+use Rattle.fpl_facts.specs.Facts.{IsZero}
+use Rattle.fpl_table_facts.specs.declared.known.Next.{Next}
 
 abbrev pub origin_vector : (p : Presentation) → PlainTable → Origin → Vector (field_of p.field)
 origin_vector p T o = vector_of_origin (field_of p.field) (presentation_in p) (table_in p.field T) o
-
-pub record IsRow (L : PlainLedger) (n : Next) (e : Expr) (v : Vector (field_of L.presentation.field)) (f : Fact) : Type 0 where
-  pub fact : IsFact L n.trees.items e f
-  pub form : IsForm L.prime (length n.trees.items) f.terms.items
-  pub numbers : (i : ℕ) → number_in L.presentation.field f.terms.items i ≡ v i
 
 pub record IsZeroOf (L : PlainLedger) (n : Next) (v : Vector (field_of L.presentation.field)) (f : Fact) : Type 0 where
   pub zero : IsZero L n.trees.items f
@@ -57,26 +29,3 @@ pub record IsZeroOf (L : PlainLedger) (n : Next) (v : Vector (field_of L.present
 pub record AreConcluded (L : PlainLedger) (n : Next) (cs : List (List Num)) (zs : List Fact) : Type 0 where
   pub count : length zs ≡ length cs
   pub each : (m : ℕ) (z : Fact) → slice_get zs m ≡ Some z → IsZeroOf L n (vector_in L.presentation.field (get_or cs m [])) z
-
--- facts over the symbols for the brackets of the atom of s with those of ts
-pub record AreLeavesOf (L : PlainLedger) (k : Known) (n : Next) (s : Term) (ts : List Term) (fs : List Fact) : Type 0 where
-  pub works : All (IsWork L n.trees.items) fs
-  pub lefts_are : lefts L fs ≡ map (pair_of k.basis.items (atom_of k.basis.items s)) ts
-  pub numbers : (i : ℕ) → map (λ f. number_in L.presentation.field (terms_of f) i) fs ≡ map (λ t. pair_leaf L.presentation k.table s.atom t.atom i) ts
-
-pub record AreLeaves (L : PlainLedger) (k : Known) (n : Next) (ss ts : List Term) (rows : List (List Fact)) : Type 0 where
-  pub members : AreRows L k.basis.items n.trees.items ss ts rows
-  pub numbers : (i : ℕ) → map (map (λ f. number_in L.presentation.field (terms_of f) i)) rows
-      ≡ map (λ s. map (λ t. pair_leaf L.presentation k.table s.atom t.atom i) ts) ss
-
--- an expression over p, of few places, that has no weight or the one after d
-pub record IsDue (p : Presentation) (d : ℕ) (e : Expr) : Type 0 where
-  pub over : IsExpr p e
-  pub few : count_tree (plain e) < 2 ^ 40
-  pub weight : is_next d (weight_in p e) ≡ true
-
--- facts over the symbols for some expressions, with the numbers of their rows
-pub record AreRowsOf (L : PlainLedger) (k : Known) (n : Next) (es : List Expr) (fs : List Fact) : Type 0 where
-  pub works : All (IsWork L n.trees.items) fs
-  pub lefts_are : lefts L fs ≡ es
-  pub numbers : (i : ℕ) → map (λ f. number_in L.presentation.field (terms_of f) i) fs ≡ map (λ e. expr_row L.presentation k.table e i) es

@@ -5,16 +5,15 @@ ghost use Rattle.fpl_table.specs.Push.{push_of};
 ghost use Rattle.fpl_check.specs.Premises.{IsSectionFor};
 ghost use Rattle.fpl_check.specs.Check.{Accepts, rows_stored};
 ghost use Rattle.fpl_forms.specs.Ledgers.{Grows};
-ghost use Rattle.fpl_prove.specs.Known.{IsKnown};
+ghost use Rattle.fpl_table_facts.specs.Known.{IsKnown};
 
 use crate::closed::{close_zeros, leads_of, stored_rows};
-use crate::known::{Known, Level};
 use crate::level::{new_basis, symbol_values};
-use crate::next::next_of;
 use crate::steps::conclusions;
 use fpl_forms::Ledger;
 use fpl_log::Section;
 use fpl_model::Presentation;
+use fpl_table_facts::{Known, Level, next_of};
 use std::alloc::{AllocError, Global};
 
 /// From an accepted section: what is known of the weight after the table's.

@@ -4,7 +4,7 @@ ghost use Rattle.fpl_forms.specs.Ledgers.{IsExpr, Grows};
 ghost use Rattle.fpl_forms.specs.Forms.{IsWork};
 ghost use Rattle.fpl_forms.specs.Combining.{lefts, atom_of};
 ghost use Rattle.fpl_facts.specs.Facts.{IsZero};
-ghost use Rattle.fpl_prove.specs.Known.{IsFormOf};
+ghost use Rattle.fpl_table_facts.specs.Known.{IsFormOf};
 ghost use Rattle.fpl_prove.specs.Learning.{free_below, trees_at, IsSolvedAt, AreSolved, AreValues};
 
 use fpl_facts::{plus_zero, zero_times};

@@ -3,16 +3,16 @@ ghost use Rattle.std.specs.Prelude.{◌≡◌, ◌≤◌, true, length, IfOk, On
 ghost use Rattle.fpl_check.specs.Steps.{is_origin, is_relation, is_triple_of, is_cube_of};
 ghost use Rattle.fpl_log.specs.declared.step.Origin.TheVariants as log;
 ghost use Rattle.fpl_forms.specs.Ledgers.{Grows, left_of, right_of};
-ghost use Rattle.fpl_prove.specs.Known.{IsKnown, IsNext};
-ghost use Rattle.fpl_prove.specs.Zeros.{IsDue, IsZeroOf, origin_vector};
+ghost use Rattle.fpl_table_facts.specs.Known.{IsKnown, IsNext};
+ghost use Rattle.fpl_table_facts.specs.Rows.{IsDue};
+ghost use Rattle.fpl_prove.specs.Zeros.{IsZeroOf, origin_vector};
 ghost use Rattle.fpl_prove.specs.Sides.{sides_row};
 
-use crate::known::{Known, Next};
-use crate::row::row;
 use fpl_facts::{cube, jacobi, less, relation};
 use fpl_forms::{Fact, Ledger};
 use fpl_log::Origin;
 use fpl_model::Presentation;
+use fpl_table_facts::{Known, Next, row};
 use std::alloc::{AllocError, Global};
 
 /// The row of the left side of line `n`, less that of its right side.
@@ -31,7 +31,8 @@ fn line_zero<'a>(
     requires left { IsDue p.now known.now.table.weight (left_of ledger.old n) }
     requires right { IsDue p.now known.now.table.weight (right_of ledger.old n) }
     ensures grows { OnOk result (Grows ledger.old ledger.new) }
-    ensures zero { IfOk result (λ f. IsZeroOf ledger.new next.now (sides_row ledger.new.presentation known.now.table (left_of ledger.old n) (right_of ledger.old n)) f) }
+    ensures zero { IfOk result (λ f. IsZeroOf ledger.new next.now
+        (sides_row ledger.new.presentation known.now.table (left_of ledger.old n) (right_of ledger.old n)) f) }
 {
     let left = ledger.line(n).left.copy(alloc)?;
     let right = ledger.line(n).right.copy(alloc)?;
@@ -78,7 +79,8 @@ fn jacobi_zero<'a>(
     requires next { IsNext ledger.old known.now next.now }
     requires triple { is_triple_of known.now.table triple.0 triple.1 triple.2 ≡ true }
     ensures grows { OnOk result (Grows ledger.old ledger.new) }
-    ensures zero { IfOk result (λ f. IsZeroOf ledger.new next.now (origin_vector ledger.new.presentation known.now.table (log.Jacobi triple.0 triple.1 triple.2)) f) }
+    ensures zero { IfOk result (λ f. IsZeroOf ledger.new next.now
+        (origin_vector ledger.new.presentation known.now.table (log.Jacobi triple.0 triple.1 triple.2)) f) }
 {
     ledger.sound();
     let parities = (

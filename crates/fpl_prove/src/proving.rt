@@ -7,20 +7,20 @@ ghost use Rattle.fpl_complete.specs.State.{AreAccepted, AreOfWeights};
 ghost use Rattle.fpl_queries.specs.Queries.{weight_in, is_past, IsBeyond, HaveOneValue};
 ghost use Rattle.fpl_reasons.specs.Why.{IsProofOf};
 ghost use Rattle.fpl_forms.specs.Ledgers.{PlainLedger, Grows, Says};
-ghost use Rattle.fpl_prove.specs.Known.{IsKnown};
+ghost use Rattle.fpl_table_facts.specs.Known.{IsKnown};
 ghost use Rattle.fpl_prove.specs.declared.proving.WhyError.TheVariants.{NoMemory};
 ghost use Rattle.fpl_prove.specs.Prefixes.{after, AreNextSections};
 
-use crate::known::Known;
 use crate::learn::learn;
-use crate::value::value;
 use fpl_forms::Ledger;
 use fpl_lines::Proof;
 use fpl_log::Sections;
 use fpl_model::{Degree, Equation, Presentation};
+use fpl_needed::needed_lines;
 use fpl_numbers::Kind;
 use fpl_scalar::{Field, Residue};
 use fpl_table::Table;
+use fpl_table_facts::{Known, value};
 use std::alloc::{AllocError, Global};
 
 /// Why there is no proof.
@@ -133,7 +133,7 @@ fn equal_line<'a>(
     Ok(line)
 }
 
-/// A proof from the axioms that the two sides of a query are equal, in which no two lines have the same two sides.
+/// A proof from the axioms that the two sides of a query are equal, in which no two lines have the same two sides, and each but the last is cited.
 ///
 /// The sections are those that raised the table. `NotEqual` comes exactly where the two sides have different values.
 pub fn prove(
@@ -160,7 +160,7 @@ pub fn prove(
     let through = weight_for(p, table.weight(), query);
     learn_through(alloc, &mut ledger, p, &mut known, sections, through)?;
     match equal_line(alloc, &mut ledger, p, &known, query) {
-        Ok(line) => Ok(ledger.into_proof(line)),
+        Ok(line) => Ok(needed_lines(alloc, ledger.into_proof(line))?),
         Err(error) => Err(error),
     }
 }

@@ -4,18 +4,18 @@ ghost use Rattle.fpl_numbers.specs.declared.number.Num.{Num};
 ghost use Rattle.fpl_check.specs.Premises.{IsSectionFor};
 ghost use Rattle.fpl_check.specs.Steps.{conclusions_of};
 ghost use Rattle.fpl_forms.specs.Ledgers.{Grows};
-ghost use Rattle.fpl_prove.specs.Known.{IsKnown, IsNext};
+ghost use Rattle.fpl_table_facts.specs.Known.{IsKnown, IsNext};
 ghost use Rattle.fpl_facts.specs.Facts.{IsZero};
 ghost use Rattle.fpl_prove.specs.Concluding.{IsStepFor, IsConclusionOf};
 ghost use Rattle.fpl_prove.specs.Zeros.{AreConcluded};
 
-use crate::known::{Known, Next};
 use crate::origins::origin_zero;
 use crate::taking::{take_terms, times_scale};
 use fpl_forms::{Fact, Ledger};
 use fpl_log::{Origin, Section, Step, Terms};
 use fpl_model::Presentation;
 use fpl_scalar::Num;
+use fpl_table_facts::{Known, Next};
 use std::alloc::{AllocError, Global};
 
 /// What an Insert step concludes, after those with these zeros.

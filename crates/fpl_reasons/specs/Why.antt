@@ -4,7 +4,8 @@
 --   reason_text r, reason_lines p r   what is said of a query, in words, and the lines of its proof
 --   query_text p n r, queries_text p n rs   both of query n, which counts from 1; those of queries from n on
 --   why_text p T reasons   the field and the weight; the queries
---   IsProofOf p q ls       an accepted proof whose last line has the sides of the query, and in which no two lines have the same two sides
+--   IsProofOf p q ls       an accepted proof whose last line has the sides of the query, in which no two lines have the same two sides, and each line
+--                          but the last is cited by a later one
 --   IsReason p T q r       `beyond` exactly where the weight is past the table's, else `different` exactly where the two values differ, else a proof
 --   AreReasons             the same of each query, in order
 --   IsWhyText p T text     the text is that of reasons, one for each query
@@ -20,6 +21,7 @@ use Rattle.fpl_lines.specs.Meaning.{AreLines}
 use Rattle.fpl_why.specs.Checking.{AreInstances}
 use Rattle.fpl_why.specs.Texts.{proof_text}
 use Rattle.fpl_forms.specs.Distinct.{line_number, HasSides, AreDistinct}
+use Rattle.fpl_needed.specs.Needed.{NoneIsIdle}
 use Rattle.fpl_table.specs.Plain.{PlainTable}
 use Rattle.fpl_table.specs.Standard.{IsTableOf}
 use Rattle.fpl_print.specs.Lines.{head_line}
@@ -54,6 +56,7 @@ pub record IsProofOf (p : Presentation) (q : Equation) (ls : List Line) : Type 0
   pub distinct : AreDistinct ls
   pub some : 1 ≤ length ls
   pub proves : HasSides (line_number ls (length ls)) q.left q.right
+  pub needed : NoneIsIdle ls
 
 pub data IsReason (p : Presentation) (T : PlainTable) (q : Equation) : Reason → Type 0 where
   is_beyond_limit : IsBeyond p T q → IsReason p T q Beyond

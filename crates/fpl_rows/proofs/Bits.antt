@@ -165,6 +165,26 @@ rest_bit words place j l m e =
     bit_zero words j (ap (λ k. bit_at (get_or words k 0) (j % 64)) q ∙ ap (bit_at (get_or words (place / 64) 0)) i
     ∙ sym (moved (get_or words (place / 64) 0) (place % 64) (j - place - 1)) ∙ e)
 
+-- the bits of word k behind one of them
+pub rest_at : (words : List ℕ) (size k bit place end : ℕ) → bit < 64 → place ≡ min (64 * k + bit) size → end ≡ min (64 * (k + 1)) size →
+    IsRest (bits_in words size) place (get_or words k 0 / 2 ^ bit / 2) end
+rest_at words size k bit place end l p q = record {
+  within = (let long = length-bits words size in omega (arith, long, q));
+  none = λ j a b e.
+      let here : place ≡ 64 * k + bit = omega (arith, p, q, a, b) in
+      let word : j / 64 ≡ k = omega (arith, here, q, a, b, l) in
+      let i : j % 64 ≡ bit + (1 + (j - place - 1)) = omega (arith, here, q, a, b, l) in
+      no_bit words size j (bit_zero words j (ap (λ w. bit_at (get_or words w 0) (j % 64)) word ∙ ap (bit_at (get_or words k 0)) i
+      ∙ sym (moved (get_or words k 0) bit (j - place - 1)) ∙ e));
+}
+
+-- behind the end there is none
+pub rest_none : (words : List ℕ) (size : ℕ) → IsRest (bits_in words size) size 0 size
+rest_none words size = record {
+  within = (let long = length-bits words size in omega (arith, long));
+  none = λ j a b e. absurd (omega (arith, a, b));
+}
+
 -- a cursor goes on: past bits that are 0, or to what stands behind its word
 module _ (marks : List Bool) (place rest end skip : ℕ) (h : IsRest marks place rest end) (z : (i : ℕ) → i < skip → bit_at rest i ≡ 0) where
   pub rest_skipped : IsRest marks (place + 1 + skip) (rest / 2 ^ skip / 2) end

@@ -1,6 +1,6 @@
-ghost use Rattle.std.specs.Prelude.{◌≡◌, ◌≤◌, ◌<◌, ◌+◌, ◌-◌, ◌*◌, ◌/◌, ◌^◌, true, false, ℕ, length, replicate, slice_set, slice_index_or, IfOk};
+ghost use Rattle.std.specs.Prelude.{◌≡◌, ◌≤◌, ◌<◌, ◌+◌, ◌-◌, ◌*◌, ◌/◌, ◌^◌, true, false, ℕ, length, replicate, slice_set, slice_index_or, min, IfOk};
 ghost use Rattle.std.specs.Int.{bit_at};
-ghost use Rattle.fpl_rows.specs.Marking.{IsRest, IsWithin, bit_in};
+ghost use Rattle.fpl_rows.specs.Marking.{IsRest, IsWithin, bit_in, bits_in};
 
 use std::alloc::{AllocError, Global};
 use std::marker::Model;
@@ -87,9 +87,9 @@ fn end_of_words(words: &[u64], low: usize, count: usize, most: usize) -> usize
     let mut k = count;
     while k > low {
         k -= 1;
-        let end = end_in(words[k]);
-        if end > 0 {
-            return (64 * k + end).min(most);
+        // mostly there is none
+        if words[k] != 0 {
+            return (64 * k + end_in(words[k])).min(most);
         }
     }
     0
@@ -169,6 +169,51 @@ fn rest_of(words: &[u64], place: usize) -> u64
     (words[place / 64] >> (place % 64)) >> 1
 }
 
+/// At bit `bit` of word `k`, or at the end where that comes first.
+#[inline(always)]
+fn cursor_at(words: &[u64], k: usize, bit: usize, size: usize) -> Cursor
+    requires word { k < length words.now }
+    requires few { k < 2 ^ 32 }
+    requires bit { bit < 64 }
+    ensures place { result.place ≡ min (64 * k + bit) size }
+    ensures rest { IsRest (bits_in words.now size) result.place result.rest result.end }
+{
+    Cursor {
+        place: (64 * k + bit).min(size),
+        rest: (words[k] >> bit) >> 1,
+        end: (64 * (k + 1)).min(size),
+    }
+}
+
+/// At the first 1 of the words from `first` on, or at the end.
+#[inline(always)]
+fn cursor_of_words(words: &[u64], first: usize, high: usize, size: usize) -> Cursor
+    requires high { high ≤ length words.now }
+    requires few { high < 2 ^ 32 }
+    requires after { (k : ℕ) → high ≤ k → slice_index_or words.now k 0 ≡ 0 }
+    ensures at_least { (from : ℕ) → from ≤ 64 * first → from ≤ size → from ≤ result.place }
+    ensures at_most { result.place ≤ size }
+    ensures none { (j : ℕ) → 64 * first ≤ j → j < result.place → bit_in words.now j ≡ false }
+    ensures rest { IsRest (bits_in words.now size) result.place result.rest result.end }
+{
+    let mut k = first;
+    while k < high {
+        // mostly there is none
+        if words[k] != 0 {
+            let start = start_in(words[k]);
+            if start < 64 {
+                return cursor_at(words, k, start, size);
+            }
+        }
+        k += 1;
+    }
+    Cursor {
+        place: size,
+        rest: 0,
+        end: size,
+    }
+}
+
 /// Makes the words from `low` to `high` 0, which are all that may be another.
 fn unmark(words: &mut [u64], low: usize, high: usize)
     requires { IsWithin words.old low high }
@@ -232,6 +277,11 @@ impl Marks {
         ensures none { (k : ℕ) → from ≤ k → k < result.place → slice_index_or self.now k false ≡ false }
         ensures rest { IsRest self.now result.place result.rest result.end }
     {
+        // mostly a word begins there
+        if from % 64 == 0 {
+            let first = (from / 64).max(self.low);
+            return cursor_of_words(&self.words, first, self.high, self.size);
+        }
         let place = self.start_from(from);
         Cursor {
             place,

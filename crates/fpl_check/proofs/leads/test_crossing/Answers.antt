@@ -1,8 +1,10 @@
-use Rattle.std.proofs.Common.{◌≡◌, ◌∙◌, sym, ap, arith}
+use Rattle.std.proofs.Common.{◌≡◌, ◌+◌, ◌∙◌, sym, ap, arith}
+use Rattle.std.specs.Prelude.{not, ◌||◌, nat_eq}
 use Rattle.std.specs.Prelude.{unwrap_or}
 use Rattle.fpl_rows.proofs.Firsts.{next_is_at}
 use Rattle.fpl_check.specs.Leads.{marked}
 use Rattle.fpl_check.specs.ClosedRows.{lead_or_none, test_crossing}
+use Rattle.fpl_check.proofs.Cells.{crossing_clear}
 use Rattle.fpl_check.proofs.Filled.{crossing_until, crossing_to_end, crossing_at_lead, crossing_at_free, crossing_at_stop}
 use Rattle.fpl_check.proofs.leads.test_crossing.Goals.{else-s-lead-via-then-s-lead+else-marks-s, else-s-lead-via-else-s-lead}
 use Rattle.fpl_check.proofs.leads.test_crossing.Goals as goal
@@ -47,3 +49,13 @@ symbols-preserved g c =
         | else-s-lead-via-else-s-lead w ↦ crossing_at_lead c.args.k c.unwrap_or-lead.result c.in-Some.s leads row next.from_one next.to_end w.if-s-lead.false
       ];
     }
+
+pub returns-then-crosses_none : goal.returns-then-crosses_none
+returns-then-crosses_none g c =
+    let leads = marked c.args.marks.now in
+    let row = c.args.row.now in
+    let lead : lead_or_none row ≡ c.unwrap_or-lead.result = ap (λ o. unwrap_or o 0) (sym c.lead.ensures) ∙ sym c.unwrap_or-lead.ensures in
+    ap (λ l. test_crossing c.args.k leads l 1 row) lead
+    ∙ crossing_clear c.args.k c.unwrap_or-lead.result leads 1 row (λ t z.
+    let e : 1 + t ≡ t + 1 = omega arith in
+    ap (λ i. nat_eq i c.unwrap_or-lead.result || not (leads i)) e ∙ c.crosses_none.ensures c.if-crosses_none.true t z)

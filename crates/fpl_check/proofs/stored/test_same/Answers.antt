@@ -1,4 +1,6 @@
-use Rattle.std.proofs.Common.{◌∙◌, refl, sym, ap₂, arith}
+use Rattle.std.proofs.Common.{◌∙◌, refl, sym, ap, ap₂, arith}
+use Rattle.fpl_check.specs.ClosedRows.{stored_row, test_same}
+use Rattle.fpl_check.proofs.Cells.{same_row}
 use Rattle.fpl_check.proofs.RowLoops.{differ, found_same, found_other}
 use Rattle.fpl_check.proofs.StoredRows.{rest_start}
 use Rattle.fpl_check.proofs.SameRows.{turn_none, turn_past, turn_one, turn_end, turn_left, turn_right, turn_stop, turn_same, turn_over, turn_on, is_told, not_told}
@@ -133,3 +135,9 @@ symbols-smaller g c =
     c.args.stored.now c.args.concluded.now c.requires.coefficients c.requires.concluded c.symbols.invariant.rest
     c.symbol_at-next.result c.next.result c.symbol_at-next.ensures c.next.ensures c.in-Some.s c.in-Some.ensures in
     omega arith
+
+pub returns-then-tells_same : goal.returns-then-tells_same
+returns-then-tells_same g c =
+    ap (λ r. test_same c.args.k 1 r c.args.concluded.now)
+    (ap (λ n. stored_row n c.args.stored.now) (sym c.requires.concluded.length_is) ∙ c.tells_same.ensures c.if-tells_same.true)
+    ∙ same_row c.args.k 1 c.args.concluded.now

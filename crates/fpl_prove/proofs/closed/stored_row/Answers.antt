@@ -1,4 +1,4 @@
-use Rattle.std.proofs.Common.{◌≡◌, ◌≤◌, ◌-◌, ◌++◌, ◌∙◌, ℕ, zero, suc, List, [], ◌∷◌, refl, ap, ap₂, sym, arith, length, map, take, drop, replicate}
+use Rattle.std.proofs.Common.{◌≡◌, ◌-◌, ◌++◌, ◌∙◌, ℕ, zero, suc, List, [], ◌∷◌, refl, ap, ap₂, sym, arith, length, map, take, drop, replicate}
 use Rattle.fpl_numbers.specs.Numbers.{residue}
 use Rattle.fpl_check.specs.ClosedRows.{stored_in}
 use Rattle.fpl_prove.proofs.closed.stored_row.Goals as goal

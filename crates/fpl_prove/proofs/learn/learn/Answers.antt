@@ -1,21 +1,20 @@
-use Rattle.std.proofs.Common.{◌≡◌, ◌≤◌, ◌<◌, ◌^◌, ◌∙◌, ◌++◌, ◌∷◌, [], ℕ, List, refl, ap, ap₂, sym, subst, arith, length, map, All, ◌+◌}
+use Rattle.std.proofs.Common.{◌≡◌, ◌≤◌, ◌<◌, ◌^◌, ◌∙◌, ◌++◌, ℕ, List, refl, ap, ap₂, sym, subst, arith, length, map, All, rules, ◌+◌}
 use Rattle.fpl_numbers.specs.declared.number.Num.{Num}
 use Rattle.fpl_numbers.specs.declared.number.Kind.TheVariants.{Prime}
 use Rattle.fpl_rows.specs.Meaning.{pivot_of, AreRows}
 use Rattle.fpl_model.specs.declared.expr.Expr.{Expr}
 use Rattle.fpl_model.specs.declared.presentation.Presentation.{Presentation}
-use Rattle.fpl_table.specs.Plain.{PlainTable, symbols_in}
+use Rattle.fpl_table.specs.Plain.{symbols_in}
 use Rattle.fpl_table.specs.Push.{free_of, push_of}
 use Rattle.fpl_table.specs.Standard.{count_of}
 use Rattle.plain_tables.specs.Holds.{Holds}
 use Rattle.fpl_check.specs.ClosedRows.{stored_row}
 use Rattle.fpl_check.specs.Check.{rows_stored}
-use Rattle.fpl_forms.specs.declared.term.Fact.{Fact}
 use Rattle.fpl_forms.specs.Ledgers.{PlainLedger, IsSoundLedger, IsExpr, Grows}
 use Rattle.fpl_forms.proofs.Ledgers.{grows_trans}
 use Rattle.fpl_facts.specs.Facts.{IsZero}
 use Rattle.fpl_prove.specs.Learning.{close_facts, IsWithinRow, free_below, trees_at, AreSolved, AreValues}
-use Rattle.fpl_prove.proofs.Grown.{grows_known, grows_next}
+use Rattle.fpl_table_facts.proofs.Grown.{grows_known, grows_next}
 use Rattle.fpl_prove.proofs.Knowing.{count_next, stored_are, pushed_holds, trees_size, basis_is, basis_over, basis_few, known_next}
 use Rattle.fpl_prove.proofs.Learned.{accepted_within, closes_count, closes_zero, closes_solved}
 use Rattle.fpl_prove.proofs.learn.learn.Goals as goal
@@ -42,7 +41,8 @@ push_weight-requires-clause-rows c =
     let n = c.in_ok-next.next in
     let next = c.in_ok-next.ensures.next K c.requires.known in
     let rows = rows_stored T s in
-    let rows_are : c.in_ok-rows.rows ≡ rows = c.in_ok-rows.ensures ∙ ap (λ (m : ℕ). map (stored_row m) s.closed) (c.len.ensures.value ∙ ap length next.symbols) in
+    let rows_are : c.in_ok-rows.rows ≡ rows = c.in_ok-rows.ensures
+    ∙ ap (λ (m : ℕ). map (stored_row m) s.closed) (c.len.ensures.value ∙ ap length next.symbols) in
     subst (λ (rs : List (List Num)). AreRows T.kind (count_of T (T.weight + 1)) rs) (sym rows_are)
     (subst (λ (m : ℕ). AreRows T.kind m rows) (sym (count_next T)) (stored_are K.presentation T s c.requires.known.holds c.requires.section))
 
@@ -55,14 +55,8 @@ new_basis-requires c =
     few 0 (length (symbols_in c.args.known.now.table)) c.deref.result.now c.in_ok-next.next.trees.items c.deref.ensures.value
     (trees_size c.args.ledger.now c.args.known.now c.requires.known c.in_ok-next.next next) c.requires.few
 
-pub symbol_values-requires-clause-symbols : goal.symbol_values-requires-clause-symbols
-symbol_values-requires-clause-symbols c =
-    let next = c.in_ok-next.ensures.next c.args.ledger.now c.requires.known in
-    few 0 (length (symbols_in c.args.known.now.table)) c.deref-4.result.now c.in_ok-next.next.trees.items c.deref-4.ensures.value
-    (trees_size c.args.ledger.now c.args.known.now c.requires.known c.in_ok-next.next next) c.requires.few
-
-pub symbol_values-requires-clause-few : goal.symbol_values-requires-clause-few
-symbol_values-requires-clause-few c =
+pub symbol_values-requires : goal.symbol_values-requires
+symbol_values-requires c =
     let K = c.args.ledger.now in
     let k = c.args.known.now in
     let T = k.table in
@@ -70,7 +64,8 @@ symbol_values-requires-clause-few c =
     let n = c.in_ok-next.next in
     let next = c.in_ok-next.ensures.next K c.requires.known in
     let rows = rows_stored T s in
-    let rows_are : c.in_ok-rows.rows ≡ rows = c.in_ok-rows.ensures ∙ ap (λ (m : ℕ). map (stored_row m) s.closed) (c.len.ensures.value ∙ ap length next.symbols) in
+    let rows_are : c.in_ok-rows.rows ≡ rows = c.in_ok-rows.ensures
+    ∙ ap (λ (m : ℕ). map (stored_row m) s.closed) (c.len.ensures.value ∙ ap length next.symbols) in
     let L = c.conclusions.new.ledger in
     let g = c.in_ok-zeros.ensures.grows in
     let known = grows_known g c.requires.known in
@@ -78,119 +73,32 @@ symbol_values-requires-clause-few c =
     let leads : c.in_ok-leads.leads.items ≡ map pivot_of rows = c.in_ok-leads.ensures ∙ ap (map pivot_of) rows_are in
     let made : c.new_basis.new.basis.items ≡ k.basis.items ++ trees_at n.trees.items (free_of T rows) =
     basis_is K k c.requires.known n next rows c.in_ok-leads.leads.items c.new_basis.new.basis.items leads
-    (c.in_ok-new_basis.ensures ∙ ap₂ (λ (es : List Expr) (ls : List ℕ). k.basis.items ++ trees_at es (free_below ls (length es))) c.deref.ensures.value c.deref-2.ensures.value) in
-    let held = subst (λ (p : Presentation). Holds p (push_of T rows)) (sym g.presentation)
-    (pushed_holds K.presentation T s c.requires.known.holds c.requires.weight c.requires.few c.requires.section c.requires.accepted) in
-    let l = basis_few L k known n after rows held c.new_basis.new.basis.items made in
-    let e = ap length c.deref-3.ensures.value in
-    omega (arith, l, e)
-
-pub symbol_values-requires-clause-basis : goal.symbol_values-requires-clause-basis
-symbol_values-requires-clause-basis c =
-    let K = c.args.ledger.now in
-    let k = c.args.known.now in
-    let T = k.table in
-    let s = c.args.section.now in
-    let n = c.in_ok-next.next in
-    let next = c.in_ok-next.ensures.next K c.requires.known in
-    let rows = rows_stored T s in
-    let rows_are : c.in_ok-rows.rows ≡ rows = c.in_ok-rows.ensures ∙ ap (λ (m : ℕ). map (stored_row m) s.closed) (c.len.ensures.value ∙ ap length next.symbols) in
-    let L = c.conclusions.new.ledger in
-    let g = c.in_ok-zeros.ensures.grows in
-    let known = grows_known g c.requires.known in
-    let after = grows_next g {k = k} {n = n} next in
-    let leads : c.in_ok-leads.leads.items ≡ map pivot_of rows = c.in_ok-leads.ensures ∙ ap (map pivot_of) rows_are in
-    let made : c.new_basis.new.basis.items ≡ k.basis.items ++ trees_at n.trees.items (free_of T rows) =
-    basis_is K k c.requires.known n next rows c.in_ok-leads.leads.items c.new_basis.new.basis.items leads
-    (c.in_ok-new_basis.ensures ∙ ap₂ (λ (es : List Expr) (ls : List ℕ). k.basis.items ++ trees_at es (free_below ls (length es))) c.deref.ensures.value c.deref-2.ensures.value) in
-    let held = subst (λ (p : Presentation). Holds p (push_of T rows)) (sym g.presentation)
-    (pushed_holds K.presentation T s c.requires.known.holds c.requires.weight c.requires.few c.requires.section c.requires.accepted) in
-    subst (All (IsExpr L.presentation)) (sym c.deref-3.ensures.value) (basis_over L k known n after rows held c.new_basis.new.basis.items made)
-
-pub symbol_values-requires-clause-trees : goal.symbol_values-requires-clause-trees
-symbol_values-requires-clause-trees c =
-    let L = c.conclusions.new.ledger in
-    let g = c.in_ok-zeros.ensures.grows in
-    let n = c.in_ok-next.next in
-    let next = c.in_ok-next.ensures.next L (grows_known g c.requires.known) in
-    subst (All (IsExpr L.presentation)) (sym c.deref-4.ensures.value) next.over
-
-pub symbol_values-requires-clause-zeros : goal.symbol_values-requires-clause-zeros
-symbol_values-requires-clause-zeros c =
-    let K = c.args.ledger.now in
-    let k = c.args.known.now in
-    let T = k.table in
-    let s = c.args.section.now in
-    let n = c.in_ok-next.next in
-    let next = c.in_ok-next.ensures.next K c.requires.known in
-    let rows = rows_stored T s in
-    let rows_are : c.in_ok-rows.rows ≡ rows = c.in_ok-rows.ensures ∙ ap (λ (m : ℕ). map (stored_row m) s.closed) (c.len.ensures.value ∙ ap length next.symbols) in
-    let L = c.conclusions.new.ledger in
-    let g = c.in_ok-zeros.ensures.grows in
-    let known = grows_known g c.requires.known in
-    let after = grows_next g {k = k} {n = n} next in
-    let leads : c.in_ok-leads.leads.items ≡ map pivot_of rows = c.in_ok-leads.ensures ∙ ap (map pivot_of) rows_are in
-    let made : c.new_basis.new.basis.items ≡ k.basis.items ++ trees_at n.trees.items (free_of T rows) =
-    basis_is K k c.requires.known n next rows c.in_ok-leads.leads.items c.new_basis.new.basis.items leads
-    (c.in_ok-new_basis.ensures ∙ ap₂ (λ (es : List Expr) (ls : List ℕ). k.basis.items ++ trees_at es (free_below ls (length es))) c.deref.ensures.value c.deref-2.ensures.value) in
+    (c.in_ok-new_basis.ensures
+    ∙ ap₂ (λ (es : List Expr) (ls : List ℕ). k.basis.items ++ trees_at es (free_below ls (length es))) c.deref.ensures.value c.deref-2.ensures.value) in
     let held = subst (λ (p : Presentation). Holds p (push_of T rows)) (sym g.presentation)
     (pushed_holds K.presentation T s c.requires.known.holds c.requires.weight c.requires.few c.requires.section c.requires.accepted) in
     let z = c.in_ok-zeros.ensures.zeros in
     let closed : c.deref-6.result.now ≡ close_facts s.steps c.in_ok-zeros.zeros.items = c.deref-6.ensures.value ∙ c.in_ok-closed.ensures in
     let field = field_after K L g c.sound.ensures in
-    subst (λ (es : List Expr). All (IsZero L es) c.deref-6.result.now) (sym c.deref-4.ensures.value)
-    (subst (All (IsZero L n.trees.items)) (sym closed) (closes_zero K L g.presentation field T n s c.requires.known.holds c.requires.section c.requires.accepted z.0 z.1 c.in_ok-zeros.zeros.items z.2))
-
-pub symbol_values-requires-clause-solved : goal.symbol_values-requires-clause-solved
-symbol_values-requires-clause-solved c =
-    let K = c.args.ledger.now in
-    let k = c.args.known.now in
-    let T = k.table in
-    let s = c.args.section.now in
-    let n = c.in_ok-next.next in
-    let next = c.in_ok-next.ensures.next K c.requires.known in
-    let rows = rows_stored T s in
-    let rows_are : c.in_ok-rows.rows ≡ rows = c.in_ok-rows.ensures ∙ ap (λ (m : ℕ). map (stored_row m) s.closed) (c.len.ensures.value ∙ ap length next.symbols) in
-    let L = c.conclusions.new.ledger in
-    let g = c.in_ok-zeros.ensures.grows in
-    let known = grows_known g c.requires.known in
-    let after = grows_next g {k = k} {n = n} next in
-    let leads : c.in_ok-leads.leads.items ≡ map pivot_of rows = c.in_ok-leads.ensures ∙ ap (map pivot_of) rows_are in
-    let made : c.new_basis.new.basis.items ≡ k.basis.items ++ trees_at n.trees.items (free_of T rows) =
-    basis_is K k c.requires.known n next rows c.in_ok-leads.leads.items c.new_basis.new.basis.items leads
-    (c.in_ok-new_basis.ensures ∙ ap₂ (λ (es : List Expr) (ls : List ℕ). k.basis.items ++ trees_at es (free_below ls (length es))) c.deref.ensures.value c.deref-2.ensures.value) in
-    let held = subst (λ (p : Presentation). Holds p (push_of T rows)) (sym g.presentation)
-    (pushed_holds K.presentation T s c.requires.known.holds c.requires.weight c.requires.few c.requires.section c.requires.accepted) in
-    let z = c.in_ok-zeros.ensures.zeros in
-    let closed : c.deref-6.result.now ≡ close_facts s.steps c.in_ok-zeros.zeros.items = c.deref-6.ensures.value ∙ c.in_ok-closed.ensures in
-    let field = field_after K L g c.sound.ensures in
-    subst (λ (ls : List ℕ). AreSolved L.prime ls c.deref-6.result.now) (sym (c.deref-5.ensures.value ∙ leads))
-    (subst (AreSolved L.prime (map pivot_of rows)) (sym closed) (closes_solved K L g.presentation field T n s c.requires.known.holds c.requires.section c.requires.accepted z.0 z.1 c.in_ok-zeros.zeros.items z.2))
-
-pub symbol_values-requires-clause-count : goal.symbol_values-requires-clause-count
-symbol_values-requires-clause-count c =
-    let K = c.args.ledger.now in
-    let k = c.args.known.now in
-    let T = k.table in
-    let s = c.args.section.now in
-    let n = c.in_ok-next.next in
-    let next = c.in_ok-next.ensures.next K c.requires.known in
-    let rows = rows_stored T s in
-    let rows_are : c.in_ok-rows.rows ≡ rows = c.in_ok-rows.ensures ∙ ap (λ (m : ℕ). map (stored_row m) s.closed) (c.len.ensures.value ∙ ap length next.symbols) in
-    let L = c.conclusions.new.ledger in
-    let g = c.in_ok-zeros.ensures.grows in
-    let known = grows_known g c.requires.known in
-    let after = grows_next g {k = k} {n = n} next in
-    let leads : c.in_ok-leads.leads.items ≡ map pivot_of rows = c.in_ok-leads.ensures ∙ ap (map pivot_of) rows_are in
-    let made : c.new_basis.new.basis.items ≡ k.basis.items ++ trees_at n.trees.items (free_of T rows) =
-    basis_is K k c.requires.known n next rows c.in_ok-leads.leads.items c.new_basis.new.basis.items leads
-    (c.in_ok-new_basis.ensures ∙ ap₂ (λ (es : List Expr) (ls : List ℕ). k.basis.items ++ trees_at es (free_below ls (length es))) c.deref.ensures.value c.deref-2.ensures.value) in
-    let held = subst (λ (p : Presentation). Holds p (push_of T rows)) (sym g.presentation)
-    (pushed_holds K.presentation T s c.requires.known.holds c.requires.weight c.requires.few c.requires.section c.requires.accepted) in
-    let z = c.in_ok-zeros.ensures.zeros in
-    let closed : c.deref-6.result.now ≡ close_facts s.steps c.in_ok-zeros.zeros.items = c.deref-6.ensures.value ∙ c.in_ok-closed.ensures in
-    let field = field_after K L g c.sound.ensures in
-    ap length closed ∙ closes_count K L g.presentation field T n s c.requires.known.holds c.requires.section c.requires.accepted z.0 z.1 c.in_ok-zeros.zeros.items z.2 ∙ ap length (sym (c.deref-5.ensures.value ∙ leads))
+    let few_new = basis_few L k known n after rows held c.new_basis.new.basis.items made in
+    let size = ap length c.deref-3.ensures.value in
+    record {
+      few = omega (arith, few_new, size);
+      symbols = few 0 (length (symbols_in T)) c.deref-4.result.now n.trees.items c.deref-4.ensures.value
+          (trees_size K k c.requires.known n next) c.requires.few;
+      basis = subst (All (IsExpr L.presentation)) (sym c.deref-3.ensures.value) (basis_over L k known n after rows held c.new_basis.new.basis.items made);
+      trees = subst (All (IsExpr L.presentation)) (sym c.deref-4.ensures.value) after.over;
+      zeros = subst (λ (es : List Expr). All (IsZero L es) c.deref-6.result.now) (sym c.deref-4.ensures.value)
+          (subst (All (IsZero L n.trees.items)) (sym closed)
+          (closes_zero K L g.presentation field T n s c.requires.known.holds c.requires.section c.requires.accepted z.0 z.1 c.in_ok-zeros.zeros.items z.2));
+      solved = subst (λ (ls : List ℕ). AreSolved L.prime ls c.deref-6.result.now) (sym (c.deref-5.ensures.value ∙ leads))
+          (subst (AreSolved L.prime (map pivot_of rows)) (sym closed)
+          (closes_solved K L g.presentation field T n s c.requires.known.holds c.requires.section c.requires.accepted z.0 z.1 c.in_ok-zeros.zeros.items z.2));
+      count = ap length closed
+          ∙ closes_count K L g.presentation field T n s c.requires.known.holds c.requires.section c.requires.accepted z.0 z.1 c.in_ok-zeros.zeros.items z.2
+          ∙ ap length (sym (c.deref-5.ensures.value ∙ leads));
+      free = search rules;
+    }
 
 pub returns : goal.returns
 returns c =
@@ -201,7 +109,8 @@ returns c =
     let n = c.in_ok-next.next in
     let next = c.in_ok-next.ensures.next K c.requires.known in
     let rows = rows_stored T s in
-    let rows_are : c.in_ok-rows.rows ≡ rows = c.in_ok-rows.ensures ∙ ap (λ (m : ℕ). map (stored_row m) s.closed) (c.len.ensures.value ∙ ap length next.symbols) in
+    let rows_are : c.in_ok-rows.rows ≡ rows = c.in_ok-rows.ensures
+    ∙ ap (λ (m : ℕ). map (stored_row m) s.closed) (c.len.ensures.value ∙ ap length next.symbols) in
     let L = c.conclusions.new.ledger in
     let g = c.in_ok-zeros.ensures.grows in
     let known = grows_known g c.requires.known in
@@ -209,7 +118,8 @@ returns c =
     let leads : c.in_ok-leads.leads.items ≡ map pivot_of rows = c.in_ok-leads.ensures ∙ ap (map pivot_of) rows_are in
     let made : c.new_basis.new.basis.items ≡ k.basis.items ++ trees_at n.trees.items (free_of T rows) =
     basis_is K k c.requires.known n next rows c.in_ok-leads.leads.items c.new_basis.new.basis.items leads
-    (c.in_ok-new_basis.ensures ∙ ap₂ (λ (es : List Expr) (ls : List ℕ). k.basis.items ++ trees_at es (free_below ls (length es))) c.deref.ensures.value c.deref-2.ensures.value) in
+    (c.in_ok-new_basis.ensures
+    ∙ ap₂ (λ (es : List Expr) (ls : List ℕ). k.basis.items ++ trees_at es (free_below ls (length es))) c.deref.ensures.value c.deref-2.ensures.value) in
     let held = subst (λ (p : Presentation). Holds p (push_of T rows)) (sym g.presentation)
     (pushed_holds K.presentation T s c.requires.known.holds c.requires.weight c.requires.few c.requires.section c.requires.accepted) in
     let M = c.symbol_values.new.ledger in

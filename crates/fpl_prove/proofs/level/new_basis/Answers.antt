@@ -1,4 +1,4 @@
-use Rattle.std.proofs.Common.{◌≡◌, ◌≤◌, ◌<◌, ◌+◌, ◌++◌, ◌∷◌, [], ◌∙◌, ℕ, suc, refl, ap, ap₂, sym, arith, length, map, get_or}
+use Rattle.std.proofs.Common.{◌≡◌, ◌+◌, ◌++◌, ◌∷◌, [], ◌∙◌, suc, refl, ap, ap₂, sym, arith, get_or}
 use Rattle.std.proofs.lemmas.List.{append-nil, append_assoc, map-append, get_or_read}
 use Rattle.fpl_model.specs.declared.expr.Expr.TheVariants.{Zero}
 use Rattle.fpl_prove.specs.Learning.{free_below, trees_at}
@@ -24,7 +24,8 @@ loop-s-preserved c =
           ∙ ap₂ (λ xs x. xs ++ x ∷ []) c.loop-s.invariant
           (w.in_ok-copy-in-None.ensures ∙ get_or_read trees s w.index-trees-s.result c.loop-s-test.true w.index-trees-s.is Zero)
           ∙ append_assoc old (trees_at trees (free_below leads s)) (get_or trees s Zero ∷ [])
-          ∙ ap (λ xs. old ++ xs) (sym (map-append (λ s. get_or trees s Zero) (free_below leads s) (s ∷ [])) ∙ ap (trees_at trees) (sym (free_other leads s (s + 1) one none)))
+          ∙ ap (λ xs. old ++ xs) (sym (map-append (λ s. get_or trees s Zero) (free_below leads s) (s ∷ []))
+          ∙ ap (trees_at trees) (sym (free_other leads s (s + 1) one none)))
       | in-Some w ↦
           let some = named_some leads w.in-Some.field-0 s w.in-Some.ensures.some.0 w.in-Some.ensures.some.1 in
           ap (λ v. v.items) w.basis-is ∙ c.loop-s.invariant ∙ ap (λ ss. old ++ trees_at trees ss) (sym (free_named leads s (s + 1) one some))

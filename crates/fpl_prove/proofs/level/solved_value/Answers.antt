@@ -1,9 +1,8 @@
-use Rattle.std.proofs.Common.{◌≡◌, ◌≤◌, ◌<◌, ◌-◌, ◌++◌, ◌∷◌, [], ◌∙◌, ℕ, List, ap, ap₂, sym, arith, subst, length, get_or, All}
+use Rattle.std.proofs.Common.{◌≡◌, ◌≤◌, ◌<◌, ◌-◌, ◌++◌, ◌∷◌, [], ◌∙◌, ℕ, ap, ap₂, sym, arith, subst, length, All}
 use Rattle.fpl_numbers.specs.Numbers.{IsListed}
 use Rattle.fpl_forms.specs.declared.term.Term.{Term}
-use Rattle.fpl_forms.specs.declared.term.Fact.{Fact}
 use Rattle.fpl_forms.specs.Forms.{IsWork, tidied}
-use Rattle.fpl_forms.specs.Combining.{multiplied, combined}
+use Rattle.fpl_forms.specs.Combining.{multiplied}
 use Rattle.fpl_forms.specs.Laws.{IsForm}
 use Rattle.fpl_forms.proofs.Ledgers.{grows_trans, grows_left}
 use Rattle.fpl_forms.proofs.Gathering.{all_as}

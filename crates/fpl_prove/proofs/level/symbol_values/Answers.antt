@@ -1,17 +1,15 @@
-use Rattle.std.proofs.Common.{◌≡◌, ◌≤◌, ◌<◌, ◌+◌, ◌++◌, ◌∷◌, [], ◌∙◌, ◌^◌, ℕ, suc, List, refl, ap, sym, arith, subst, length, get_or, All, false}
-use Rattle.std.specs.Prelude.{slice_get, Some}
+use Rattle.std.proofs.Common.{◌≡◌, ◌<◌, ◌+◌, ◌++◌, ◌∷◌, [], ◌∙◌, ℕ, suc, List, refl, ap, sym, arith, subst, length, get_or, false}
+use Rattle.std.specs.Prelude.{slice_get}
 use Rattle.std.proofs.lemmas.List.{length-append}
 use Rattle.std.proofs.lemmas.Option.{slice_get_read}
 use Rattle.fpl_rows.proofs.Fits.{none_some}
 use Rattle.fpl_model.specs.declared.expr.Expr.{Expr}
 use Rattle.fpl_model.specs.declared.expr.Expr.TheVariants.{Zero}
 use Rattle.fpl_forms.specs.declared.term.Fact.{Fact}
-use Rattle.fpl_forms.specs.Ledgers.{PlainLedger, IsExpr, Grows}
 use Rattle.fpl_forms.proofs.Ledgers.{grows_refl, grows_trans}
-use Rattle.fpl_facts.specs.Facts.{IsZero}
-use Rattle.fpl_prove.specs.Known.{IsFormOf}
+use Rattle.fpl_table_facts.specs.Known.{IsFormOf}
 use Rattle.fpl_prove.specs.Learning.{is_named, free_below, trees_at, IsSolvedAt, AreSolved, AreValues}
-use Rattle.fpl_prove.proofs.Grown.{grows_exprs}
+use Rattle.fpl_table_facts.proofs.Grown.{grows_exprs}
 use Rattle.fpl_prove.proofs.Reading.{grows_zeros}
 use Rattle.fpl_prove.proofs.Leading.{named_some, named_none, free_start, free_named, free_other, element_here}
 use Rattle.fpl_prove.proofs.Solving.{grows_values, values_more, one_term}
@@ -58,21 +56,24 @@ overflow_cast-i c =
     let none = named_none c.args.leads.now c.loop-s.s (c.in-None.ensures.none refl) in
     let free = c.requires.free in
     let l : c.loop-s.i < length c.args.basis.now =
-    (here free.0 c.args.basis.now c.args.trees.now c.args.leads.now c.loop-s.s c.loop-s.i c.args.before free.1 free.2 c.loop-s-test.true none c.loop-s.invariant.next).0 in
+    (here free.0 c.args.basis.now c.args.trees.now c.args.leads.now c.loop-s.s c.loop-s.i c.args.before free.1 free.2 c.loop-s-test.true none
+    c.loop-s.invariant.next).0 in
     let few = c.requires.few in omega (arith, l, few)
 
 pub unit-requires-clause-atom : goal.unit-requires-clause-atom
 unit-requires-clause-atom c =
     let none = named_none c.args.leads.now c.loop-s.s (c.in-None.ensures.none refl) in
     let free = c.requires.free in
-    (here free.0 c.args.basis.now c.args.trees.now c.args.leads.now c.loop-s.s c.loop-s.i c.args.before free.1 free.2 c.loop-s-test.true none c.loop-s.invariant.next).0
+    (here free.0 c.args.basis.now c.args.trees.now c.args.leads.now c.loop-s.s c.loop-s.i c.args.before free.1 free.2 c.loop-s-test.true none
+    c.loop-s.invariant.next).0
 
 pub overflow_add-i : goal.overflow_add-i
 overflow_add-i c =
     let none = named_none c.args.leads.now c.loop-s.s (c.in-None.ensures.none refl) in
     let free = c.requires.free in
     let l : c.loop-s.i < length c.args.basis.now =
-    (here free.0 c.args.basis.now c.args.trees.now c.args.leads.now c.loop-s.s c.loop-s.i c.args.before free.1 free.2 c.loop-s-test.true none c.loop-s.invariant.next).0 in
+    (here free.0 c.args.basis.now c.args.trees.now c.args.leads.now c.loop-s.s c.loop-s.i c.args.before free.1 free.2 c.loop-s-test.true none
+    c.loop-s.invariant.next).0 in
     let few = c.requires.few in omega (arith, l, few)
 
 pub loop-s-preserved : goal.loop-s-preserved

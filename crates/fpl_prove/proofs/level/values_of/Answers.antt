@@ -1,5 +1,5 @@
-use Rattle.std.proofs.Common.{◌≡◌, ◌<◌, ◌+◌, ◌++◌, ◌∷◌, [], ◌∙◌, refl, ap, ap₂, sym, arith, subst, length, map, take, get_or, All, List}
-use Rattle.std.proofs.lemmas.List.{get_or_read, map_more, map-append}
+use Rattle.std.proofs.Common.{◌≡◌, ◌<◌, ◌+◌, ◌++◌, ◌∷◌, [], ◌∙◌, refl, ap, ap₂, sym, subst, length, get_or, All}
+use Rattle.std.proofs.lemmas.List.{map_more, map-append}
 use Rattle.std.proofs.lemmas.Option.{slice_get_read}
 use Rattle.fpl_rows.proofs.Fits.{all_more}
 use Rattle.fpl_forms.specs.declared.term.Fact.{Fact}

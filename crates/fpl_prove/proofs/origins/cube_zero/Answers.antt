@@ -1,15 +1,14 @@
-use Rattle.std.proofs.Common.{◌≡◌, ◌<◌, ◌-◌, length, get_or, ap, ap₂, sym, subst, ◌∙◌, arith}
+use Rattle.std.proofs.Common.{◌≡◌, ◌-◌, length, get_or, ap, sym, subst, ◌∙◌, arith}
 use Rattle.std.proofs.lemmas.List.{get_or_read}
-use Rattle.fpl_model.specs.declared.expr.Expr.{Expr}
 use Rattle.fpl_model.specs.declared.expr.Expr.TheVariants.{Zero, Br}
 use Rattle.fpl_log.specs.declared.step.Origin.TheVariants.{Cube}
 use Rattle.fpl_model.specs.declared.presentation.Parity.TheVariants.{Odd}
 use Rattle.fpl_forms.specs.Ledgers.{IsExpr, left_of, right_of}
 use Rattle.fpl_forms.proofs.Ledgers.{grows_trans}
 use Rattle.fpl_facts.specs.Axioms.{HasParityIn}
-use Rattle.fpl_prove.specs.Zeros.{IsDue}
-use Rattle.fpl_prove.proofs.Grown.{grows_known}
-use Rattle.fpl_prove.proofs.Levels.{basis_length, atom_over}
+use Rattle.fpl_table_facts.specs.Rows.{IsDue}
+use Rattle.fpl_table_facts.proofs.Grown.{grows_known}
+use Rattle.fpl_table_facts.proofs.Levels.{basis_length, atom_over}
 use Rattle.fpl_prove.proofs.LineZeros.{as_origin}
 use Rattle.fpl_prove.proofs.Monomials.{triple_left, none_due}
 use Rattle.fpl_prove.proofs.OriginTests.{cube_next, atom_has}

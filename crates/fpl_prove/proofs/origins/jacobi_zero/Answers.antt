@@ -1,4 +1,4 @@
-use Rattle.std.proofs.Common.{◌≡◌, ◌<◌, ◌-◌, length, get_or, ap, ap₂, sym, subst, ◌∙◌, arith}
+use Rattle.std.proofs.Common.{◌≡◌, ◌-◌, length, get_or, ap, ap₂, sym, subst, ◌∙◌, arith}
 use Rattle.std.proofs.lemmas.List.{get_or_read}
 use Rattle.fpl_model.specs.declared.expr.Expr.{Expr}
 use Rattle.fpl_model.specs.declared.expr.Expr.TheVariants.{Zero, Br}
@@ -7,9 +7,9 @@ use Rattle.fpl_forms.specs.Ledgers.{IsExpr, left_of, right_of}
 use Rattle.fpl_forms.proofs.Ledgers.{grows_trans}
 use Rattle.fpl_facts.specs.Axioms.{HasParityIn, sign_number, jacobi_sum}
 use Rattle.fpl_facts.proofs.NextAxioms.{sign_below}
-use Rattle.fpl_prove.specs.Zeros.{IsDue}
-use Rattle.fpl_prove.proofs.Grown.{grows_known}
-use Rattle.fpl_prove.proofs.Levels.{basis_length, atom_over}
+use Rattle.fpl_table_facts.specs.Rows.{IsDue}
+use Rattle.fpl_table_facts.proofs.Grown.{grows_known}
+use Rattle.fpl_table_facts.proofs.Levels.{basis_length, atom_over}
 use Rattle.fpl_prove.proofs.LineZeros.{as_origin}
 use Rattle.fpl_prove.proofs.Monomials.{triple_left, triple_right}
 use Rattle.fpl_prove.proofs.OriginTests.{triple_next, atom_has}

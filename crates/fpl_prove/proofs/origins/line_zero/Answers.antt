@@ -1,11 +1,11 @@
-use Rattle.std.proofs.Common.{◌≡◌, ap, ap₂, sym, subst, ◌∙◌}
+use Rattle.std.proofs.Common.{◌≡◌, ap₂, sym, subst, ◌∙◌}
 use Rattle.fpl_forms.specs.Forms.{IsWork}
 use Rattle.fpl_forms.specs.Ledgers.{left_of, right_of}
 use Rattle.fpl_forms.proofs.Ledgers.{grows_trans, grows_left}
 use Rattle.fpl_forms.proofs.Gathering.{grows_work}
 use Rattle.fpl_facts.specs.Facts.{less, IsZero}
-use Rattle.fpl_prove.specs.Zeros.{IsRow, expr_row}
-use Rattle.fpl_prove.proofs.Grown.{grows_row}
+use Rattle.fpl_table_facts.specs.Rows.{IsRow, expr_row}
+use Rattle.fpl_table_facts.proofs.Grown.{grows_row}
 use Rattle.fpl_prove.proofs.LineZeros.{line_zero}
 use Rattle.fpl_prove.proofs.origins.line_zero.Goals as goal
 

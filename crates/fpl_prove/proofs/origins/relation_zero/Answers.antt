@@ -3,9 +3,10 @@ use Rattle.fpl_model.specs.Meaning.{generators_in}
 use Rattle.fpl_model.specs.Sound.{IsSound}
 use Rattle.fpl_log.specs.declared.step.Origin.TheVariants.{Relation}
 use Rattle.fpl_facts.specs.Axioms.{relation_at}
-use Rattle.fpl_prove.specs.Zeros.{IsDue, origin_vector}
+use Rattle.fpl_table_facts.specs.Rows.{IsDue}
+use Rattle.fpl_prove.specs.Zeros.{origin_vector}
 use Rattle.fpl_prove.specs.Sides.{sides_row}
-use Rattle.fpl_prove.proofs.Grown.{grows_known}
+use Rattle.fpl_table_facts.proofs.Grown.{grows_known}
 use Rattle.fpl_prove.proofs.LineZeros.{as_vector}
 use Rattle.fpl_prove.proofs.Relations.{relation_next, left_due, right_due, relation_vector}
 use Rattle.fpl_prove.proofs.origins.relation_zero.Goals as goal

@@ -1,7 +1,7 @@
 use Rattle.std.proofs.Common.{◌≡◌, sym, ap, ◌∙◌}
 use Rattle.fpl_forms.specs.Forms.{sum_expr}
 use Rattle.fpl_forms.proofs.Ledgers.{grows_trans, grows_right}
-use Rattle.fpl_prove.proofs.Grown.{grows_known, grows_form_of}
+use Rattle.fpl_table_facts.proofs.Grown.{grows_known, grows_form_of}
 use Rattle.fpl_prove.proofs.Queries.{sides_are_reached}
 use Rattle.fpl_prove.proofs.Compared.{are_alike, are_other, values_same, values_differ}
 use Rattle.fpl_prove.proofs.proving.equal_line.Goals as goal

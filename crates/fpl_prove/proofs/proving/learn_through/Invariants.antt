@@ -1,7 +1,7 @@
 use Rattle.std.proofs.Common.{◌≡◌, take}
 use Rattle.fpl_table.specs.Standard.{start_of}
 use Rattle.fpl_forms.specs.Ledgers.{Grows}
-use Rattle.fpl_prove.specs.Known.{IsKnown}
+use Rattle.fpl_table_facts.specs.Known.{IsKnown}
 use Rattle.fpl_prove.specs.Prefixes.{after}
 use Rattle.fpl_prove.proofs.proving.learn_through.Given as goal
 

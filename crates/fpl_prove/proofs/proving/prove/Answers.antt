@@ -1,6 +1,4 @@
 use Rattle.std.proofs.Common.{◌≡◌, ◌≤◌, false, take, length, refl, sym, subst, ◌∙◌, arith}
-use Rattle.fpl_numbers.specs.declared.number.Kind.{Kind}
-use Rattle.fpl_numbers.specs.declared.number.Kind.TheVariants.{Prime}
 use Rattle.fpl_numbers.specs.Numbers.{IsField}
 use Rattle.fpl_model.specs.declared.presentation.Presentation.{Presentation}
 use Rattle.fpl_model.specs.Sound.{IsSoundEquation}
@@ -10,7 +8,7 @@ use Rattle.fpl_prove.specs.Prefixes.{after, IsNextSection}
 use Rattle.fpl_prove.proofs.Prefixes.{kind_is, all_hold, next_sections, weight_after}
 use Rattle.fpl_prove.proofs.Queries.{within, answers_agree}
 use Rattle.fpl_prove.specs.declared.proving.WhyError.TheVariants.{NotEqual}
-use Rattle.fpl_prove.proofs.Said.{proof_of, same_error}
+use Rattle.fpl_prove.proofs.Said.{whole, proof_of, same_error}
 use Rattle.fpl_prove.proofs.proving.prove.Goals as goal
 
 pub new-ledger-requires-clause-field : goal.new-ledger-requires-clause-field
@@ -57,13 +55,21 @@ returns-in-Err-clause-differ c =
     let is = weight_after c.new-ledger.result.presentation c.args.sections.now c.weight_for-through.result c.learn_through.new.known.table
     c.in_ok-learn_through.ensures.table low in
     let holds = all_hold c.args.p.now c.args.table.now c.args.sections.now c.requires.sound c.requires.accepted c.weight.ensures.shape.weight c.requires.few in
-    λ e one. c.in-Err.ensures.differ (same_error c.in-Err.error NotEqual e) ((answers_agree c.args.p.now c.args.query.now c.requires.query c.args.table.now c.learn_through.new.known.table
+    λ e one. c.in-Err.ensures.differ (same_error c.in-Err.error NotEqual e)
+    ((answers_agree c.args.p.now c.args.query.now c.requires.query c.args.table.now c.learn_through.new.known.table
     c.learn_through.new.ledger.presentation c.weight_for-through.result
     (c.in_ok-learn_through.ensures.grows.presentation ∙ c.new-ledger.ensures.presentation) holds c.in_ok-learn_through.ensures.known.holds c.requires.within is
     c.weight_for-through.ensures.reached).0 one)
 
-pub returns-in-Ok-clause-one : goal.returns-in-Ok-clause-one
-returns-in-Ok-clause-one c =
+pub needed_lines-requires : goal.needed_lines-requires
+needed_lines-requires c = (
+  c.equal_line.new.ledger.presentation,
+  whole c.equal_line.new.ledger c.in-Ok.line c.args.query.now.left c.args.query.now.right c.into_proof.result
+      c.in-Ok.ensures.says c.into_proof.ensures.lines c.into_proof.ensures.proof c.into_proof.ensures.over c.into_proof.ensures.distinct,
+)
+
+pub returns-in_ok-needed_lines-in-Ok-clause-one : goal.returns-in_ok-needed_lines-in-Ok-clause-one
+returns-in_ok-needed_lines-in-Ok-clause-one c =
     let low : c.weight_for-through.result ≤ length c.args.sections.now =
     omega (arith, c.weight_for-through.ensures.within, c.weight.ensures.value, c.requires.weights.count) in
     let is = weight_after c.new-ledger.result.presentation c.args.sections.now c.weight_for-through.result c.learn_through.new.known.table
@@ -74,8 +80,10 @@ returns-in-Ok-clause-one c =
     (c.in_ok-learn_through.ensures.grows.presentation ∙ c.new-ledger.ensures.presentation) holds c.in_ok-learn_through.ensures.known.holds c.requires.within is
     c.weight_for-through.ensures.reached).1 (c.in-Ok.ensures.one refl)
 
-pub returns-in-Ok-clause-proof : goal.returns-in-Ok-clause-proof
-returns-in-Ok-clause-proof c =
-    proof_of c.args.p.now c.args.query.now c.equal_line.new.ledger c.in-Ok.line c.into_proof.result
+pub returns-in_ok-needed_lines-in-Ok-clause-proof : goal.returns-in_ok-needed_lines-in-Ok-clause-proof
+returns-in_ok-needed_lines-in-Ok-clause-proof c =
+    proof_of c.args.p.now c.args.query.now c.equal_line.new.ledger c.in-Ok.line c.into_proof.result c.in_ok-needed_lines-in-Ok.field-0
     (c.in-Ok.ensures.presentation ∙ c.in_ok-learn_through.ensures.grows.presentation ∙ c.new-ledger.ensures.presentation) c.in-Ok.ensures.says
-    c.into_proof.ensures.lines c.into_proof.ensures.proof c.into_proof.ensures.over c.into_proof.ensures.distinct
+    c.into_proof.ensures.lines (whole c.equal_line.new.ledger c.in-Ok.line c.args.query.now.left c.args.query.now.right c.into_proof.result
+    c.in-Ok.ensures.says c.into_proof.ensures.lines c.into_proof.ensures.proof c.into_proof.ensures.over c.into_proof.ensures.distinct)
+    c.in_ok-needed_lines-in-Ok.ensures.proof c.in_ok-needed_lines-in-Ok.ensures.last c.in_ok-needed_lines-in-Ok.ensures.needed

@@ -1,4 +1,4 @@
-use Rattle.std.proofs.Common.{◌≡◌, ◌≤◌, ◌-◌, ◌∙◌, ℕ, List, length, refl, subst, ap, map, arith, All}
+use Rattle.std.proofs.Common.{◌≤◌, ◌-◌, ◌∙◌, List, length, refl, subst, ap, map, arith, All}
 use Rattle.std.proofs.lemmas.Option.{slice_get_read}
 use Rattle.fpl_numbers.specs.declared.number.Kind.{Kind}
 use Rattle.fpl_log.specs.Plain.{IsTermOf}
@@ -13,7 +13,8 @@ use Rattle.fpl_prove.proofs.steps.close_zero.Goals as goal
 pub take_terms-requires-clause-terms : goal.take_terms-requires-clause-terms
 take_terms-requires-clause-terms c =
     subst (λ (k : Kind). All (IsTermOf k (length c.args.zeros.now)) c.args.terms.now)
-    (prime_after c.args.ledger.now c.args.known.now.table c.args.next.now c.requires.known.holds c.sound.ensures c.args.ledger.now (grows_refl c.args.ledger.now))
+    (prime_after c.args.ledger.now c.args.known.now.table c.args.next.now c.requires.known.holds c.sound.ensures c.args.ledger.now
+    (grows_refl c.args.ledger.now))
     c.requires.step.2
 
 pub returns-clause-concluded : goal.returns-clause-concluded

@@ -1,15 +1,13 @@
-use Rattle.std.proofs.Common.{◌≡◌, ◌≤◌, ◌<◌, ◌+◌, ◌∙◌, ◌++◌, ◌∷◌, [], ℕ, suc, refl, subst, sym, ap, arith, length, drop, List, All}
+use Rattle.std.proofs.Common.{◌≡◌, ◌≤◌, ◌<◌, ◌+◌, ◌∙◌, ◌++◌, ◌∷◌, [], ℕ, suc, subst, sym, ap, arith, length, drop, List, All}
 use Rattle.std.proofs.lemmas.List.{length-append}
 use Rattle.std.proofs.lemmas.Option.{slice_get_within}
 use Rattle.fpl_rows.proofs.Fits.{all_more}
-use Rattle.fpl_log.specs.declared.step.Step.{Step}
 use Rattle.fpl_log.proofs.TermsTaken.{past_end}
 use Rattle.fpl_forms.specs.declared.term.Fact.{Fact}
-use Rattle.fpl_forms.specs.Ledgers.{PlainLedger}
 use Rattle.fpl_forms.proofs.Ledgers.{grows_refl, grows_trans}
 use Rattle.fpl_facts.specs.Facts.{IsZero}
 use Rattle.fpl_prove.specs.Concluding.{IsStepFor, IsConclusionOf}
-use Rattle.fpl_prove.proofs.Grown.{grows_known, grows_next}
+use Rattle.fpl_table_facts.proofs.Grown.{grows_known, grows_next}
 use Rattle.fpl_prove.proofs.Reading.{grows_zeros}
 use Rattle.fpl_prove.proofs.Concluded.{IsPart, first_part, is_step, next_part, part_here, last_part}
 use Rattle.fpl_prove.proofs.steps.conclusions.Goals.{in-None, in-Some+in_ok-zero-in-Some+in_ok-push-in-Some}
@@ -89,5 +87,6 @@ loop-i-preserved c =
 
 pub returns-clause-zeros : goal.returns-clause-zeros
 returns-clause-zeros c =
-    last_part c.args.ledger.now c.loop-i.ledger c.loop-i.invariant.grows c.args.known.now.table c.args.next.now c.args.section.now c.loop-i.zeros.items c.loop-i.i
+    last_part c.args.ledger.now c.loop-i.ledger c.loop-i.invariant.grows c.args.known.now.table c.args.next.now c.args.section.now c.loop-i.zeros.items
+    c.loop-i.i
     (let h = c.loop-i-test.false in let e = c.len-i-end.ensures.value in omega (arith, h, e)) c.loop-i.invariant.part

@@ -1,9 +1,7 @@
-use Rattle.std.proofs.Common.{◌≡◌, ◌≤◌, ◌++◌, drop, length, List, All, [], map}
-use Rattle.std.specs.Prelude.{Ok}
-use Rattle.fpl_numbers.specs.declared.number.Num.{Num}
+use Rattle.std.proofs.Common.{◌≡◌, ◌≤◌, drop, length, All}
 use Rattle.fpl_forms.specs.Ledgers.{Grows}
 use Rattle.fpl_facts.specs.Facts.{IsZero}
-use Rattle.fpl_prove.specs.Known.{IsKnown, IsNext}
+use Rattle.fpl_table_facts.specs.Known.{IsKnown, IsNext}
 use Rattle.fpl_prove.proofs.Concluded.{IsPart}
 use Rattle.fpl_prove.proofs.steps.conclusions.Given as goal
 

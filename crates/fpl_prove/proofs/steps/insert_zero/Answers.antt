@@ -1,4 +1,4 @@
-use Rattle.std.proofs.Common.{◌≡◌, ◌∙◌, ℕ, List, length, subst, ap, map, All}
+use Rattle.std.proofs.Common.{◌∙◌, ℕ, List, length, subst, ap, map, All}
 use Rattle.fpl_numbers.specs.declared.number.Kind.{Kind}
 use Rattle.fpl_numbers.specs.Numbers.{IsElement}
 use Rattle.fpl_log.specs.Plain.{IsTermOf}
@@ -13,7 +13,8 @@ use Rattle.fpl_prove.proofs.steps.insert_zero.Goals as goal
 pub take_terms-requires-clause-terms : goal.take_terms-requires-clause-terms
 take_terms-requires-clause-terms c =
     subst (λ (k : Kind). All (IsTermOf k (length c.args.zeros.now)) c.args.terms.now)
-    (prime_after c.args.ledger.now c.args.known.now.table c.args.next.now c.requires.known.holds c.sound.ensures c.origin_zero.new.ledger c.in_ok-start.ensures.grows)
+    (prime_after c.args.ledger.now c.args.known.now.table c.args.next.now c.requires.known.holds c.sound.ensures c.origin_zero.new.ledger
+    c.in_ok-start.ensures.grows)
     c.requires.step.1
 
 pub times_scale-requires-clause-scale : goal.times_scale-requires-clause-scale
@@ -34,7 +35,8 @@ returns-clause-concluded c =
     let terms = c.args.terms.now in
     let scale = c.args.scale in
     inserted L c.args.known.now.table c.args.next.now c.requires.known.holds c.sound.ensures c.origin_zero.new.ledger c.times_scale.new.ledger g1
-    (grows_trans g1 (grows_trans g2 g3)) c.args.zeros.now c.args.origin terms scale start c.in_ok-scaled.scaled c.requires.step.0 c.requires.step.1 c.requires.step.2
+    (grows_trans g1 (grows_trans g2 g3)) c.args.zeros.now c.args.origin terms scale start c.in_ok-scaled.scaled c.requires.step.0 c.requires.step.1
+    c.requires.step.2
     c.in_ok-start.ensures.zero
     (subst (λ (es : List Expr). IsZero c.times_scale.new.ledger es c.in_ok-scaled.scaled) c.deref-2.ensures.value c.in_ok-scaled.ensures.zero)
     (c.in_ok-scaled.ensures.terms

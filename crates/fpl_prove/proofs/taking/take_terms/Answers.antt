@@ -1,12 +1,12 @@
-use Rattle.std.proofs.Common.{◌≡◌, ◌≤◌, ◌+◌, ◌∙◌, ℕ, suc, subst, sym, ap, arith, length, drop, map}
+use Rattle.std.proofs.Common.{◌≤◌, ◌+◌, ◌∙◌, ℕ, subst, sym, ap, arith, length, map}
 use Rattle.fpl_numbers.specs.declared.number.Kind.TheVariants.{Prime}
 use Rattle.fpl_log.specs.Plain.{IsTermOf}
 use Rattle.fpl_log.proofs.TermsTaken.{past_end, term_got}
 use Rattle.fpl_forms.specs.declared.term.Fact.{Fact}
 use Rattle.fpl_forms.specs.Combining.{terms_of}
-use Rattle.fpl_forms.proofs.Ledgers.{grows_refl, grows_trans}
-use Rattle.fpl_prove.specs.Taking.{taken, all_taken}
-use Rattle.fpl_prove.proofs.Grown.{grows_exprs}
+use Rattle.fpl_forms.proofs.Ledgers.{grows_trans}
+use Rattle.fpl_prove.specs.Taking.{taken}
+use Rattle.fpl_table_facts.proofs.Grown.{grows_exprs}
 use Rattle.fpl_prove.proofs.Reading.{grows_zeros, taken_step}
 use Rattle.fpl_prove.proofs.taking.take_terms.Goals.{in-None, in-Some+in_ok-left-in-Some}
 use Rattle.fpl_prove.proofs.taking.take_terms.Goals as goal
@@ -14,7 +14,8 @@ use Rattle.fpl_prove.proofs.taking.take_terms.Goals as goal
 pub take_term-requires-clause-term : goal.take_term-requires-clause-term
 take_term-requires-clause-term c =
     subst (λ (q : ℕ). IsTermOf (Prime q) (length c.args.zeros.now) c.in-Some.term) (sym c.loop-i.invariant.grows.prime)
-    (term_got (IsTermOf (Prime c.args.ledger.now.prime) (length c.args.zeros.now)) c.args.terms.now c.loop-i.i c.in-Some.term c.requires.terms c.in-Some.ensures)
+    (term_got (IsTermOf (Prime c.args.ledger.now.prime) (length c.args.zeros.now)) c.args.terms.now c.loop-i.i c.in-Some.term c.requires.terms
+    c.in-Some.ensures)
 
 pub loop-i-preserved : goal.loop-i-preserved
 loop-i-preserved c =

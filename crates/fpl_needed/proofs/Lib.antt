@@ -1,0 +1,5 @@
+pub mod Citing
+pub mod Marks
+pub mod Numbering
+pub mod Kept
+pub mod Steps

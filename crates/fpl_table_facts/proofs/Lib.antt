@@ -1,0 +1,14 @@
+pub mod Grown
+pub mod Levels
+pub mod Listed
+pub mod Reached
+pub mod Weights
+pub mod Generators
+pub mod Nexts
+pub mod RowLists
+pub mod TermTotals
+pub mod LeafRows
+pub mod LeafLists
+pub mod RowValues
+pub mod Due
+pub mod Rowed
